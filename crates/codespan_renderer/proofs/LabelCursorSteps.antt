@@ -51,29 +51,29 @@ or-assoc true b c = refl
 or-assoc false b c = refl
 
 -- the next label starts before this byte index, and is passed
-pub reached-more : (passes : LabelModel → Bool) (labels left rest : List LabelModel)
+pub reached-more : (test : LabelModel → Bool) (labels left rest : List LabelModel)
     (x : LabelModel) (byte_index end : ℕ)
     → left ≡ x ∷ rest → x.start < byte_index
-    → IsCoverEnd passes labels left byte_index end
-    → IsCoverEnd passes labels rest byte_index (end_with (passes x) end x)
-reached-more passes labels left rest x byte_index end step prefix r = record {
+    → IsCoverEnd test labels left byte_index end
+    → IsCoverEnd test labels rest byte_index (end_with (test x) end x)
+reached-more test labels left rest x byte_index end step prefix r = record {
   is = λ c h some. r.is c h some
-      ∙ ap (λ (xs : List LabelModel). nat_lt c.byte_index end || is_covered passes xs c) step
-      ∙ or-assoc (nat_lt c.byte_index end) (passes x && covers x c) (is_covered passes rest c)
-      ∙ ap (λ (b : Bool). b || is_covered passes rest c)
-      (sym (end-raised (passes x) end x c (omega arith) some));
+      ∙ ap (λ (xs : List LabelModel). nat_lt c.byte_index end || is_covered test xs c) step
+      ∙ or-assoc (nat_lt c.byte_index end) (test x && covers x c) (is_covered test rest c)
+      ∙ ap (λ (b : Bool). b || is_covered test rest c)
+      (sym (end-raised (test x) end x c (omega arith) some));
 }
 
 -- labels that start at the character's end or later do not cover it
-uncovered : (passes : LabelModel → Bool) (xs : List LabelModel) (byte_index : ℕ) (c : Metrics)
+uncovered : (test : LabelModel → Bool) (xs : List LabelModel) (byte_index : ℕ) (c : Metrics)
     → starts_from byte_index xs ≡ true → c.byte_index + c.bytes ≤ byte_index
-    → is_covered passes xs c ≡ false
-uncovered passes [] byte_index c ordered past = refl
-uncovered passes (x ∷ xs) byte_index c ordered past =
+    → is_covered test xs c ≡ false
+uncovered test [] byte_index c ordered past = refl
+uncovered test (x ∷ xs) byte_index c ordered past =
     let parts = and_parts (nat_le byte_index x.start) (starts_from x.start xs) ordered in
     let low : byte_index ≤ x.start = grind (arith, nat_tests) in
     let here : covers x c ≡ false = grind (arith, nat_tests) in
-    rw (here, uncovered passes xs x.start c parts.1 (omega arith)) (by_test (passes x))
+    rw (here, uncovered test xs x.start c parts.1 (omega arith)) (by_test (test x))
   where
     by_test : (b : Bool) → ((b && false) || false) ≡ false
     by_test true = refl
@@ -84,15 +84,15 @@ or-false true = refl
 or-false false = refl
 
 -- all labels that start before the character's end have been passed
-pub reached-here : (passes : LabelModel → Bool) (labels left : List LabelModel) (byte_index end : ℕ)
+pub reached-here : (test : LabelModel → Bool) (labels left : List LabelModel) (byte_index end : ℕ)
     (c : Metrics)
     → c.byte_index + c.bytes ≡ byte_index → 1 ≤ c.bytes
-    → starts_from byte_index left ≡ true → IsCoverEnd passes labels left byte_index end
-    → is_covered passes labels c ≡ nat_lt c.byte_index end
-reached-here passes labels left byte_index end c ends some ordered r =
+    → starts_from byte_index left ≡ true → IsCoverEnd test labels left byte_index end
+    → is_covered test labels c ≡ nat_lt c.byte_index end
+reached-here test labels left byte_index end c ends some ordered r =
     r.is c (omega arith) some
     ∙ ap (λ (b : Bool). nat_lt c.byte_index end || b)
-    (uncovered passes left byte_index c ordered (omega arith))
+    (uncovered test left byte_index c ordered (omega arith))
     ∙ or-false (nat_lt c.byte_index end)
 
 -- ---- labels in order

@@ -30,7 +30,7 @@ pub spaced-next : (context : RowContext) (edge column before : ℕ) (ps : List P
     → spaced context edge column (pointers_before before (drop i ps))
     ≡ (spaces ((get_or ps i d).column - column)
     ++ label_glyph context.severity (get_or ps i d).style context.chars.pointer_left)
-    ++ spaced context edge (get_or ps i d).after (pointers_before before (drop (i + 1) ps))
+    ++ spaced context edge (get_or ps i d).end_column (pointers_before before (drop (i + 1) ps))
 spaced-next context edge column before ps i d h near =
     let early : nat_lt (get_or ps i d).byte_index before ≡ true =
     lt-ltb (get_or ps i d).byte_index before near in

@@ -44,7 +44,7 @@ pub use Rattle.codespan_picture.specs.RichLaws
 -- a renderer, as its contracts see it
 pub use Rattle.codespan_renderer.specs.Renderers
 -- the calls that render a diagnostic
-pub use Rattle.codespan_views.specs.Failures
+pub use Rattle.codespan_views.specs.EmitErrors
 pub use Rattle.codespan_views.specs.Output
 pub use Rattle.codespan_views.specs.WriteCalls
 pub use Rattle.codespan_views.specs.Views

@@ -60,20 +60,20 @@ module _ {Id : Type 0} {same : Id → Id → Bool} {file : Id → FileModel} {id
       (λ e h _. subst (λ m. e.line < line_count m) (here.one_file x.file_id t) h)
       (annotations_of config (file x.file_id) (indices_after same file ids before x) x.label)
       (all-below config (file x.file_id) (indices_after same file ids before x) x.label))
-      (λ (t : same id x.file_id ≡ false). all-weaker (λ e. e.file ≡ index_of_file same ids x.file_id) (λ e. is_of_file f e ≡ true → e.line < line_count own_file)
+      (λ (t : same id x.file_id ≡ false). all-weaker (λ e. e.file_index ≡ index_of_file same ids x.file_id) (λ e. is_of_file f e ≡ true → e.line < line_count own_file)
       (λ e h k. absurd (other x t e h k))
       (annotations_of config (file x.file_id) (indices_after same file ids before x) x.label)
       (all-of_file config (file x.file_id) (indices_after same file ids before x) x.label))
       (cases_Bool (same id x.file_id)))
       (annotations-below xs (before ++ x ∷ []))
     where
-      other : (x : LabelInFile Id) → same id x.file_id ≡ false → (e : Annotation) → e.file ≡ index_of_file same ids x.file_id → is_of_file f e ≡ true → ⊥
+      other : (x : LabelInFile Id) → same id x.file_id ≡ false → (e : Annotation) → e.file_index ≡ index_of_file same ids x.file_id → is_of_file f e ≡ true → ⊥
       other x t e h k = let both = sym k ∙ ap (λ i. i == f) h ∙ here.index x.file_id ∙ t in cc
 
   module _ (l : ℕ) where
     -- where a label of the file is after these
     abbrev indices_at : List (LabelInFile Id) → LabelIndices
-    indices_at before = record { file = f; index = length before; lane = num_multi_labels_of same file before id }
+    indices_at before = record { file_index = f; index = length before; lane = num_multi_labels_of same file before id }
 
     -- the annotations of a label on the line
     abbrev line_annotations_of : List (LabelInFile Id) → LabelInFile Id → List Annotation
@@ -91,19 +91,19 @@ module _ {Id : Type 0} {same : Id → Id → Bool} {file : Id → FileModel} {id
         ⊎_elim
         (λ (t : same id x.file_id ≡ true).
         let at : index_of_file same ids x.file_id ≡ f = eqb-true (index_of_file same ids x.file_id) f (here.index x.file_id ∙ t) in
-        ap (filter (is_on_line l)) (filter-whole (is_of_file f) es (all-weaker (λ e. e.file ≡ index_of_file same ids x.file_id) (λ e. is_of_file f e ≡ true) (λ e h. eq-eqb e.file f (h ∙ at)) es of))
-        ∙ (λ i. filter (is_on_line l) (annotations_of config (here.one_file x.file_id t i) (record { file = at i; index = length before; lane = here.lanes before x.file_id t i }) x.label))
+        ap (filter (is_on_line l)) (filter-whole (is_of_file f) es (all-weaker (λ e. e.file_index ≡ index_of_file same ids x.file_id) (λ e. is_of_file f e ≡ true) (λ e h. eq-eqb e.file_index f (h ∙ at)) es of))
+        ∙ (λ i. filter (is_on_line l) (annotations_of config (here.one_file x.file_id t i) (record { file_index = at i; index = length before; lane = here.lanes before x.file_id t i }) x.label))
         ∙ annotations-on_line config own_file (indices_at before) x.label l
         ∙ sym (ap (λ b. cond (b && nat_lt l (line_count own_file)) (line_annotations config own_file (indices_at before) x.label l) []) t))
         (λ (t : same id x.file_id ≡ false).
-        ap (filter (is_on_line l)) (filter-nothing (is_of_file f) es (all-weaker (λ e. e.file ≡ index_of_file same ids x.file_id) (λ e. is_of_file f e ≡ false) (λ e h. ap (λ i. i == f) h ∙ here.index x.file_id ∙ t) es of))
+        ap (filter (is_on_line l)) (filter-nothing (is_of_file f) es (all-weaker (λ e. e.file_index ≡ index_of_file same ids x.file_id) (λ e. is_of_file f e ≡ false) (λ e h. ap (λ i. i == f) h ∙ here.index x.file_id ∙ t) es of))
         ∙ sym (ap (λ b. cond (b && nat_lt l (line_count own_file)) (line_annotations config own_file (indices_at before) x.label l) []) t))
         (cases_Bool (same id x.file_id))
       where
         es : List Annotation
         es = annotations_of config (file x.file_id) (indices_after same file ids before x) x.label
 
-        of : AllByRecursion (λ e. e.file ≡ index_of_file same ids x.file_id) es
+        of : AllByRecursion (λ e. e.file_index ≡ index_of_file same ids x.file_id) es
         of = all-of_file config (file x.file_id) (indices_after same file ids before x) x.label
 
     -- all annotations of the line of the file
@@ -134,7 +134,7 @@ module _ {Id : Type 0} {same : Id → Id → Bool} {file : Id → FileModel} {id
 
     -- the annotation of a label at this index
     abbrev single_label_at : ℕ → LabelModel → Annotation
-    single_label_at k x = record { file = f; line = l; kind = Single k (drawn_label own_file x) }
+    single_label_at k x = record { file_index = f; line = l; kind = Single k (drawn_label own_file x) }
 
     -- the annotations of the labels inside the line, where their indices begin here
     abbrev pub single_labels_from : ℕ → List (LabelInFile Id) → List Annotation

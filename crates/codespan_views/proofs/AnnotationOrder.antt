@@ -16,7 +16,7 @@ use Rattle.codespan_views.specs.Private.Annotations.{Annotation, Single, Multi, 
 -- the order of annotations is a strict weak order
 pub below_order : IsStrictWeakOrder is_before
 below_order = ranks_by
-    (then_total (on_total (λ (e : Annotation). e.file) nat_cmp_total)
+    (then_total (on_total (λ (e : Annotation). e.file_index) nat_cmp_total)
     (then_total (on_total (λ (e : Annotation). e.line) nat_cmp_total)
     (then_total (on_total (λ (e : Annotation). rank_of e.kind) nat_cmp_total)
     (then_total (on_total (λ (e : Annotation). first_of e.kind) nat_cmp_total)
@@ -48,23 +48,23 @@ then_same a b o e = ap (λ q. is_lt (ordering_then q o)) (cmp_same a b e)
 -- ---- annotations in order
 
 -- along annotations in order the files do not decrease
-pub file_rises : (x y : Annotation) → is_before y x ≡ false → x.file ≤ y.file
-file_rises x y h = not_less y.file x.file _ h
+pub file_rises : (x y : Annotation) → is_before y x ≡ false → x.file_index ≤ y.file_index
+file_rises x y h = not_less y.file_index x.file_index _ h
 
 -- nor do the lines of a file
-pub line_rises : (x y : Annotation) → x.file ≡ y.file → is_before y x ≡ false → x.line ≤ y.line
-line_rises x y e h = not_less y.line x.line _ (sym (then_same y.file x.file _ (sym e)) ∙ h)
+pub line_rises : (x y : Annotation) → x.file_index ≡ y.file_index → is_before y x ≡ false → x.line ≤ y.line
+line_rises x y e h = not_less y.line x.line _ (sym (then_same y.file_index x.file_index _ (sym e)) ∙ h)
 
 -- nor do the ranks of a line's annotations
-pub kind_rises : (x y : Annotation) → x.file ≡ y.file → x.line ≡ y.line → is_before y x ≡ false
+pub kind_rises : (x y : Annotation) → x.file_index ≡ y.file_index → x.line ≡ y.line → is_before y x ≡ false
     → rank_of x.kind ≤ rank_of y.kind
 kind_rises x y e f h =
     not_less (rank_of y.kind) (rank_of x.kind) _
-    (sym (then_same y.line x.line _ (sym f)) ∙ sym (then_same y.file x.file _ (sym e)) ∙ h)
+    (sym (then_same y.line x.line _ (sym f)) ∙ sym (then_same y.file_index x.file_index _ (sym e)) ∙ h)
 
 -- nor do the ranges of a line's single-line labels
 pub range_rises : (x y : Annotation) {p q : ℕ} {a b : LabelModel} → x.kind ≡ Single p a
-    → y.kind ≡ Single q b → x.file ≡ y.file → x.line ≡ y.line
+    → y.kind ≡ Single q b → x.file_index ≡ y.file_index → x.line ≡ y.line
     → is_before y x ≡ false → range_precedes b a ≡ false
 range_rises x y {a = a} {b = b} xs ys e f h =
     let k : rank_of y.kind ≡ rank_of x.kind = ap rank_of ys ∙ sym (ap rank_of xs) in
@@ -73,7 +73,7 @@ range_rises x y {a = a} {b = b} xs ys e f h =
     let u : second_of x.kind ≡ a.end = ap second_of xs in
     let v : second_of y.kind ≡ b.end = ap second_of ys in
     let rest = sym (then_same (rank_of y.kind) (rank_of x.kind) _ k)
-    ∙ sym (then_same y.line x.line _ (sym f)) ∙ sym (then_same y.file x.file _ (sym e)) ∙ h in
+    ∙ sym (then_same y.line x.line _ (sym f)) ∙ sym (then_same y.file_index x.file_index _ (sym e)) ∙ h in
     let low : first_of x.kind ≤ first_of y.kind =
     not_less (first_of y.kind) (first_of x.kind) _ rest in
     ⊎_elim
@@ -93,15 +93,15 @@ range_rises x y {a = a} {b = b} xs ys e f h =
 
 -- of labels with equal ranges the one at the greater index comes first
 pub index_below : (f l : ℕ) {p q : ℕ} (x y : LabelModel) → x.start ≡ y.start → x.end ≡ y.end → p < q
-    → is_before (record { file = f; line = l; kind = Single q y })
-    (record { file = f; line = l; kind = Single p x }) ≡ true
+    → is_before (record { file_index = f; line = l; kind = Single q y })
+    (record { file_index = f; line = l; kind = Single p x }) ≡ true
 index_below f l {p} {q} x y s e h =
     then_same f f _ refl ∙ then_same l l _ refl ∙ then_same y.start x.start _ (sym s)
     ∙ then_same y.end x.end _ (sym e) ∙ ap is_lt (cmp_less p q h)
 
 -- the annotation of a lane mark
 abbrev pub lane_mark_annotation : ℕ → ℕ → LaneMark → Annotation
-lane_mark_annotation f l m = record { file = f; line = l; kind = Multi m }
+lane_mark_annotation f l m = record { file_index = f; line = l; kind = Multi m }
 
 -- of two lane marks of one line the one in the lesser lane comes first
 pub lane_below : (f l : ℕ) (x y : LaneMark) → x.lane < y.lane
@@ -127,7 +127,7 @@ lane_rises m n h = rw (le-ltb m n h) (by_test (m == n))
 pub mark_rises : (f l n m : ℕ) (x y : Annotation) → IsLaneMarkOn f l n x → IsLaneMarkOn f l m y
     → n ≤ m → is_before y x ≡ false
 mark_rises f l n m x y a b h =
-    then_same y.file x.file _ (b.0 ∙ sym a.0) ∙ then_same y.line x.line _ (b.1 ∙ sym a.1)
+    then_same y.file_index x.file_index _ (b.0 ∙ sym a.0) ∙ then_same y.line x.line _ (b.1 ∙ sym a.1)
     ∙ then_same (rank_of y.kind) (rank_of x.kind) _ (b.2 ∙ sym a.2)
     ∙ (λ i. is_lt
     (ordering_then (nat_cmp (b.3 i) (a.3 i))

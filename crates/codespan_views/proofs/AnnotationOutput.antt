@@ -82,9 +82,9 @@ module _ {Id : Type 0} {database : FileDatabase Id} (lawful : AreFiles database)
   }
 
   -- its annotations are of the file
-  own-file : AllByRecursion (λ e. e.file ≡ f) own
+  own-file : AllByRecursion (λ e. e.file_index ≡ f) own
   own-file =
-      all-weaker (λ e. is_of_file f e ≡ true) (λ e. e.file ≡ f) (λ e t. eqb-true e.file f t) own
+      all-weaker (λ e. is_of_file f e ≡ true) (λ e. e.file_index ≡ f) (λ e t. eqb-true e.file_index f t) own
       (all-pass (is_of_file f) annotations)
 
   -- they are in order
@@ -106,8 +106,8 @@ module _ {Id : Type 0} {database : FileDatabase Id} (lawful : AreFiles database)
   -- the annotations of a line are of it
   own_on_line-all : (l : ℕ) → AllByRecursion (IsOn f l) (own_on_line l)
   own_on_line-all l =
-      all-both (λ e. e.file ≡ f) (λ e. e.line ≡ l) (own_on_line l)
-      (all-filter (λ e. e.file ≡ f) (is_on_line l) own own-file) (all-on_line l own)
+      all-both (λ e. e.file_index ≡ f) (λ e. e.line ≡ l) (own_on_line l)
+      (all-filter (λ e. e.file_index ≡ f) (is_on_line l) own own-file) (all-on_line l own)
 
   -- they are in order
   own_on_line-rises : (l : ℕ) → Rises is_before (own_on_line l)

@@ -8,7 +8,7 @@ use Rattle.codespan_views.specs.declared.annotation.Annotation.{Annotation as Ru
 use Rattle.codespan_views.specs.declared.collected.Collected.{Collected}
 use Rattle.codespan_views.specs.Private.Annotations.{is_before}
 use Rattle.codespan_views.specs.Private.AnnotationViews.{IsOfFiles, annotation_view}
-use Rattle.codespan_views.specs.Private.Collections.{IsCollected, IsCollectedInTurn}
+use Rattle.codespan_views.specs.Private.Collections.{IsCollected, IsCollectedUnsorted}
 use Rattle.codespan_views.specs.Private.LabeledFiles.{ids_view}
 use Rattle.codespan_views.specs.Private.IndexedLabels.{all_annotations}
 use Rattle.codespan_views.proofs.Collecting.{collected-each, collected-kind, collected-sorted}
@@ -16,7 +16,7 @@ use Rattle.codespan_views.proofs.Collecting.{collected-each, collected-kind, col
 -- what was collected, put in order
 pub collected-in_order : {Id : Type 0} {database : FileDatabase Id} {config : Config}
     {xs : List (LabelInFile Id)} {was : Collected Id} (annotations : Vec (RustAnnotation Id) Global)
-    → IsCollectedInTurn database config xs was
+    → IsCollectedUnsorted database config xs was
     → IsPermutation was.annotations.items annotations.items
     → IsSortedBy is_before (map annotation_view annotations.items)
     → IsCollected database config xs (record was { annotations = annotations })

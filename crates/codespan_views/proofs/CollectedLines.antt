@@ -8,13 +8,13 @@ use Rattle.codespan_picture.specs.Lookups.{is_around, is_looked_up, line_lookups
 use Rattle.codespan_picture.specs.Padding.{spans}
 use Rattle.codespan_picture.specs.Types.{Config}
 use Rattle.codespan_views.specs.declared.annotation.Annotation.{Annotation as RustAnnotation}
-use Rattle.codespan_views.specs.Private.LabelAnnotations.{line_annotations, annotations_on}
-use Rattle.codespan_views.specs.Private.AnnotationViews.{AddsOf}
-use Rattle.codespan_views.specs.Private.CollectedLabels.{AddsLine, CollectedLabel, failure_on}
+use Rattle.codespan_views.specs.Private.LabelAnnotations.{line_annotations, annotations_if_looked_up}
+use Rattle.codespan_views.specs.Private.AnnotationViews.{AppendsAnnotationsOf}
+use Rattle.codespan_views.specs.Private.LabelsToCollect.{AppendsLineAnnotations, LabelToCollect, failure_if_looked_up}
 use Rattle.codespan_views.specs.Private.FileLookups.{failure_in}
 use Rattle.codespan_views.specs.Private.LabelSpans.{IsFarInside, spans_line}
-use Rattle.codespan_views.specs.Private.SpannedDigits.{digits_on}
-use Rattle.codespan_views.proofs.Collecting.{Adds-as}
+use Rattle.codespan_views.specs.Private.SpannedDigitCounts.{digit_count_if_spanned}
+use Rattle.codespan_views.proofs.Collecting.{AppendsAnnotations-as}
 
 -- a line far from both ends is between them
 pub far-spans : (config : Config) (s e l : ℕ) → IsFarInside config s e l → spans_line s e l ≡ true
@@ -22,7 +22,7 @@ far-spans config s e l far =
     or_right ((l == s) || (l == e)) (nat_le s l && nat_le l e)
     (and_from _ _ (le-leb s l (omega arith)) (le-leb l e (omega arith)))
 
-module _ {Id : Type 0} (x : CollectedLabel Id) (s e l : ℕ) (first : first_line x.file x.label ≡ s)
+module _ {Id : Type 0} (x : LabelToCollect Id) (s e l : ℕ) (first : first_line x.file x.label ≡ s)
     (last : last_line x.file x.label ≡ e) where
   -- whether the label spans the line
   spans-by_ends : spans x.file x.label l ≡ spans_line s e l
@@ -46,27 +46,27 @@ module _ {Id : Type 0} (x : CollectedLabel Id) (s e l : ℕ) (first : first_line
   -- a spanned line counts for the padding
   pub padding-spanned : (digits old : ℕ) → spans_line s e l ≡ true
       → digits ≡ max (length (decimal (x.file.line_number l))) old
-      → digits ≡ fold max old (digits_on x.file x.label l)
+      → digits ≡ fold max old (digit_count_if_spanned x.file x.label l)
   padding-spanned digits old spanned grown = rw (spans-by_ends ∙ spanned) (omega (arith, grown))
 
   -- another line does not
   pub padding-unspanned : (digits old : ℕ) → spans_line s e l ≡ false → digits ≡ old
-      → digits ≡ fold max old (digits_on x.file x.label l)
+      → digits ≡ fold max old (digit_count_if_spanned x.file x.label l)
   padding-unspanned digits old unspanned same = rw (spans-by_ends ∙ unspanned) same
 
-module _ {Id : Type 0} (x : CollectedLabel Id) (l : ℕ)
+module _ {Id : Type 0} (x : LabelToCollect Id) (l : ℕ)
     (looked_up : is_looked_up x.config x.file x.label l ≡ true) where
   -- the annotations of a line that is looked up
-  pub added-looked_up : {old new : List (RustAnnotation Id)} → AddsLine x old new l
-      → AddsOf x.file old new (annotations_on x.config x.file x.label x.indices l)
+  pub added-looked_up : {old new : List (RustAnnotation Id)} → AppendsLineAnnotations x old new l
+      → AppendsAnnotationsOf x.file old new (annotations_if_looked_up x.config x.file x.label x.indices l)
   added-looked_up =
-      Adds-as
+      AppendsAnnotations-as
       (ap (λ (b : Bool). if b then line_annotations x.config x.file x.indices x.label l else [])
       looked_up)
 
   -- its lookups
   pub succeeded-looked_up : failure_in x.failure x.file_id (line_lookups l) ≡ None
-      → failure_on x l ≡ None
+      → failure_if_looked_up x l ≡ None
   succeeded-looked_up succeeded =
       ap (λ (b : Bool). failure_in x.failure x.file_id (if b then line_lookups l else [])) looked_up
       ∙ succeeded

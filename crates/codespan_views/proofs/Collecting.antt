@@ -12,10 +12,10 @@ use Rattle.codespan_core.specs.FileModel.{line_start}
 use Rattle.codespan_core.specs.Labels.{LabelModel, drawn_label, first_line, from_line_start, last_line}
 use Rattle.codespan_views.specs.declared.annotation.Annotation.{Annotation as RustAnnotation}
 use Rattle.codespan_views.specs.declared.annotation.LineInfo.{LineInfo}
-use Rattle.codespan_views.specs.Private.CollectedLabels.{CollectedLabel}
+use Rattle.codespan_views.specs.Private.LabelsToCollect.{LabelToCollect}
 use Rattle.codespan_views.specs.Private.Annotations.{Annotation, AnnotationKind, Single, annotation_if_any}
-use Rattle.codespan_views.specs.Private.LabelAnnotations.{line_annotations, kind_on, lane_mark_at, kind_at}
-use Rattle.codespan_views.specs.Private.AnnotationViews.{Adds, IsLineOf, annotation_view, kind_view}
+use Rattle.codespan_views.specs.Private.LabelAnnotations.{line_annotations, kind_on, lane_mark_by_ends, kind_by_ends}
+use Rattle.codespan_views.specs.Private.AnnotationViews.{AppendsAnnotations, IsLineOf, annotation_view, kind_view}
 use Rattle.codespan_views.specs.Private.LabelSpans.{IsFarInside}
 use Rattle.codespan_views.specs.declared.annotation.AnnotationKind.TheVariants as rust
 use Rattle.codespan_views.specs.declared.annotation.MultiLabelKind.TheVariants as label_kind
@@ -27,13 +27,13 @@ use Rattle.codespan_picture.proofs.ListElements.{all-append, all-weaker}
 
 module _ {Id : Type 0} {P : RustAnnotation Id → Type 0} where
   -- nothing was added
-  pub Adds-none : {xs : List (RustAnnotation Id)} → Adds P xs xs []
-  Adds-none {xs} = record { more = []; whole = sym (append-nil xs); are = refl; each = tt }
+  pub AppendsAnnotations-none : {xs : List (RustAnnotation Id)} → AppendsAnnotations P xs xs []
+  AppendsAnnotations-none {xs} = record { more = []; whole = sym (append-nil xs); are = refl; each = tt }
 
   -- some annotations were added, and then others
-  pub Adds-both : {xs ys zs : List (RustAnnotation Id)} {es fs : List Annotation} → Adds P xs ys es
-      → Adds P ys zs fs → Adds P xs zs (es ++ fs)
-  Adds-both {xs} {es = es} a b = record {
+  pub AppendsAnnotations-both : {xs ys zs : List (RustAnnotation Id)} {es fs : List Annotation} → AppendsAnnotations P xs ys es
+      → AppendsAnnotations P ys zs fs → AppendsAnnotations P xs zs (es ++ fs)
+  AppendsAnnotations-both {xs} {es = es} a b = record {
     more = a.more ++ b.more;
     whole =
         b.whole ∙ ap (λ (l : List (RustAnnotation Id)). l ++ b.more) a.whole
@@ -46,15 +46,15 @@ module _ {Id : Type 0} {P : RustAnnotation Id → Type 0} where
   }
 
   -- the same annotations in other words
-  pub Adds-as : {xs ys : List (RustAnnotation Id)} {es fs : List Annotation} → fs ≡ es
-      → Adds P xs ys es → Adds P xs ys fs
-  Adds-as same a = record { more = a.more; whole = a.whole; are = a.are ∙ sym same; each = a.each }
+  pub AppendsAnnotations-as : {xs ys : List (RustAnnotation Id)} {es fs : List Annotation} → fs ≡ es
+      → AppendsAnnotations P xs ys es → AppendsAnnotations P xs ys fs
+  AppendsAnnotations-as same a = record { more = a.more; whole = a.whole; are = a.are ∙ sym same; each = a.each }
 
 -- what holds of what was added is weaker
-pub Adds-weaker : {Id : Type 0} {P Q : RustAnnotation Id → Type 0}
+pub AppendsAnnotations-weaker : {Id : Type 0} {P Q : RustAnnotation Id → Type 0}
     {xs ys : List (RustAnnotation Id)} {es : List Annotation}
-    → ((e : RustAnnotation Id) → P e → Q e) → Adds P xs ys es → Adds Q xs ys es
-Adds-weaker {P = P} {Q = Q} weaker a =
+    → ((e : RustAnnotation Id) → P e → Q e) → AppendsAnnotations P xs ys es → AppendsAnnotations Q xs ys es
+AppendsAnnotations-weaker {P = P} {Q = Q} weaker a =
     record {
       more =
           a.more;
@@ -66,7 +66,7 @@ Adds-weaker {P = P} {Q = Q} weaker a =
 -- what was collected, seen as annotations
 pub collected-kind : {Id : Type 0} (P : RustAnnotation Id → Type 0)
     (collected : List (RustAnnotation Id)) (es : List Annotation)
-    → Adds P [] collected es → map annotation_view collected ≡ es
+    → AppendsAnnotations P [] collected es → map annotation_view collected ≡ es
 collected-kind P collected es adds = ap (map annotation_view) adds.whole ∙ adds.are
 
 -- sorted annotations are those that were collected
@@ -80,13 +80,13 @@ collected-sorted all collected annotations is perm =
 -- what holds of what was collected holds of the same annotations in another order
 pub collected-each : {Id : Type 0} (P : RustAnnotation Id → Type 0)
     (collected annotations : List (RustAnnotation Id)) (es : List Annotation)
-    → Adds P [] collected es → IsPermutation collected annotations → AllByRecursion P annotations
+    → AppendsAnnotations P [] collected es → IsPermutation collected annotations → AllByRecursion P annotations
 collected-each P collected annotations es adds perm =
     recursion_from_All P annotations
     (All-permutation P collected annotations perm
     (All-from_recursion P collected (subst (AllByRecursion P) (sym adds.whole) adds.each)))
 
-module _ {Id : Type 0} (x : CollectedLabel Id) where
+module _ {Id : Type 0} (x : LabelToCollect Id) where
   -- the drawn range of a label is its range from the start of its line
   by_kind : (b c : Bool) (rendered here : LabelModel) (shown : Option AnnotationKind)
       → (c ≡ true → rendered ≡ here)
@@ -100,7 +100,7 @@ module _ {Id : Type 0} (x : CollectedLabel Id) where
   -- the annotations of a label on a line of its file, by the indices of its lines
   kind_on-is : (line : LineInfo) → IsLineOf x.file line
       → kind_on x.config x.file x.indices x.label line.index
-      ≡ kind_at x.config x.indices (first_line x.file x.label) (last_line x.file x.label) line.index
+      ≡ kind_by_ends x.config x.indices (first_line x.file x.label) (last_line x.file x.label) line.index
       line.start x.label
   kind_on-is line is =
       by_kind (first_line x.file x.label == last_line x.file x.label)
@@ -109,7 +109,7 @@ module _ {Id : Type 0} (x : CollectedLabel Id) where
       (λ t. ap (λ k. from_line_start (line_start x.file k) x.label)
       (eqb-true (first_line x.file x.label) line.index t))
       ∙ ap
-      (λ start. kind_at x.config x.indices (first_line x.file x.label) (last_line x.file x.label)
+      (λ start. kind_by_ends x.config x.indices (first_line x.file x.label) (last_line x.file x.label)
       line.index start x.label)
       (sym is.range_is.start_is)
 
@@ -117,31 +117,31 @@ module _ {Id : Type 0} (x : CollectedLabel Id) where
   pub annotation_if_any-line : {line : LineInfo} {first last : ℕ}
       {kind lane_mark : Option AnnotationKind}
       → first_line x.file x.label ≡ first → last_line x.file x.label ≡ last → IsLineOf x.file line
-      → kind ≡ kind_at x.config x.indices first last line.index line.start x.label
-      → lane_mark ≡ lane_mark_at x.indices first last line.index line.start x.label
+      → kind ≡ kind_by_ends x.config x.indices first last line.index line.start x.label
+      → lane_mark ≡ lane_mark_by_ends x.indices first last line.index line.start x.label
       → line_annotations x.config x.file x.indices x.label line.index ≡ annotation_if_any
       x.indices.file line.index kind ++ annotation_if_any x.indices.file line.index lane_mark
   annotation_if_any-line {line} is_first is_last is kind_is multi_is =
       let l = line.index in
       let f = x.indices.file in
       let by_kind = kind_on-is line is
-      ∙ (λ i. kind_at x.config x.indices (is_first i) (is_last i) l line.start x.label)
+      ∙ (λ i. kind_by_ends x.config x.indices (is_first i) (is_last i) l line.start x.label)
       ∙ sym kind_is in
       let by_lane_mark =
-      (λ i. lane_mark_at x.indices (is_first i) (is_last i) l (sym is.range_is.start_is i)
+      (λ i. lane_mark_by_ends x.indices (is_first i) (is_last i) l (sym is.range_is.start_is i)
       x.label)
       ∙ sym multi_is in
       λ i. annotation_if_any f l (by_kind i) ++ annotation_if_any f l (by_lane_mark i)
 
 -- a label does not make a line shown that is far from its ends
 pub far-kind : (config : Config) (indices : LabelIndices) (s e l start : ℕ) (x : LabelModel)
-    → IsFarInside config s e l → None ≡ kind_at config indices s e l start x
+    → IsFarInside config s e l → None ≡ kind_by_ends config indices s e l start x
 far-kind config indices s e l start x far = grind (arith, nat_tests)
 
 -- its lane mark on such a line
 pub far-multi_label : {Id : Type 0} (config : Config) (indices : LabelIndices) (s e l start : ℕ)
     (label : Bor (Label Id))
     → IsFarInside config s e l
-    → Some (kind_view start (rust.Multi label_kind.Left indices.lane label)) ≡ lane_mark_at indices
+    → Some (kind_view start (rust.Multi label_kind.Left indices.lane label)) ≡ lane_mark_by_ends indices
     s e l start (label_of label.now).label
 far-multi_label config indices s e l start label far = grind (arith, nat_tests)

@@ -12,49 +12,49 @@ use Rattle.codespan_core.specs.LawfulFiles.{IsLawful, FailsPastLastLine, IsPastL
 use Rattle.codespan_core.specs.FileModel.Lookup.{LineRange, LineNumber}
 use Rattle.codespan_core.specs.Labels.{first_line, last_line}
 use Rattle.codespan_core.specs.Lemmas.Lines.{lines_have_indices, lines_within_text}
-use Rattle.codespan_views.specs.Private.CollectedLabels.{CollectedLabel, IsLookedUp, FindsLine, FindsLines, HasLineLookedUp, ExtendsPadding, ExtendsPaddingForLine, lines_failure, failure_on}
-use Rattle.codespan_views.specs.Private.SourceFiles.{line_failure}
+use Rattle.codespan_views.specs.Private.LabelsToCollect.{LabelToCollect, IsLookedUp, FindsLineAnnotations, FindsLabelAnnotations, HasLineIfLookedUp, WidensPadding, WidensPaddingForLine, lines_failure, failure_if_looked_up}
+use Rattle.codespan_views.specs.Private.SourceFiles.{line_failure_unless_past_end}
 use Rattle.codespan_views.specs.Private.Annotations.{Annotation}
-use Rattle.codespan_views.specs.Private.LabelAnnotations.{annotations_of, line_annotations, annotations_on, lookups_on}
+use Rattle.codespan_views.specs.Private.LabelAnnotations.{annotations_of, line_annotations, annotations_if_looked_up, lookups_if_looked_up}
 use Rattle.codespan_views.specs.declared.label_annotations.FoundAnnotations.{FoundAnnotations}
 use Rattle.codespan_views.specs.Private.FileLookups.{failure_in}
-use Rattle.codespan_views.specs.Private.AnnotationViews.{AddsOf}
-use Rattle.codespan_views.specs.Private.SpannedDigits.{digits_on, label_digits}
+use Rattle.codespan_views.specs.Private.AnnotationViews.{AppendsAnnotationsOf}
+use Rattle.codespan_views.specs.Private.SpannedDigitCounts.{digit_count_if_spanned, label_digit_counts}
 use Rattle.codespan_picture.specs.Lookups.{looked_up_lines, lookups_of_file, ends_context_lines, first_error, is_around, is_looked_up, line_lookups, lookup_past_end}
 use Rattle.codespan_picture.specs.Padding.{count_digits, spans}
 use Rattle.codespan_picture.proofs.Greatest.{greatest-append}
-use Rattle.codespan_views.proofs.Collecting.{Adds-as, Adds-both, Adds-none}
+use Rattle.codespan_views.proofs.Collecting.{AppendsAnnotations-as, AppendsAnnotations-both, AppendsAnnotations-none}
 use Rattle.codespan_views.proofs.FirstErrors.{first_error-none, first_error-some}
 use Rattle.codespan_views.proofs.NearLines.{flat_map_filtered, after_both, above_both, below_both, near_after}
 use Rattle.codespan_views.proofs.RangeMaps.{flat_map_none, flat_map_more, flat_map_same, flat_map_split}
 
-module _ {Id : Type 0} (x : CollectedLabel Id) where
+module _ {Id : Type 0} (x : LabelToCollect Id) where
   -- what some lookups of the file fail with
   abbrev failed : List Lookup → Option Error
   failed = failure_in x.failure x.file_id
 
   -- the annotations of the lines below this one
   abbrev annotations_below : ℕ → List Annotation
-  annotations_below n = flat_map (annotations_on x.config x.file x.label x.indices) (range_with_len 0 n)
+  annotations_below n = flat_map (annotations_if_looked_up x.config x.file x.label x.indices) (range_with_len 0 n)
 
   -- their lookups
   abbrev lookups_below : ℕ → List Lookup
-  lookups_below n = flat_map (lookups_on x.config x.file x.label) (range_with_len 0 n)
+  lookups_below n = flat_map (lookups_if_looked_up x.config x.file x.label) (range_with_len 0 n)
 
   -- the digits of those that it spans
   abbrev digits_below : ℕ → List ℕ
-  digits_below n = flat_map (digits_on x.file x.label) (range_with_len 0 n)
+  digits_below n = flat_map (digit_count_if_spanned x.file x.label) (range_with_len 0 n)
 
   -- there is no annotation of a line that is not looked up
-  no_annotations : (l : ℕ) → is_looked_up x.config x.file x.label l ≡ false → annotations_on x.config x.file x.label x.indices l ≡ []
+  no_annotations : (l : ℕ) → is_looked_up x.config x.file x.label l ≡ false → annotations_if_looked_up x.config x.file x.label x.indices l ≡ []
   no_annotations l skipped = ap (λ (b : Bool). if b then line_annotations x.config x.file x.indices x.label l else []) skipped
 
   -- nor are there lookups of it
-  no_lookups : (l : ℕ) → is_looked_up x.config x.file x.label l ≡ false → lookups_on x.config x.file x.label l ≡ []
+  no_lookups : (l : ℕ) → is_looked_up x.config x.file x.label l ≡ false → lookups_if_looked_up x.config x.file x.label l ≡ []
   no_lookups l skipped = ap (λ (b : Bool). if b then line_lookups l else []) skipped
 
   -- a line that is looked up has its lookups
-  some_lookups : (l : ℕ) → is_looked_up x.config x.file x.label l ≡ true → lookups_on x.config x.file x.label l ≡ line_lookups l
+  some_lookups : (l : ℕ) → is_looked_up x.config x.file x.label l ≡ true → lookups_if_looked_up x.config x.file x.label l ≡ line_lookups l
   some_lookups l looked_up = ap (λ (b : Bool). if b then line_lookups l else []) looked_up
 
   -- lookups that succeed, and others after them
@@ -66,7 +66,7 @@ module _ {Id : Type 0} (x : CollectedLabel Id) where
   failed_then ls ms e some = ap (first_error x.failure) (map-append (λ l. (x.file_id, l)) ls ms) ∙ first_error-some x.failure (lookups_of_file x.file_id ls) (lookups_of_file x.file_id ms) e some
 
   -- a line that is not looked up is not spanned
-  no_digits : (l : ℕ) → is_looked_up x.config x.file x.label l ≡ false → digits_on x.file x.label l ≡ []
+  no_digits : (l : ℕ) → is_looked_up x.config x.file x.label l ≡ false → digit_count_if_spanned x.file x.label l ≡ []
   no_digits l skipped = ap (λ (b : Bool). if b then count_digits (x.file.line_number l) ∷ [] else [])
       (neither (spans x.file x.label l)
       (is_around x.config (first_line x.file x.label) (last_line x.file x.label) l) skipped)
@@ -84,26 +84,26 @@ module _ {Id : Type 0} (x : CollectedLabel Id) where
   -- padding fits those that the label spans, and no lookup failed
   pub record CollectsLines (old new : FoundAnnotations Id) (n : ℕ) : Type 0 where
     pub within : n ≤ line_count x.file
-    pub added : AddsOf x.file old.annotations.items new.annotations.items (annotations_below n)
-    pub counted : new.spanned_padding.digits ≡ fold max old.spanned_padding.digits (digits_below n)
+    pub added : AppendsAnnotationsOf x.file old.annotations.items new.annotations.items (annotations_below n)
+    pub counted : new.spanned_padding.digit_count ≡ fold max old.spanned_padding.digit_count (digits_below n)
     pub succeeded : failed (lookups_below n) ≡ None
 
   -- all lines are done with
   pub record CollectsLabel (old new : FoundAnnotations Id) : Type 0 where
-    pub added : FindsLines x old new
-    pub counted : ExtendsPadding x old new
+    pub added : FindsLabelAnnotations x old new
+    pub counted : WidensPadding x old new
     pub succeeded : lines_failure x ≡ None
 
-module _ {Id : Type 0} {x : CollectedLabel Id} where
+module _ {Id : Type 0} {x : LabelToCollect Id} where
   -- no line below the first context line is looked up
   pub collected-start : {xs : FoundAnnotations Id} {n : ℕ} → HasEnds x
       → n ≤ last_line x.file x.label → n ≤ first_line x.file x.label - x.config.before_label_lines
       → CollectsLines x xs xs n
   collected-start {xs} {n} there low far = record {
     within = omega (arith, there.last);
-    added = Adds-as (flat_map_none (annotations_on x.config x.file x.label x.indices) 0 n (λ l _ high. no_annotations x l (too_far l (omega arith)))) Adds-none;
-    counted = sym (ap (fold max xs.spanned_padding.digits) (flat_map_none (digits_on x.file x.label) 0 n (λ l _ high. no_digits x l (too_far l (omega arith)))));
-    succeeded = ap (failed x) (flat_map_none (lookups_on x.config x.file x.label) 0 n (λ l _ high. no_lookups x l (too_far l (omega arith))));
+    added = AppendsAnnotations-as (flat_map_none (annotations_if_looked_up x.config x.file x.label x.indices) 0 n (λ l _ high. no_annotations x l (too_far l (omega arith)))) AppendsAnnotations-none;
+    counted = sym (ap (fold max xs.spanned_padding.digit_count) (flat_map_none (digit_count_if_spanned x.file x.label) 0 n (λ l _ high. no_digits x l (too_far l (omega arith)))));
+    succeeded = ap (failed x) (flat_map_none (lookups_if_looked_up x.config x.file x.label) 0 n (λ l _ high. no_lookups x l (too_far l (omega arith))));
   }
     where
       too_far : (l : ℕ) → l < n → is_looked_up x.config x.file x.label l ≡ false
@@ -113,15 +113,15 @@ module _ {Id : Type 0} {x : CollectedLabel Id} where
     -- one more line
     pub collected-line : {zs : FoundAnnotations Id} → HasEnds x
         → n ≤ max (last_line x.file x.label + x.config.after_label_lines) (first_line x.file x.label)
-        → HasLineLookedUp x n → FindsLine x ys zs n → ExtendsPaddingForLine x ys zs n → failure_on x n ≡ None
+        → HasLineIfLookedUp x n → FindsLineAnnotations x ys zs n → WidensPaddingForLine x ys zs n → failure_if_looked_up x n ≡ None
         → CollectsLines x xs zs (n + 1)
     collected-line there near inside adds counts none = record {
       within = ⊎_elim (λ looked_up. let k = inside looked_up in omega arith) (λ skipped. further skipped) (cases_Bool (is_looked_up x.config x.file x.label n));
-      added = Adds-as (flat_map_more (annotations_on x.config x.file x.label x.indices) n) (Adds-both g.added adds);
-      counted = counts ∙ ap (λ k. fold max k (digits_on x.file x.label n)) g.counted
-          ∙ sym (greatest-append xs.spanned_padding.digits (digits_below x n) (digits_on x.file x.label n))
-          ∙ sym (ap (fold max xs.spanned_padding.digits) (flat_map_more (digits_on x.file x.label) n));
-      succeeded = ap (failed x) (flat_map_more (lookups_on x.config x.file x.label) n) ∙ succeeded_then x (lookups_below x n) (lookups_on x.config x.file x.label n) g.succeeded ∙ none;
+      added = AppendsAnnotations-as (flat_map_more (annotations_if_looked_up x.config x.file x.label x.indices) n) (AppendsAnnotations-both g.added adds);
+      counted = counts ∙ ap (λ k. fold max k (digit_count_if_spanned x.file x.label n)) g.counted
+          ∙ sym (greatest-append xs.spanned_padding.digit_count (digits_below x n) (digit_count_if_spanned x.file x.label n))
+          ∙ sym (ap (fold max xs.spanned_padding.digit_count) (flat_map_more (digit_count_if_spanned x.file x.label) n));
+      succeeded = ap (failed x) (flat_map_more (lookups_if_looked_up x.config x.file x.label) n) ∙ succeeded_then x (lookups_below x n) (lookups_if_looked_up x.config x.file x.label n) g.succeeded ∙ none;
     }
       where
         at_end : is_looked_up x.config x.file x.label n ≡ false → line_count x.file ≤ n → ⊥
@@ -138,23 +138,23 @@ module _ {Id : Type 0} {x : CollectedLabel Id} where
     all_collected : ((l : ℕ) → n ≤ l → l < line_count x.file → is_looked_up x.config x.file x.label l ≡ false)
         → (annotations_of x.config x.file x.indices x.label ≡ annotations_below x n)
         × (flat_map line_lookups (looked_up_lines x.config x.file x.label) ≡ lookups_below x n)
-        × (label_digits x.file x.label ≡ digits_below x n)
+        × (label_digit_counts x.file x.label ≡ digits_below x n)
     all_collected skipped = (
       flat_map_filtered (line_annotations x.config x.file x.indices x.label) (is_looked_up x.config x.file x.label) (range_with_len 0 (line_count x.file))
-          ∙ flat_map_same (annotations_on x.config x.file x.label x.indices) n (line_count x.file) g.within (λ l low high. no_annotations x l (skipped l low high)),
+          ∙ flat_map_same (annotations_if_looked_up x.config x.file x.label x.indices) n (line_count x.file) g.within (λ l low high. no_annotations x l (skipped l low high)),
       flat_map_filtered line_lookups (is_looked_up x.config x.file x.label) (range_with_len 0 (line_count x.file))
-          ∙ flat_map_same (lookups_on x.config x.file x.label) n (line_count x.file) g.within (λ l low high. no_lookups x l (skipped l low high)),
-      flat_map_same (digits_on x.file x.label) n (line_count x.file) g.within (λ l low high. no_digits x l (skipped l low high)),
+          ∙ flat_map_same (lookups_if_looked_up x.config x.file x.label) n (line_count x.file) g.within (λ l low high. no_lookups x l (skipped l low high)),
+      flat_map_same (digit_count_if_spanned x.file x.label) n (line_count x.file) g.within (λ l low high. no_digits x l (skipped l low high)),
     )
 
     -- the lines that are done with are all
     collected-up : annotations_of x.config x.file x.indices x.label ≡ annotations_below x n
         → flat_map line_lookups (looked_up_lines x.config x.file x.label) ≡ lookups_below x n
-        → label_digits x.file x.label ≡ digits_below x n
+        → label_digit_counts x.file x.label ≡ digits_below x n
         → lookup_past_end x.config x.file (x.failure x.file_id) x.label ≡ [] → CollectsLabel x xs ys
     collected-up annotations_are looked_up digits no_lookup_past_end = record {
-      added = Adds-as annotations_are g.added;
-      counted = g.counted ∙ sym (ap (fold max xs.spanned_padding.digits) digits);
+      added = AppendsAnnotations-as annotations_are g.added;
+      counted = g.counted ∙ sym (ap (fold max xs.spanned_padding.digit_count) digits);
       succeeded = ap (failed x) (ap (λ (ls : List Lookup). flat_map line_lookups (looked_up_lines x.config x.file x.label) ++ ls) no_lookup_past_end ∙ append-nil _ ∙ looked_up) ∙ g.succeeded;
     }
 
@@ -222,7 +222,7 @@ module _ {Id : Type 0} {x : CollectedLabel Id} where
 
     -- a line whose lookups fail
     pub collected-failed : {e : Error} → HasEnds x → IsLookedUp x n
-        → line_failure x.file (x.failure x.file_id) (last_line x.file x.label) n ≡ Some e → lines_failure x ≡ Some e
+        → line_failure_unless_past_end x.file (x.failure x.file_id) (last_line x.file x.label) n ≡ Some e → lines_failure x ≡ Some e
     collected-failed {e} there looked_up known =
         ⊎_elim (λ (h : n < line_count x.file). before_end h) (λ (h : line_count x.file ≤ n). at_end (omega (arith, g.within))) (cases_lt n (line_count x.file))
       where
@@ -244,14 +244,14 @@ module _ {Id : Type 0} {x : CollectedLabel Id} where
         before_end : n < line_count x.file → lines_failure x ≡ Some e
         before_end h =
             let upto : failed x (lookups_below x (n + 1)) ≡ Some e =
-            ap (failed x) (flat_map_more (lookups_on x.config x.file x.label) n) ∙ succeeded_then x (lookups_below x n) (lookups_on x.config x.file x.label n) g.succeeded
+            ap (failed x) (flat_map_more (lookups_if_looked_up x.config x.file x.label) n) ∙ succeeded_then x (lookups_below x n) (lookups_if_looked_up x.config x.file x.label n) g.succeeded
             ∙ ap (failed x) (some_lookups x n looked_up) ∙ line_error (lt-ltb n (line_count x.file) h) in
             let whole : flat_map line_lookups (looked_up_lines x.config x.file x.label)
-            ≡ lookups_below x (n + 1) ++ flat_map (lookups_on x.config x.file x.label)
+            ≡ lookups_below x (n + 1) ++ flat_map (lookups_if_looked_up x.config x.file x.label)
             (range_with_len (n + 1) (line_count x.file - (n + 1))) =
             flat_map_filtered line_lookups (is_looked_up x.config x.file x.label)
             (range_with_len 0 (line_count x.file))
-            ∙ flat_map_split (lookups_on x.config x.file x.label) (n + 1) (line_count x.file)
+            ∙ flat_map_split (lookups_if_looked_up x.config x.file x.label) (n + 1) (line_count x.file)
             (omega arith) in
             failed_then x (flat_map line_lookups (looked_up_lines x.config x.file x.label))
             (lookup_past_end x.config x.file (x.failure x.file_id) x.label) e

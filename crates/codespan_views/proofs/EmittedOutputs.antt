@@ -18,7 +18,7 @@ use Rattle.codespan_core.specs.Writers.{fresh_plain_ref_sink, fresh_sink, plain_
 use Rattle.codespan_picture.specs.Rows.{Locus}
 use Rattle.codespan_picture.specs.Utf8Laws.{CharsAreScalars}
 use Rattle.codespan_picture.proofs.PictureTexts.{text-output}
-use Rattle.codespan_views.specs.Failures.{WrittenBefore}
+use Rattle.codespan_views.specs.EmitErrors.{WrittenBefore}
 use Rattle.codespan_views.specs.Output.{IsEmitError, IsRendered}
 use Rattle.codespan_views.specs.WriteCalls.{WritesStyled, WritesText}
 

@@ -42,18 +42,18 @@ module _ {Id : Type 0} where
   -- between two annotations of a file all are of the file
   pub file-between : (f : ℕ) (xs : List (RustAnnotation Id)) (first last : RustAnnotation Id)
       → first ≡ get_or xs 0 first → last ≡ get_or xs (length xs - 1) last → 0 < length xs
-      → first.file ≡ f → last.file ≡ f → IsSortedBy below xs
+      → first.file_index ≡ f → last.file_index ≡ f → IsSortedBy below xs
       → length xs ≡ prefix_len (λ e. is_of_file f (annotation_view e)) xs
   file-between f xs first last is_first is_last some start end up =
       prefix_len-all (λ e. is_of_file f (annotation_view e)) xs (λ k d inside.
       let x = get_or xs k d in
-      let low : first.file ≤ x.file = file_rises (annotation_view first) (annotation_view x)
+      let low : first.file_index ≤ x.file_index = file_rises (annotation_view first) (annotation_view x)
       (subst (λ z. below x z ≡ false) (sym (is_first ∙ get_or_default xs 0 first d some))
       (sorted_far below order xs up 0 k d (omega arith) inside)) in
-      let high : x.file ≤ last.file = file_rises (annotation_view x) (annotation_view last)
+      let high : x.file_index ≤ last.file_index = file_rises (annotation_view x) (annotation_view last)
       (subst (λ z. below z x ≡ false)
       (sym (is_last ∙ get_or_default xs (length xs - 1) last d (omega arith))) (sorted_far below order xs up k (length xs - 1) d (omega arith) (omega arith))) in
-      eq-eqb x.file f (omega (arith, low, high, start, end)))
+      eq-eqb x.file_index f (omega (arith, low, high, start, end)))
 
   -- the annotations from one on are in order
   drop-sorted : (xs : List (RustAnnotation Id)) (at : ℕ)

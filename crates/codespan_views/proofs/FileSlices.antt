@@ -21,13 +21,13 @@ use Rattle.codespan_picture.proofs.SortedLists.{Rises, rises-from_sorted}
 
 -- the annotations of files from f on
 abbrev pub from_file : ℕ → List Annotation → List Annotation
-from_file f xs = filter (λ (e : Annotation). nat_le f e.file) xs
+from_file f xs = filter (λ (e : Annotation). nat_le f e.file_index) xs
 
 -- along annotations in order the files do not decrease
-files-rise : (xs : List Annotation) → Rises is_before xs → IsRising (λ e. e.file) xs
+files-rise : (xs : List Annotation) → Rises is_before xs → IsRising (λ e. e.file_index) xs
 files-rise [] a = tt
 files-rise (x ∷ xs) a = (
-  all-weaker (λ y. is_before y x ≡ false) (λ y. x.file ≤ y.file) (λ y h. file_rises x y h) xs a.0,
+  all-weaker (λ y. is_before y x ≡ false) (λ y. x.file_index ≤ y.file_index) (λ y h. file_rises x y h) xs a.0,
   files-rise xs a.1,
 )
 
@@ -43,31 +43,31 @@ from_next f k = grind (arith, nat_tests)
 pub from_file-next : (xs : List Annotation) (f : ℕ) → IsSortedBy is_before xs
     → from_file f xs ≡ filter (is_of_file f) xs ++ from_file (f + 1) xs
 from_file-next xs f up =
-    split_at (λ (e : Annotation). e.file) f (from_file f xs)
-    (rising-filter (λ (e : Annotation). e.file) (λ e. nat_le f e.file) xs
+    split_at (λ (e : Annotation). e.file_index) f (from_file f xs)
+    (rising-filter (λ (e : Annotation). e.file_index) (λ e. nat_le f e.file_index) xs
     (files-rise xs (rises-from_sorted is_before below_order xs up)))
-    (all-weaker (λ e. nat_le f e.file ≡ true) (λ e. f ≤ e.file) (λ e t. leb-true f e.file t)
-    (from_file f xs) (all-pass (λ (e : Annotation). nat_le f e.file) xs))
+    (all-weaker (λ e. nat_le f e.file_index ≡ true) (λ e. f ≤ e.file_index) (λ e t. leb-true f e.file_index t)
+    (from_file f xs) (all-pass (λ (e : Annotation). nat_le f e.file_index) xs))
     ∙ (λ i. own i ++ later i)
   where
     own : filter (is_of_file f) (from_file f xs) ≡ filter (is_of_file f) xs
     own =
-        filter-filter (is_of_file f) (λ (e : Annotation). nat_le f e.file) xs
-        ∙ filter_agree _ (is_of_file f) (λ (e : Annotation). from_own f e.file) xs
+        filter-filter (is_of_file f) (λ (e : Annotation). nat_le f e.file_index) xs
+        ∙ filter_agree _ (is_of_file f) (λ (e : Annotation). from_own f e.file_index) xs
 
-    later : filter (λ (e : Annotation). nat_lt f e.file) (from_file f xs) ≡ from_file (f + 1) xs
-    later = filter-filter (λ (e : Annotation). nat_lt f e.file)
-        (λ (e : Annotation). nat_le f e.file) xs
-        ∙ filter_agree _ (λ (e : Annotation). nat_le (f + 1) e.file)
-        (λ (e : Annotation). from_next f e.file) xs
+    later : filter (λ (e : Annotation). nat_lt f e.file_index) (from_file f xs) ≡ from_file (f + 1) xs
+    later = filter-filter (λ (e : Annotation). nat_lt f e.file_index)
+        (λ (e : Annotation). nat_le f e.file_index) xs
+        ∙ filter_agree _ (λ (e : Annotation). nat_le (f + 1) e.file_index)
+        (λ (e : Annotation). from_next f e.file_index) xs
 
 -- all annotations are from the first file on
 pub from_file-first : (xs : List Annotation) → xs ≡ from_file 0 xs
-from_file-first xs = sym (filter-whole (λ (e : Annotation). nat_le 0 e.file) xs (each xs))
+from_file-first xs = sym (filter-whole (λ (e : Annotation). nat_le 0 e.file_index) xs (each xs))
   where
-    each : (ys : List Annotation) → AllByRecursion (λ e. nat_le 0 e.file ≡ true) ys
+    each : (ys : List Annotation) → AllByRecursion (λ e. nat_le 0 e.file_index ≡ true) ys
     each [] = tt
-    each (y ∷ ys) = (le-leb 0 y.file (omega arith), each ys)
+    each (y ∷ ys) = (le-leb 0 y.file_index (omega arith), each ys)
 
 -- what passes in front of what does not
 prefix-append : (p : Annotation → Bool) (a b : List Annotation) → AllByRecursion (λ e. p e ≡ true) a
@@ -85,9 +85,9 @@ own-len : (xs : List Annotation) (f : ℕ)
 own-len xs f =
     prefix-append (is_of_file f) (filter (is_of_file f) xs) (from_file (f + 1) xs)
     (all-pass (is_of_file f) xs)
-    (all-weaker (λ e. nat_le (f + 1) e.file ≡ true) (λ e. is_of_file f e ≡ false)
-    (λ e t. other e.file (leb-true (f + 1) e.file t)) (from_file (f + 1) xs)
-    (all-pass (λ (e : Annotation). nat_le (f + 1) e.file) xs))
+    (all-weaker (λ e. nat_le (f + 1) e.file_index ≡ true) (λ e. is_of_file f e ≡ false)
+    (λ e t. other e.file_index (leb-true (f + 1) e.file_index t)) (from_file (f + 1) xs)
+    (all-pass (λ (e : Annotation). nat_le (f + 1) e.file_index) xs))
   where
     other : (k : ℕ) → f + 1 ≤ k → (k == f) ≡ false
     other k h = ne_eqb k f (λ e. omega arith)

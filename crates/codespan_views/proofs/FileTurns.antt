@@ -81,7 +81,7 @@ module _ {Id : Type 0} (file : Id → FileModel) where
       (all-pass (is_of_file f) ys)) in
       all-weaker (λ e. (is_of_file f (annotation_view e) ≡ true) × IsOfFiles file ids e)
       (λ e. IsLineOf (file id) e.line)
-      (λ e h. h.1 id (subst (λ k. IsIdAt ids k id) (sym (eqb-true e.file f h.0)) is_at))
+      (λ e h. h.1 id (subst (λ k. IsIdAt ids k id) (sym (eqb-true e.file_index f h.0)) is_at))
       slice
       (all-both (λ e. is_of_file f (annotation_view e) ≡ true) (IsOfFiles file ids) slice
       of_file (all-slice (IsOfFiles file ids) at n xs lines))

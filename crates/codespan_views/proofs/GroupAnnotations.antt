@@ -124,12 +124,12 @@ first-shows f l (x ∷ xs) on up = by_test (shows_line x) refl
 -- ---- annotations in order
 
 -- the lines of a file's annotations do not decrease
-pub lines-rise : (f : ℕ) (es : List Annotation) → AllByRecursion (λ e. e.file ≡ f) es
+pub lines-rise : (f : ℕ) (es : List Annotation) → AllByRecursion (λ e. e.file_index ≡ f) es
     → Rises is_before es → IsRising (λ e. e.line) es
 lines-rise f [] h a = tt
 lines-rise f (x ∷ xs) h a = (
-  all-weaker (λ y. (y.file ≡ f) × (is_before y x ≡ false)) (λ y. x.line ≤ y.line)
+  all-weaker (λ y. (y.file_index ≡ f) × (is_before y x ≡ false)) (λ y. x.line ≤ y.line)
       (λ y b. line_rises x y (h.0 ∙ sym b.0) b.1) xs
-      (all-both (λ y. y.file ≡ f) (λ y. is_before y x ≡ false) xs h.1 a.0),
+      (all-both (λ y. y.file_index ≡ f) (λ y. is_before y x ≡ false) xs h.1 a.0),
   lines-rise f xs h.1 a.1,
 )

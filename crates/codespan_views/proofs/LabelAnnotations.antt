@@ -1,4 +1,4 @@
--- The annotations of one label on one line, for the clause `collected` of `collect_in_turn`.
+-- The annotations of one label on one line, for the clause `collected` of `collect_unsorted`.
 use Rattle.std.proofs.Common.{◌≡◌, ℕ, ◌<◌, Bool, true, false, cond, ◌==◌, nat_lt, ◌&&◌, ◌||◌, List, [], ◌∷◌, ◌++◌, filter, Some, None, ⊎_elim, refl, sym, ◌∙◌, ap, arith}
 use Rattle.std.specs.Prelude.{Option}
 use Rattle.std.specs.Option.{option_map}
@@ -24,7 +24,7 @@ use Rattle.codespan_views.proofs.LinesOfLabels.{is_kind, among-below, all-range,
 module _ (config : Config) (f : FileModel) (indices : LabelIndices) (x : LabelModel) where
   -- an annotation of its file
   abbrev annotation_on : ℕ → AnnotationKind → Annotation
-  annotation_on l kind = record { file = indices.file; line = l; kind = kind }
+  annotation_on l kind = record { file_index = indices.file_index; line = l; kind = kind }
 
   -- its carets on a line
   abbrev carets : ℕ → Annotation
@@ -33,13 +33,13 @@ module _ (config : Config) (f : FileModel) (indices : LabelIndices) (x : LabelMo
   -- its annotations on a line, where it is inside the line and where it shows it
   abbrev kind_annotations_where : ℕ → Bool → Bool → List Annotation
   kind_annotations_where l a b =
-      annotation_if_any indices.file l
+      annotation_if_any indices.file_index l
       (cond a (Some (Single indices.index (drawn_label f x))) (cond b (Some Shown) None))
 
   -- its multi-line label mark on a line, where it has one
   abbrev pub multi_annotations_where : ℕ → Bool → Option LaneMark → List Annotation
   multi_annotations_where l a o =
-      annotation_if_any indices.file l (cond a None (option_map Multi o))
+      annotation_if_any indices.file_index l (cond a None (option_map Multi o))
 
   -- its multi-line label mark on a line
   abbrev pub multi_annotations_on : ℕ → List Annotation
@@ -74,11 +74,11 @@ module _ (config : Config) (f : FileModel) (indices : LabelIndices) (x : LabelMo
       by_tests false false = tt
 
   -- its annotations are of its file
-  pub all-of_file : AllByRecursion (λ e. e.file ≡ indices.file) (annotations_of config f indices x)
+  pub all-of_file : AllByRecursion (λ e. e.file_index ≡ indices.file_index) (annotations_of config f indices x)
   all-of_file =
-      all-range (λ e. e.file ≡ indices.file) (line_annotations config f indices x)
+      all-range (λ e. e.file_index ≡ indices.file_index) (line_annotations config f indices x)
       (is_looked_up config f x) (line_count f) 0
-      (λ l k. each-line_annotations (λ e. e.file ≡ indices.file) l (λ s. refl))
+      (λ l k. each-line_annotations (λ e. e.file_index ≡ indices.file_index) l (λ s. refl))
 
   -- they are of lines that the file has
   pub all-below : AllByRecursion (λ e. e.line < line_count f) (annotations_of config f indices x)

@@ -1,4 +1,4 @@
--- The files of labels, one label after another, for the clause `collected` of `collect_in_turn`.
+-- The files of labels, one label after another, for the clause `collected` of `collect_unsorted`.
 use Rattle.std.proofs.Common.{◌≡◌, ◌<◌, Bool, true, false, List, [], ◌∷◌, ◌++◌, length, map, arith, refl, sym, ap, subst, ◌∙◌}
 use Rattle.std.specs.Prelude.{if◌then◌else◌}
 use Rattle.std.specs.Cmp.{IsEquivalence}
@@ -11,7 +11,7 @@ use Rattle.codespan_picture.specs.Snippets.{LabelInFile, file_ids}
 use Rattle.codespan_views.specs.declared.annotation.Annotation.{Annotation as RustAnnotation}
 use Rattle.codespan_views.specs.Private.Annotations.{Annotation}
 use Rattle.codespan_views.specs.Private.LabelAnnotations.{annotations_of}
-use Rattle.codespan_views.specs.Private.AnnotationViews.{Adds, IsOfFiles, annotation_view}
+use Rattle.codespan_views.specs.Private.AnnotationViews.{AppendsAnnotations, IsOfFiles, annotation_view}
 use Rattle.codespan_views.specs.Private.LabeledFiles.{num_multi_labels_of, with_file}
 use Rattle.codespan_views.specs.Private.FileIndices.{IsIdAt, index_of_file}
 use Rattle.codespan_views.specs.Private.IndexedLabels.{annotations_after, indices_after}
@@ -67,7 +67,7 @@ module _ {Id : Type 0} {same : Id → Id → Bool} (o : IsEquivalence same) (xs 
         before ys
     annotations-stay before [] there = refl
     annotations-stay before (y ∷ ys) there = λ i. annotations_of config (file y.file_id) (record {
-      file = stays y.file_id there.0 i;
+      file_index = stays y.file_id there.0 i;
       index = length before;
       lane =
           num_multi_labels_of same file before y.file_id;
@@ -77,36 +77,36 @@ module _ {Id : Type 0} {same : Id → Id → Bool} (o : IsEquivalence same) (xs 
     -- the annotations are of these files
     annotations-inside : (before ys : List (LabelInFile Id))
         → AllByRecursion (λ (y : LabelInFile Id). has same o were y.file_id ≡ true) ys
-        → AllByRecursion (λ (e : Annotation). e.file < length were)
+        → AllByRecursion (λ (e : Annotation). e.file_index < length were)
         (annotations_after same file config were before ys)
     annotations-inside before [] there = tt
     annotations-inside before (y ∷ ys) there =
-        all-append (λ (e : Annotation). e.file < length were) _ _
-        (all-weaker (λ (e : Annotation). e.file ≡ index_of_file same were y.file_id)
-        (λ e. e.file < length were)
+        all-append (λ (e : Annotation). e.file_index < length were) _ _
+        (all-weaker (λ (e : Annotation). e.file_index ≡ index_of_file same were y.file_id)
+        (λ e. e.file_index < length were)
         (λ e is. omega (arith, is, has-index same o were y.file_id there.0)) _
         (all-of_file config (file y.file_id) (indices_after same file were before y) y.label))
         (annotations-inside (before ++ y ∷ []) ys there.1)
 
     -- the annotations of the labels were added, and their lines are those of their files
     pub added-with_file : {items : List (RustAnnotation Id)}
-        → Adds (IsOfFiles file were) [] items (annotations_after same file config were [] xs)
-        → Adds (IsOfFiles file are) [] items (annotations_after same file config are [] xs)
+        → AppendsAnnotations (IsOfFiles file were) [] items (annotations_after same file config were [] xs)
+        → AppendsAnnotations (IsOfFiles file are) [] items (annotations_after same file config are [] xs)
     added-with_file adds = record {
       more = adds.more;
       whole = adds.whole;
       are = adds.are ∙ sym (annotations-stay [] xs all-there);
       each =
-          all-weaker (λ (e : RustAnnotation Id). IsOfFiles file were e × (e.file < length were))
+          all-weaker (λ (e : RustAnnotation Id). IsOfFiles file were e × (e.file_index < length were))
           (IsOfFiles file are)
           (λ e h id at. h.0 id
-          (at-stays same o were x.file_id e.file id h.1
-          (subst (λ (js : List Id). IsIdAt js e.file id) (file_ids-more same o xs x) at)))
+          (at-stays same o were x.file_id e.file_index id h.1
+          (subst (λ (js : List Id). IsIdAt js e.file_index id) (file_ids-more same o xs x) at)))
           adds.more
-          (all-both (IsOfFiles file were) (λ e. e.file < length were) adds.more adds.each
-          (all-mapped annotation_view (λ (e : Annotation). e.file < length were) adds.more
+          (all-both (IsOfFiles file were) (λ e. e.file_index < length were) adds.more adds.each
+          (all-mapped annotation_view (λ (e : Annotation). e.file_index < length were) adds.more
           (subst
-          (λ (es : List Annotation). AllByRecursion (λ (e : Annotation). e.file < length were)
+          (λ (es : List Annotation). AllByRecursion (λ (e : Annotation). e.file_index < length were)
           es)
           (sym adds.are) (annotations-inside [] xs all-there))));
     }

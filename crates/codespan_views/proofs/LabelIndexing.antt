@@ -1,5 +1,5 @@
 -- The files of ids, and the indices and lanes of labels, one label after another, for the clause
--- `collected` of `collect_in_turn`.
+-- `collected` of `collect_unsorted`.
 use Rattle.std.proofs.Common.{◌≡◌, ℕ, ◌+◌, ◌<◌, ◌≤◌, Bool, true, false, not, ◌||◌, cond, List, [], ◌∷◌, ◌++◌, length, get_or, set, map, refl, sym, ap, subst, ◌∙◌, arith, ⊎_elim, true≢false}
 use Rattle.std.specs.Prelude.{filter, if◌then◌else◌}
 use Rattle.std.specs.Cmp.{IsEquivalence}
@@ -15,7 +15,7 @@ use Rattle.codespan_core.specs.Labels.{LabelModel, first_line, is_single, last_l
 use Rattle.codespan_views.specs.declared.label_span.LabelSpan.{LabelSpan}
 use Rattle.codespan_views.specs.Private.Annotations.{Annotation}
 use Rattle.codespan_views.specs.Private.LabelAnnotations.{annotations_of}
-use Rattle.codespan_views.specs.Private.LabeledFiles.{lanes_by, num_multi_labels_of}
+use Rattle.codespan_views.specs.Private.LabeledFiles.{lanes_of_span, num_multi_labels_of}
 use Rattle.codespan_views.specs.Private.FileIndices.{index_of_file}
 use Rattle.codespan_views.specs.Private.IndexedLabels.{indices_after, annotations_after}
 use Rattle.codespan_picture.specs.Snippets.{LabelInFile, num_multi_labels}
@@ -54,9 +54,9 @@ abbrev pub label_lanes : FileModel → LabelModel → ℕ
 label_lanes f x = if is_single f x then 0 else 1
 
 -- that is known by the lines that it starts and ends on
-pub lanes_by-are : (f : FileModel) (x : LabelModel) (span : LabelSpan)
-    → span.first ≡ first_line f x → span.last ≡ last_line f x → lanes_by span ≡ label_lanes f x
-lanes_by-are f x span first last = λ i. lanes_by (record { first = first i; last = last i })
+pub lanes_of_span-are : (f : FileModel) (x : LabelModel) (span : LabelSpan)
+    → span.first ≡ first_line f x → span.last ≡ last_line f x → lanes_of_span span ≡ label_lanes f x
+lanes_of_span-are f x span first last = λ i. lanes_of_span (record { first = first i; last = last i })
 
 module _ {Id : Type 0} {same : Id → Id → Bool} (o : IsEquivalence same) where
   module _ {A : Type 0} (h : Id → A) (equal : (i j : Id) → same i j ≡ true → h i ≡ h j) where

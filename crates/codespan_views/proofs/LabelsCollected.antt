@@ -1,5 +1,5 @@
 -- The annotations of the labels of a diagnostic, collected one label after another, for the clauses
--- `collected` and `failed` of `collect_in_turn`.
+-- `collected` and `failed` of `collect_unsorted`.
 use Rattle.std.proofs.Common.{◌≡◌, ℕ, ◌+◌, ◌<◌, ◌≤◌, Bool, true, List, [], ◌∷◌, ◌++◌, length, take, drop, get_or, set, map, Some, None, refl, sym, ap, ◌∙◌, subst, subst₂, ◌^◌, arith}
 use Rattle.std.specs.Prelude.{flat_map, fold, max, if◌then◌else◌}
 use Rattle.std.specs.Cmp.{IsEquivalence}
@@ -16,23 +16,23 @@ use Rattle.codespan_views.specs.declared.labeled_files.LabeledFile.{LabeledFile 
 use Rattle.codespan_views.specs.declared.label_annotations.FoundAnnotations.{FoundAnnotations}
 use Rattle.codespan_views.specs.declared.least_starts.LeastStarts.{LeastStarts}
 use Rattle.codespan_views.specs.declared.label_annotations.LabelIndices.{LabelIndices}
-use Rattle.codespan_views.specs.Private.CollectedLabels.{FindsLines, ExtendsPadding, collected_label, label_failure, labels_failure, lookups_of_label}
+use Rattle.codespan_views.specs.Private.LabelsToCollect.{FindsLabelAnnotations, WidensPadding, label_to_collect, label_failure, labels_failure, lookups_of_label}
 use Rattle.codespan_views.specs.Private.Annotations.{Annotation}
 use Rattle.codespan_views.specs.Private.LabelAnnotations.{annotations_of}
-use Rattle.codespan_views.specs.Private.AnnotationViews.{Adds, AddsOf, IsLineOf, IsOfFiles, annotation_view}
-use Rattle.codespan_views.specs.Private.LabeledFiles.{HasLabels, ids_view, lane_counts, num_multi_labels_of, lanes_with_label, starts_with_label, starts_view, with_file}
+use Rattle.codespan_views.specs.Private.AnnotationViews.{AppendsAnnotations, AppendsAnnotationsOf, IsLineOf, IsOfFiles, annotation_view}
+use Rattle.codespan_views.specs.Private.LabeledFiles.{HasLabels, ids_view, lane_counts, num_multi_labels_of, lane_counts_with, all_least_starts_with, all_least_starts, with_file}
 use Rattle.codespan_views.specs.Private.LocusBytes.{file_least_starts, no_starts}
 use Rattle.codespan_picture.specs.Lookups.{lookups_of_file, first_error, label_lookups, label_line_lookups}
 use Rattle.codespan_picture.specs.OutputStreams.{label_of}
 use Rattle.codespan_views.specs.Private.FileIndices.{IsIdAt, index_of_file}
 use Rattle.codespan_views.specs.Private.IndexedLabels.{annotations_after, indices_after}
-use Rattle.codespan_views.specs.Private.SpannedDigits.{all_digits, label_digits}
+use Rattle.codespan_views.specs.Private.SpannedDigitCounts.{all_digit_counts, label_digit_counts}
 use Rattle.codespan_picture.specs.Snippets.{LabelInFile, file_ids}
 use Rattle.codespan_picture.proofs.Greatest.{greatest-append}
 use Rattle.codespan_picture.proofs.ListElements.{all-both, all-mapped, all-weaker}
 use Rattle.codespan_views.proofs.FileOrder.{file_ids-more}
 use Rattle.codespan_views.proofs.FileIndices.{index_of_file-at}
-use Rattle.codespan_views.proofs.Collecting.{Adds-as, Adds-both}
+use Rattle.codespan_views.proofs.Collecting.{AppendsAnnotations-as, AppendsAnnotations-both}
 use Rattle.codespan_views.proofs.LabelAnnotations.{all-of_file}
 use Rattle.codespan_views.proofs.LabelIndexing.{AreFiles, IsChanged, annotations_after-more, unchanged-at, label_lanes, num_multi_labels_of-equal, num_multi_labels_of-more, num_multi_labels_of-none, lanes-within, set-at}
 use Rattle.codespan_views.proofs.IndexedElements.{IsElementAt}
@@ -45,29 +45,29 @@ use Rattle.codespan_views.proofs.FirstErrors.{first_error-none, first_error-some
 -- fits the lines that they span, and no lookup failed
 pub record AreCollected {Id : Type 0} (database : FileDatabase Id) (config : Config) (ids : List Id) (done : List (LabelInFile Id)) (files : List (RustFile Id)) (found : FoundAnnotations Id) : Type 0 where
   pub ids_are : ids_view files ≡ ids
-  pub starts_are : starts_view files ≡ map (file_least_starts database.same done) ids
+  pub starts_are : all_least_starts files ≡ map (file_least_starts database.same done) ids
   pub lanes_are : lane_counts files ≡ map (num_multi_labels_of database.same database.file done) ids
-  pub added : Adds (IsOfFiles database.file ids) [] found.annotations.items (annotations_after database.same database.file config ids [] done)
-  pub counted : found.spanned_padding.digits ≡ fold max 0 (all_digits database.file done)
+  pub added : AppendsAnnotations (IsOfFiles database.file ids) [] found.annotations.items (annotations_after database.same database.file config ids [] done)
+  pub counted : found.spanned_padding.digit_count ≡ fold max 0 (all_digit_counts database.file done)
   pub succeeded : labels_failure config database done ≡ None
 
 -- the annotations of a label were added, the padding fits the lines that it spans, and no lookup of
 -- it failed
 pub record IsCollectedLabel {Id : Type 0} (database : FileDatabase Id) (config : Config) (at : LabelIndices) (label : Label Id) (found more : FoundAnnotations Id) : Type 0 where
-  pub added : FindsLines (collected_label database config at label) found more
-  pub counted : ExtendsPadding (collected_label database config at label) found more
-  pub succeeded : label_failure (collected_label database config at label) ≡ None
+  pub added : FindsLabelAnnotations (label_to_collect database config at label) found more
+  pub counted : WidensPadding (label_to_collect database config at label) found more
+  pub succeeded : label_failure (label_to_collect database config at label) ≡ None
 
 -- a label was added to the file at this index
 pub record IsAddedLabel {Id : Type 0} (file : Id → FileModel) (at : ℕ) (label : Label Id) (files next : List (RustFile Id)) : Type 0 where
   pub ids : ids_view next ≡ ids_view files
-  pub starts : starts_view next ≡ starts_with_label (starts_view files) at (label_of label).label
-  pub lanes : lane_counts next ≡ lanes_with_label (lane_counts files) at (label_lanes (file label.file_id) (label_of label).label)
+  pub starts : all_least_starts next ≡ all_least_starts_with (all_least_starts files) at (label_of label).label
+  pub lanes : lane_counts next ≡ lane_counts_with (lane_counts files) at (label_lanes (file label.file_id) (label_of label).label)
 
 -- a file of this id was found: it is one of the files, or comes after them
 pub record IsIndexedFile {Id : Type 0} (same : Id → Id → Bool) (id : Id) (files now : List (RustFile Id)) : Type 0 where
   pub ids : ids_view now ≡ with_file same (ids_view files) id (ids_view files) id
-  pub starts : starts_view now ≡ with_file same (ids_view files) id (starts_view files) no_starts
+  pub starts : all_least_starts now ≡ with_file same (ids_view files) id (all_least_starts files) no_starts
   pub lanes : lane_counts now ≡ with_file same (ids_view files) id (lane_counts files) 0
 
 module _ {Id : Type 0} {database : FileDatabase Id} (lawful : AreFiles database) {labels : List (Label Id)} {index : ℕ} {label : Label Id} (turn : IsElementAt labels index label) where
@@ -91,7 +91,7 @@ module _ {Id : Type 0} {database : FileDatabase Id} (lawful : AreFiles database)
   before-length = let inside = turn.inside in length-map (take index labels) label_of ∙ length-take-le index labels (omega (arith, inside))
 
   -- an annotation of the label's file is one of the files with these ids
-  of_files : (e : RustAnnotation Id) → IsLineOf (file label.file_id) e.line → e.file ≡ index_of_file same ids label.file_id → IsOfFiles file ids e
+  of_files : (e : RustAnnotation Id) → IsLineOf (file label.file_id) e.line → e.file_index ≡ index_of_file same ids label.file_id → IsOfFiles file ids e
   of_files e is_line own id there =
       let equal : same id label.file_id ≡ true =
       sym (index_of_file-at same o (before labels (index + 1)) _ id (subst (λ k. IsIdAt ids k id) own there) label.file_id) ∙ eq-eqb _ _ refl in
@@ -99,11 +99,11 @@ module _ {Id : Type 0} {database : FileDatabase Id} (lawful : AreFiles database)
 
   -- where the label is
   abbrev here : LabelIndices
-  here = record { file = index_of_file same ids label.file_id; index = index; lane = num_multi_labels_of same file (before labels index) label.file_id }
+  here = record { file_index = index_of_file same ids label.file_id; index = index; lane = num_multi_labels_of same file (before labels index) label.file_id }
 
   -- that is what comes after the labels before it
   here-is : here ≡ indices_after same file ids (before labels index) (label_of label)
-  here-is = λ i. record { file = index_of_file same ids label.file_id; index = sym before-length i; lane = num_multi_labels_of same file (before labels index) label.file_id }
+  here-is = λ i. record { file_index = index_of_file same ids label.file_id; index = sym before-length i; lane = num_multi_labels_of same file (before labels index) label.file_id }
 
   -- the label's lane is one of its file's, and of no other file's
   lanes-changed : IsChanged same label.file_id (num_multi_labels_of same file (before labels index)) (num_multi_labels_of same file (before labels (index + 1)))
@@ -136,44 +136,44 @@ module _ {Id : Type 0} {database : FileDatabase Id} (lawful : AreFiles database)
         ∙ unchanged-at o (num_multi_labels_of same file (before labels index)) (num_multi_labels_of-equal lawful (before labels index)) ids label.file_id 0 (has-file turn o)
 
     -- the label's annotations were added
-    added-more : (more : FoundAnnotations Id) → AddsOf (file label.file_id) found.annotations.items more.annotations.items (annotations_of config (file label.file_id) here (label_of label).label)
-        → Adds (IsOfFiles file ids) [] more.annotations.items (annotations_after same file config ids [] (before labels (index + 1)))
+    added-more : (more : FoundAnnotations Id) → AppendsAnnotationsOf (file label.file_id) found.annotations.items more.annotations.items (annotations_of config (file label.file_id) here (label_of label).label)
+        → AppendsAnnotations (IsOfFiles file ids) [] more.annotations.items (annotations_after same file config ids [] (before labels (index + 1)))
     added-more more adds =
         let f = file label.file_id in
         let x = (label_of label).label in
-        let own : AllByRecursion (λ (e : RustAnnotation Id). e.file ≡ index_of_file same ids label.file_id) adds.more =
-        all-mapped annotation_view (λ (e : Annotation). e.file ≡ index_of_file same ids label.file_id) adds.more
-        (subst (λ (es : List Annotation). AllByRecursion (λ (e : Annotation). e.file ≡ index_of_file same ids label.file_id) es) (sym adds.are) (all-of_file config f here x)) in
-        let widened : Adds (IsOfFiles file ids) found.annotations.items more.annotations.items (annotations_of config f here x) = record {
+        let own : AllByRecursion (λ (e : RustAnnotation Id). e.file_index ≡ index_of_file same ids label.file_id) adds.more =
+        all-mapped annotation_view (λ (e : Annotation). e.file_index ≡ index_of_file same ids label.file_id) adds.more
+        (subst (λ (es : List Annotation). AllByRecursion (λ (e : Annotation). e.file_index ≡ index_of_file same ids label.file_id) es) (sym adds.are) (all-of_file config f here x)) in
+        let widened : AppendsAnnotations (IsOfFiles file ids) found.annotations.items more.annotations.items (annotations_of config f here x) = record {
           more = adds.more;
           whole = adds.whole;
           are = adds.are;
           each =
-              all-weaker (λ (e : RustAnnotation Id). IsLineOf f e.line × (e.file ≡ index_of_file same ids label.file_id)) (IsOfFiles file ids) (λ e h. of_files e h.0 h.1) adds.more
-              (all-both (λ e. IsLineOf f e.line) (λ e. e.file ≡ index_of_file same ids label.file_id) adds.more adds.each own);
+              all-weaker (λ (e : RustAnnotation Id). IsLineOf f e.line × (e.file_index ≡ index_of_file same ids label.file_id)) (IsOfFiles file ids) (λ e h. of_files e h.0 h.1) adds.more
+              (all-both (λ e. IsLineOf f e.line) (λ e. e.file_index ≡ index_of_file same ids label.file_id) adds.more adds.each own);
         } in
-        Adds-as
+        AppendsAnnotations-as
         (ap (annotations_after same file config ids []) (before-more turn)
         ∙ annotations_after-more same file config ids [] (before labels index) (label_of label)
         ∙ ap (λ (at : LabelIndices). annotations_after same file config ids [] (before labels index) ++ annotations_of config f at x) (sym here-is))
-        (Adds-both g.added widened)
+        (AppendsAnnotations-both g.added widened)
 
     -- the padding fits the lines that it spans
     counted-more : (more : FoundAnnotations Id)
-        → more.spanned_padding.digits ≡ fold max found.spanned_padding.digits
-        (label_digits (file label.file_id) (label_of label).label)
-        → more.spanned_padding.digits ≡ fold max 0 (all_digits file (before labels (index + 1)))
+        → more.spanned_padding.digit_count ≡ fold max found.spanned_padding.digit_count
+        (label_digit_counts (file label.file_id) (label_of label).label)
+        → more.spanned_padding.digit_count ≡ fold max 0 (all_digit_counts file (before labels (index + 1)))
     counted-more more counts =
-        let digits : LabelInFile Id → List ℕ = λ x. label_digits (file x.file_id) x.label in
+        let digits : LabelInFile Id → List ℕ = λ x. label_digit_counts (file x.file_id) x.label in
         counts ∙ ap (λ n. fold max n (digits (label_of label))) g.counted
-        ∙ sym (greatest-append 0 (all_digits file (before labels index)) (digits (label_of label)))
-        ∙ ap (λ (ns : List ℕ). fold max 0 (all_digits file (before labels index) ++ ns)) (sym (append-nil (digits (label_of label))))
+        ∙ sym (greatest-append 0 (all_digit_counts file (before labels index)) (digits (label_of label)))
+        ∙ ap (λ (ns : List ℕ). fold max 0 (all_digit_counts file (before labels index) ++ ns)) (sym (append-nil (digits (label_of label))))
         ∙ ap (fold max 0) (sym (flat_map-append digits (before labels index) (label_of label ∷ [])))
-        ∙ ap (λ xs. fold max 0 (all_digits file xs)) (sym (before-more turn))
+        ∙ ap (λ xs. fold max 0 (all_digit_counts file xs)) (sym (before-more turn))
 
     -- the label's file has its lane too, and no other file's lanes change
     lanes-next : (next : List (RustFile Id))
-        → lane_counts next ≡ lanes_with_label (lane_counts files)
+        → lane_counts next ≡ lane_counts_with (lane_counts files)
         (index_of_file same ids label.file_id)
         (label_lanes (file label.file_id) (label_of label).label)
         → lane_counts next ≡ map (num_multi_labels_of same file (before labels (index + 1))) ids
@@ -207,16 +207,16 @@ module _ {Id : Type 0} {database : FileDatabase Id} (lawful : AreFiles database)
       -- one more label, whose file is at this index
       pub collected-more : {next : List (RustFile Id)} {more : FoundAnnotations Id}
           → IsCollectedLabel database config
-          (record { file = at; index = index; lane = get_or (lane_counts files) at 0 }) label found
+          (record { file_index = at; index = index; lane = get_or (lane_counts files) at 0 }) label found
           more → IsAddedLabel file at label files next
           → AreCollected database config (file_ids same (before labels (index + 1))) (before labels (index + 1)) next more
       collected-more {next} {more} own known = record {
         ids_are = known.ids ∙ g.ids_are;
-        starts_are = starts-set turn o g.starts_are (known.starts ∙ ap (λ k. starts_with_label (starts_view files) k (label_of label).label) index-found);
-        lanes_are = lanes-next next (known.lanes ∙ ap (λ k. lanes_with_label (lane_counts files) k (label_lanes (file label.file_id) (label_of label).label)) index-found);
-        added = added-more more (subst₂ (λ k n. AddsOf (file label.file_id) found.annotations.items
+        starts_are = starts-set turn o g.starts_are (known.starts ∙ ap (λ k. all_least_starts_with (all_least_starts files) k (label_of label).label) index-found);
+        lanes_are = lanes-next next (known.lanes ∙ ap (λ k. lane_counts_with (lane_counts files) k (label_lanes (file label.file_id) (label_of label).label)) index-found);
+        added = added-more more (subst₂ (λ k n. AppendsAnnotationsOf (file label.file_id) found.annotations.items
             more.annotations.items (annotations_of config (file label.file_id)
-            (record { file = k; index = index; lane = n }) (label_of label).label)) index-found
+            (record { file_index = k; index = index; lane = n }) (label_of label).label)) index-found
             lane-found own.added);
         counted = counted-more more own.counted;
         succeeded =
@@ -239,7 +239,7 @@ module _ {Id : Type 0} {database : FileDatabase Id} (lawful : AreFiles database)
         subst (λ ys. AreCollected database config (file_ids same ys) xs now found) (sym (before-more turn)) (record {
           ids_are = indexed.ids ∙ ap (λ (js : List Id). with_file same js label.file_id js label.file_id) g.ids_are ∙ sym (file_ids-more same o xs x);
           starts_are = known-more o xs x (file_least_starts same xs) (start-unknown same xs label.file_id) g.starts_are
-              (indexed.starts ∙ ap (λ (js : List Id). with_file same js label.file_id (starts_view files) no_starts) g.ids_are);
+              (indexed.starts ∙ ap (λ (js : List Id). with_file same js label.file_id (all_least_starts files) no_starts) g.ids_are);
           lanes_are = known-more o xs x (num_multi_labels_of same file xs) (num_multi_labels_of-none same file xs label.file_id) g.lanes_are
               (indexed.lanes ∙ ap (λ (js : List Id). with_file same js label.file_id (lane_counts files) 0) g.ids_are);
           added = added-with_file o xs x file config g.added;
@@ -275,7 +275,7 @@ collected-all {Id} {database} {config} {files} {found} labels index past g =
 
 -- each file has what the labels add to it
 pub each-labels : {Id : Type 0} (same : Id → Id → Bool) (file : Id → FileModel) (xs : List (LabelInFile Id)) (files : List (RustFile Id))
-    → starts_view files ≡ map (file_least_starts same xs) (ids_view files) → lane_counts files ≡ map (num_multi_labels_of same file xs) (ids_view files) → AllByRecursion (HasLabels same file xs) files
+    → all_least_starts files ≡ map (file_least_starts same xs) (ids_view files) → lane_counts files ≡ map (num_multi_labels_of same file xs) (ids_view files) → AllByRecursion (HasLabels same file xs) files
 each-labels same file xs [] starts lanes = tt
 each-labels same file xs (f ∷ fs) starts lanes = (
   record { least_starts_are = ap (λ (ss : List LeastStarts). get_or ss 0 f.least_starts) starts; lanes_are = ap (λ (ls : List ℕ). get_or ls 0 f.num_multi_labels) lanes },

@@ -45,7 +45,7 @@ pub mod PlanPadding
 pub mod SpannedPadding
 pub mod OutputPlanned
 pub mod RendererRuns
-pub mod Failures
+pub mod EmitErrors
 pub mod OutputLoci
 pub mod Renderings
 pub mod EmittedOutputs

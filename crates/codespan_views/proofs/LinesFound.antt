@@ -10,7 +10,7 @@ use Rattle.codespan_core.specs.FileModel.{FileModel, Lookup, or_failure}
 use Rattle.codespan_core.specs.FileModel.Lookup.{LineNumber}
 use Rattle.codespan_picture.specs.Lookups.{Failures, lookups_of_file, first_error}
 use Rattle.codespan_views.specs.declared.plan.snippet_lines.SnippetLine.{SnippetLine as RustLine}
-use Rattle.codespan_views.specs.Private.SnippetLineViews.{AddsLines, IsSnippetLineIn, numbers_looked_up, snippet_line_view}
+use Rattle.codespan_views.specs.Private.SnippetLineViews.{AppendsSnippetLines, IsSnippetLineIn, numbers_looked_up, snippet_line_view}
 use Rattle.codespan_views.specs.Private.Annotations.{Annotation}
 use Rattle.codespan_views.specs.Private.SnippetLines.{SnippetLine, Labeled, filled_line_of, filled_lines_of}
 use Rattle.codespan_views.proofs.FirstErrors.{first_error-lookups, or_failure-succeeded, or_failure-some}
@@ -18,14 +18,14 @@ use Rattle.codespan_picture.proofs.ListElements.{all-append}
 
 module _ {Id : Type 0} {layout : Layout} {f : FileModel} where
   -- no snippet line was added
-  adds_nothing : {old new : List (RustLine Id)} → new ≡ old → AddsLines layout f old new []
+  adds_nothing : {old new : List (RustLine Id)} → new ≡ old → AppendsSnippetLines layout f old new []
   adds_nothing {old} same =
       record { more = []; whole = same ∙ sym (append-nil old); are = refl; each = tt }
 
   -- snippet lines were added, and then others
   pub adds_then : {old mid new : List (RustLine Id)} {xs ys : List SnippetLine}
-      → AddsLines layout f old mid xs → AddsLines layout f mid new ys
-      → AddsLines layout f old new (xs ++ ys)
+      → AppendsSnippetLines layout f old mid xs → AppendsSnippetLines layout f mid new ys
+      → AppendsSnippetLines layout f old new (xs ++ ys)
   adds_then {old} first second = record {
     more = first.more ++ second.more;
     whole =
@@ -77,7 +77,7 @@ module _ {Id : Type 0} (failure : Failures Id) (id : Id) (layout : Layout) where
       (old now : List (RustLine Id)) : Type 0 where
     pub taken : List SnippetLine
     pub is_whole : taken ++ rest ≡ whole
-    pub adds : AddsLines layout f old now taken
+    pub adds : AppendsSnippetLines layout f old now taken
     pub succeeded : numbers_failed taken ≡ None
 
 -- nothing is found yet
@@ -113,7 +113,7 @@ module _ {Id : Type 0} {failure : Failures Id} {id : Id} {layout : Layout} {f : 
       (numbers_failed failure id layout snippet_lines) left.succeeded
 
   -- they are found
-  pub left_more : {new : List (RustLine Id)} → AddsLines layout f now new snippet_lines
+  pub left_more : {new : List (RustLine Id)} → AppendsSnippetLines layout f now new snippet_lines
       → numbers_failed failure id layout snippet_lines ≡ None
       → LinesLeft failure id layout f whole next old new
   left_more adds succeeded =
@@ -143,8 +143,8 @@ module _ {Id : Type 0} {failure : Failures Id} {id : Id} {layout : Layout} {f : 
   taken_all : left.taken ≡ whole
   taken_all = sym (append-nil left.taken) ∙ (λ i. left.taken ++ sym none i) ∙ left.is_whole
 
-  pub left_added : AddsLines layout f old now whole
-  left_added = subst (AddsLines layout f old now) taken_all left.adds
+  pub left_added : AppendsSnippetLines layout f old now whole
+  left_added = subst (AppendsSnippetLines layout f old now) taken_all left.adds
 
   -- and no lookup of a number failed
   pub left_succeeded : numbers_failed failure id layout whole ≡ None

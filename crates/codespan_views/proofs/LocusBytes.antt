@@ -1,5 +1,5 @@
 -- Where the snippets of files start, one label after another, for the clause `collected` of
--- `collect_in_turn`.
+-- `collect_unsorted`.
 use Rattle.std.proofs.Common.{◌≡◌, ℕ, ◌+◌, Bool, true, false, cond, not, ◌&&◌, ◌||◌, List, [], ◌∷◌, ◌++◌, get_or, set, map, filter, Some, refl, ap, ◌∙◌, append-nil}
 use Rattle.std.specs.Prelude.{min, if◌then◌else◌}
 use Rattle.std.specs.Cmp.{IsEquivalence}
@@ -12,7 +12,7 @@ use Rattle.codespan_core.specs.Labels.{is_primary}
 use Rattle.codespan_picture.specs.OutputStreams.{label_of}
 use Rattle.codespan_picture.specs.Snippets.{LabelInFile, file_ids}
 use Rattle.codespan_views.specs.declared.least_starts.LeastStarts.{LeastStarts}
-use Rattle.codespan_views.specs.Private.LabeledFiles.{starts_with_label}
+use Rattle.codespan_views.specs.Private.LabeledFiles.{all_least_starts_with}
 use Rattle.codespan_views.specs.Private.LocusBytes.{file_least_starts, is_locus_label, least_if_any, least_with, no_starts, least_starts_with, label_starts}
 use Rattle.codespan_views.specs.Private.FileIndices.{index_of_file}
 use Rattle.codespan_picture.proofs.ListElements.{all-weaker, filter-nothing}
@@ -158,7 +158,7 @@ module _ {Id : Type 0} {labels : List (Label Id)} {index : ℕ} {label : Label I
   -- what is known of the label's file, and of all files with the label
   pub starts-set : {starts now : List LeastStarts}
       → starts ≡ map (file_least_starts same (before labels index)) ids
-      → now ≡ starts_with_label starts (index_of_file same ids label.file_id) (label_of label).label
+      → now ≡ all_least_starts_with starts (index_of_file same ids label.file_id) (label_of label).label
       → now ≡ map (file_least_starts same (before labels (index + 1))) ids
   starts-set {starts} are is =
       is ∙ (λ i. set (are i) (index_of_file same ids label.file_id) (least_starts_with (known i) (label_of label).label)) ∙ set-at o start-changed ids (ids-differ turn o) (has-file turn o)

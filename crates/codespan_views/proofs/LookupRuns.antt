@@ -26,9 +26,9 @@ out_of_memory {T} {x = x} same is = same ∙ inside x is
     inside y h = cc
 
 -- a call writes and looks up so; from a record antt finds its parameters
-pub record IsLookupRun (failed : Option Error) (old : Sink) (items : Stream)
+pub record IsLookupRun (failure : Option Error) (old : Sink) (items : Stream)
     (r : Result (Unit {0}) Error) (new : Sink) : Type 0 where
-  pub renders : WritesWithLookups failed old items r new
+  pub renders : WritesWithLookups failure old items r new
 
 -- nothing is written and nothing is looked up
 pub run_of_nothing : {s : Sink} → IsLookupRun None s [] (Ok tt) s

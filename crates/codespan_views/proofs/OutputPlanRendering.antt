@@ -17,7 +17,7 @@ use Rattle.codespan_picture.specs.RowStreams.{stream_of_rows}
 use Rattle.codespan_core.specs.FileModel.Lookup.{Source}
 use Rattle.codespan_picture.specs.Arguments.{locus_view}
 use Rattle.codespan_views.specs.Private.OutputPlans.{IsOutputPlan, IsPlanOfLabels, ids_of, loci_of}
-use Rattle.codespan_views.specs.Private.SnippetRows.{trailing_empty_rows, lookups_with, rows_in}
+use Rattle.codespan_views.specs.Private.SnippetRows.{empty_row_after_snippet, lookups_of_snippet, rows_of_snippet}
 use Rattle.codespan_views.specs.Views.{diagnostic_of, view_config_of}
 use Rattle.codespan_views.specs.declared.rich.RichDiagnostic.{RichDiagnostic}
 use Rattle.codespan_views.specs.declared.plan.OutputPlan.{OutputPlan}
@@ -173,22 +173,22 @@ module _ {Id : Type 0} {database : FileDatabase Id} {view_config : RichDiagnosti
 
     -- the rows of its snippet, and the row after it
     abbrev snippet_stream : Stream
-    snippet_stream = stream_of_rows context (rows_in snippet_plan (database.file snippet_plan.file.now.file_id) snippet_lines)
+    snippet_stream = stream_of_rows context (rows_of_snippet snippet_plan (database.file snippet_plan.file.now.file_id) snippet_lines)
 
     abbrev end_stream : Stream
-    end_stream = stream_of_rows context (trailing_empty_rows snippet_plan follows)
+    end_stream = stream_of_rows context (empty_row_after_snippet snippet_plan follows)
 
     -- its lookups, as its snippet lines make them
     abbrev snippet_lines_failure : Option Error
-    snippet_lines_failure = first_error database.failure (lookups_of_file snippet_plan.file.now.file_id (lookups_with snippet_lines))
+    snippet_lines_failure = first_error database.failure (lookups_of_file snippet_plan.file.now.file_id (lookups_of_snippet snippet_lines))
 
     -- the snippet is rendered, by an equal configuration
     snippet-here : {r : Result (Unit {0}) Error} {new : Sink}
         → WritesWithLookups snippet_lines_failure mid
-        (stream_of_rows (context_by now) (rows_in snippet_plan (database.file snippet_plan.file.now.file_id) snippet_lines)) r
+        (stream_of_rows (context_by now) (rows_of_snippet snippet_plan (database.file snippet_plan.file.now.file_id) snippet_lines)) r
         new
         → IsLookupRun snippet_lines_failure mid snippet_stream r new
-    snippet-here renders = run_as refl (λ i. stream_of_rows (context_by (equal i)) (rows_in snippet_plan (database.file snippet_plan.file.now.file_id) snippet_lines)) (record { renders = renders })
+    snippet-here renders = run_as refl (λ i. stream_of_rows (context_by (equal i)) (rows_of_snippet snippet_plan (database.file snippet_plan.file.now.file_id) snippet_lines)) (record { renders = renders })
 
     -- both are the rows and the lookups at the index
     rendered-here : {r : Result (Unit {0}) Error} {new : Sink}
@@ -200,7 +200,7 @@ module _ {Id : Type 0} {database : FileDatabase Id} {view_config : RichDiagnosti
         let followed : follows ≡ (has_any (drop (k + 1) ids) || has_notes) =
         follows_is ∙ ap (λ n. has_notes || nat_lt (k + 1) n) (sym (ids-count output_plan.snippet_plans.items)) ∙ sym (followed-at has_notes ids k) in
         run_as (or_failure-none snippet_lines_failure ∙ ap (λ (ls : List Lookup). first_error database.failure (lookups_of_file snippet_plan.file.now.file_id (Source ∷ ls))) is.lookups)
-        (sym (rows-two context (rows_in snippet_plan (database.file snippet_plan.file.now.file_id) snippet_lines) (trailing_empty_rows snippet_plan follows))
+        (sym (rows-two context (rows_of_snippet snippet_plan (database.file snippet_plan.file.now.file_id) snippet_lines) (empty_row_after_snippet snippet_plan follows))
         ∙ ap (stream_of_rows context) (rows-are is follows)
         ∙ ap (λ (b : Bool). stream_of_rows context (snippet (view_config_of view_config) (locus_view snippet_plan.locus) own ++ empty_row_after b own)) followed)
         both
@@ -243,37 +243,37 @@ module _ {Id : Type 0} {database : FileDatabase Id} {view_config : RichDiagnosti
     pub cut-in_snippet : {new : Sink} {e : Error}
         → WritesWithLookups snippet_lines_failure mid
         (stream_of_rows (context_by now)
-        (rows_in snippet_plan (database.file snippet_plan.file.now.file_id) snippet_lines))
+        (rows_of_snippet snippet_plan (database.file snippet_plan.file.now.file_id) snippet_lines))
         (Err e) new
         → WritesWithLookups all_failure old (stream_of_rows context all_rows) (Err e) new
     cut-in_snippet renders = left-cut (rendered-here (run_cut None end_stream (snippet-here renders)))
 
-    module _ {inner : Sink} (renders : WritesWithLookups snippet_lines_failure mid (stream_of_rows (context_by now) (rows_in snippet_plan (database.file snippet_plan.file.now.file_id) snippet_lines)) (Ok tt) inner)
+    module _ {inner : Sink} (renders : WritesWithLookups snippet_lines_failure mid (stream_of_rows (context_by now) (rows_of_snippet snippet_plan (database.file snippet_plan.file.now.file_id) snippet_lines)) (Ok tt) inner)
         {after : Config} (equal_after : after ≡ now) where
       -- then the row after it was rendered, by an equal configuration, however that ends
       end-here : {r : Result (Unit {0}) Error} {new : Sink}
           → Writes inner
-          (stream_of_rows (context_by after) (trailing_empty_rows snippet_plan follows)) r new
+          (stream_of_rows (context_by after) (empty_row_after_snippet snippet_plan follows)) r new
           → IfErr r IsIo
           → IsLookupRun (first_error database.failure lookups_here) mid
           (stream_of_rows context rows_here) r new
       end-here {r} {new} writes io =
           rendered-here (run_then (snippet-here renders)
           (run_of_writes r (write_at (λ (c : Config).
-          stream_of_rows (context_by c) (trailing_empty_rows snippet_plan follows)) (equal_after ∙ equal)
+          stream_of_rows (context_by c) (empty_row_after_snippet snippet_plan follows)) (equal_after ∙ equal)
           inner new r writes) io))
 
       -- it was written
       pub next-file : {new : Sink}
           → WroteStream inner
-          (stream_of_rows (context_by after) (trailing_empty_rows snippet_plan follows)) new
+          (stream_of_rows (context_by after) (empty_row_after_snippet snippet_plan follows)) new
           → SnippetsLeft database view_config output_plan renderer_config (k + 1) old new
       next-file written = left-next (end-here written tt)
 
       -- it was cut short
       pub cut-after_snippet : {new : Sink} {e : Error}
           → Writes inner
-          (stream_of_rows (context_by after) (trailing_empty_rows snippet_plan follows)) (Err
+          (stream_of_rows (context_by after) (empty_row_after_snippet snippet_plan follows)) (Err
           e) new
           → IsIo e
           → WritesWithLookups all_failure old (stream_of_rows context all_rows) (Err e) new

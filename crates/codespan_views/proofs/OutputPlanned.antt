@@ -6,7 +6,7 @@ use Rattle.codespan_core.specs.declared.term.config.Config.{Config}
 use Rattle.codespan_core.specs.FileModel.{FileDatabase, Lookup, or_failure}
 use Rattle.codespan_picture.specs.Lookups.{early_lookups, first_error, label_lookups}
 use Rattle.codespan_picture.specs.Snippets.{LabelInFile}
-use Rattle.codespan_views.specs.Private.CollectedLabels.{labels_failure}
+use Rattle.codespan_views.specs.Private.LabelsToCollect.{labels_failure}
 use Rattle.codespan_views.specs.Private.OutputPlans.{output_plan_lookups, padding_lookups, file_locus_lookups, output_plan_failure}
 use Rattle.codespan_views.proofs.FirstErrors.{first_error-append}
 

@@ -31,7 +31,7 @@ use Rattle.codespan_views.specs.Private.SnippetLineViews.{IsSnippetLineIn, numbe
 use Rattle.codespan_views.specs.Private.Loci.{loci_lookups}
 use Rattle.codespan_views.specs.Private.LocusBytes.{locus_byte}
 use Rattle.codespan_views.specs.Private.FileIndices.{IsIdAt}
-use Rattle.codespan_views.specs.Private.SnippetPlans.{ArePlansOfAnnotations, ArePlansOfCollected, IsPlanOfAnnotations, number_lookups, collected_plan_failure, line_digits, lines_at, padding_width}
+use Rattle.codespan_views.specs.Private.SnippetPlans.{ArePlansOfAnnotations, ArePlansOfCollected, IsPlanOfAnnotations, number_lookups, collected_plan_failure, line_digit_counts, lines_at, padding_width}
 use Rattle.codespan_views.specs.Private.SnippetLines.{SnippetLine, filled_lines_of, rows_of_lines, AreInOrder}
 use Rattle.codespan_views.proofs.FileTurns.{flat_map_indexed-same}
 use Rattle.codespan_views.proofs.SpannedPadding.{spanned-padding_width}
@@ -146,7 +146,7 @@ module _ {Id : Type 0} {database : FileDatabase Id} (lawful : AreFiles database)
 
     -- in the unbroken layout the digits of its numbers are those that the padding fits
     file-digits : config.layout ≡ Unbroken
-        → flat_map line_digits own ≡ digits_of (labeled f.file_id)
+        → flat_map line_digit_counts own ≡ digits_of (labeled f.file_id)
         (numbered_lines config (labeled f.file_id))
     file-digits unbroken =
         snippet_lines-digits (file f.file_id) own (subst (λ (layout : Layout). AllByRecursion (IsSnippetLineIn layout (file f.file_id)) own) unbroken is.each)
@@ -206,15 +206,15 @@ module _ {Id : Type 0} {database : FileDatabase Id} (lawful : AreFiles database)
       → AreAt k (ids_view fs)
       → AllByRecursion (HasLabels same file xs) fs
       → ArePlansOfAnnotations config.layout file es k fs snippet_plans snippet_lines
-      → flat_map line_digits snippet_lines ≡ flat_map
+      → flat_map line_digit_counts snippet_lines ≡ flat_map
       (λ id. digits_of (labeled id) (numbered_lines config (labeled id))) (ids_view fs)
-  digits-from unbroken k [] [] snippet_lines at known h = ap (flat_map line_digits) h
+  digits-from unbroken k [] [] snippet_lines at known h = ap (flat_map line_digit_counts) h
   digits-from unbroken k [] (snippet_plan ∷ snippet_plans) snippet_lines at known h = absurd h
   digits-from unbroken k (f ∷ fs) [] snippet_lines at known h = absurd h
   digits-from unbroken k (f ∷ fs) (snippet_plan ∷ snippet_plans) snippet_lines at known h =
       let own = take snippet_plan.line_total snippet_lines in
       let later = drop snippet_plan.line_total snippet_lines in
-      ap (flat_map line_digits) (sym (take-append-drop snippet_plan.line_total snippet_lines)) ∙ flat_map-append line_digits own later
+      ap (flat_map line_digit_counts) (sym (take-append-drop snippet_plan.line_total snippet_lines)) ∙ flat_map-append line_digit_counts own later
       ∙ (λ i. file-digits (are_at-here k f.file_id (ids_view fs) at) known.0 h.0 unbroken i
       ++ digits-from unbroken (k + 1) fs snippet_plans later
       (are_at-next k f.file_id (ids_view fs) at) known.1 h.1 i)
@@ -241,7 +241,7 @@ module _ {Id : Type 0} {database : FileDatabase Id} (lawful : AreFiles database)
 
       -- in the unbroken layout the snippet lines do
       rendered-padding : config.layout ≡ Unbroken → {padding : ℕ}
-          → padding ≡ fold max 0 (flat_map line_digits snippet_lines)
+          → padding ≡ fold max 0 (flat_map line_digit_counts snippet_lines)
           → padding ≡ padding_of config (labeled_file_models same file xs)
       rendered-padding unbroken is =
           is ∙ ap (fold max 0) (digits-from unbroken 0 collected.files.items snippet_plans snippet_lines ids_at all.files.labels_are found

@@ -9,7 +9,7 @@ use Rattle.codespan_picture.specs.Snippets.{empty_row_after, snippet, LabelInFil
 use Rattle.codespan_picture.specs.Rows.{EmptyRow, Row, SnippetStartRow}
 use Rattle.codespan_picture.specs.Arguments.{locus_view}
 use Rattle.codespan_views.specs.Private.OutputPlans.{ArePlansOfLabels, IsPlanOfLabels, ids_of, loci_of}
-use Rattle.codespan_views.specs.Private.SnippetRows.{trailing_empty_rows, rows_in}
+use Rattle.codespan_views.specs.Private.SnippetRows.{empty_row_after_snippet, rows_of_snippet}
 use Rattle.codespan_views.specs.Private.SnippetLineViews.{snippet_line_view}
 use Rattle.codespan_views.specs.Private.SnippetLines.{rows_of_lines}
 use Rattle.codespan_views.specs.declared.plan.snippet_plans.SnippetPlan.{SnippetPlan}
@@ -155,7 +155,7 @@ module _ {Id : Type 0} {config : Config} {own : LabeledFileModel} {snippet_plan 
   where
     -- its rows
     pub rows-are : (followed : Bool)
-        → rows_in snippet_plan own.file snippet_lines ++ trailing_empty_rows snippet_plan
+        → rows_of_snippet snippet_plan own.file snippet_lines ++ empty_row_after_snippet snippet_plan
         followed ≡ snippet config (locus_view snippet_plan.locus) own ++ empty_row_after followed own
     rows-are followed =
         (λ i.

@@ -19,7 +19,7 @@ use Rattle.codespan_views.specs.declared.plan.snippet_plans.SnippetPlan.{Snippet
 use Rattle.codespan_views.specs.declared.plan.snippet_lines.SnippetLine.{SnippetLine as RustLine}
 use Rattle.codespan_views.specs.Private.Annotations.{Annotation}
 use Rattle.codespan_views.specs.Private.AnnotationViews.{annotation_view}
-use Rattle.codespan_views.specs.Private.SnippetLineViews.{AddsLines, numbers_looked_up}
+use Rattle.codespan_views.specs.Private.SnippetLineViews.{AppendsSnippetLines, numbers_looked_up}
 use Rattle.codespan_views.specs.Private.LabeledFiles.{ids_view}
 use Rattle.codespan_views.specs.Private.Loci.{locus_lookups_of, loci_lookups, locus_start_of}
 use Rattle.codespan_views.specs.Private.TextLoci.{IsTextLocus}
@@ -35,7 +35,7 @@ use Rattle.codespan_views.proofs.FileTurns.{flat_map_indexed-append, flat_map_in
 -- a number of snippet lines were added
 added-count : {Id : Type 0} {layout : Layout} {f : FileModel} {old new : List (RustLine Id)}
     {snippet_lines : List SnippetLine}
-    → (added : AddsLines layout f old new snippet_lines)
+    → (added : AppendsSnippetLines layout f old new snippet_lines)
     → length new - length old ≡ length added.more
 added-count {old = old} added = let whole = ap length added.whole in
     omega (arith, whole, length-append old added.more)
@@ -45,7 +45,7 @@ pub plan_found : {Id : Type 0} {files : List (RustFile Id)} {xs zs : List (RustA
     {at n k : ℕ} {f : RustFile Id} (turn : IsAtFile files xs at n k f) {layout : Layout}
     {file : Id → FileModel}
     {old new : List (RustLine Id)}
-    (added : AddsLines layout (file f.file_id) old new
+    (added : AppendsSnippetLines layout (file f.file_id) old new
     (lines_of (map annotation_view (next_slice zs at n))))
     → zs
     ≡ xs

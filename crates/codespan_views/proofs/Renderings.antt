@@ -24,7 +24,7 @@ use Rattle.codespan_views.proofs.OutputLoci.{file_loci, file_texts}
 use Rattle.codespan_picture.proofs.Loci.{stated_are_loci}
 use Rattle.codespan_views.specs.Private.LookupsWhileRendering.{WroteStream}
 use Rattle.codespan_core.proofs.Chains.{written-then, failed-then}
-use Rattle.codespan_views.proofs.Failures.{some_fails}
+use Rattle.codespan_views.proofs.EmitErrors.{some_fails}
 use Rattle.codespan_views.proofs.FirstErrors.{first_error-some, first_error-none, all_succeed}
 
 -- nothing has been written, which is a prefix of everything

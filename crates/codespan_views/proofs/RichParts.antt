@@ -19,7 +19,7 @@ use Rattle.codespan_core.proofs.Writes.{PrefixWritten-first, PrefixWritten-last,
 use Rattle.codespan_views.specs.declared.plan.OutputPlan.{OutputPlan}
 use Rattle.codespan_views.specs.declared.plan.snippet_plans.SnippetPlan.{SnippetPlan}
 use Rattle.codespan_views.specs.declared.plan.snippet_lines.SnippetLine.{SnippetLine as RustLine}
-use Rattle.codespan_views.specs.Private.CollectedLabels.{labels_failure}
+use Rattle.codespan_views.specs.Private.LabelsToCollect.{labels_failure}
 use Rattle.codespan_views.specs.Private.LookupsWhileRendering.{WroteStream, WrotePrefix, FailedWithLookups, WritesWithLookups}
 use Rattle.codespan_views.specs.Private.OutputPlans.{ArePlansOfLabels, IsOutputPlan, ids_of, loci_of, output_plan_failure}
 use Rattle.codespan_views.specs.WriteCalls.{WritesOutput}

@@ -11,7 +11,7 @@ use Rattle.codespan_views.proofs.AnnotationOrder.{range_rises}
 
 -- the annotation is of this line of this file
 abbrev pub IsOn : ℕ → ℕ → Annotation → Type 0
-IsOn f l e = (e.file ≡ f) × (e.line ≡ l)
+IsOn f l e = (e.file_index ≡ f) × (e.line ≡ l)
 
 -- the labels inside a line, of annotations in order, are in the order of their ranges
 pub single_labels-ascend : (f l : ℕ) (es : List Annotation) → AllByRecursion (IsOn f l) es

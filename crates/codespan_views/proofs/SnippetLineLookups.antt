@@ -14,7 +14,7 @@ use Rattle.codespan_views.specs.declared.plan.snippet_lines.SnippetLine.{Snippet
 use Rattle.codespan_views.specs.declared.plan.snippet_lines.SnippetLine.TheVariants as rust
 use Rattle.codespan_views.specs.Private.SnippetLineViews.{IsSnippetLineIn, IsSnippetLineOf, lookups_of_line, lookups_of_lines, snippet_line_view}
 use Rattle.codespan_views.specs.Private.SourceFiles.{lookups_of_filled}
-use Rattle.codespan_views.specs.Private.SnippetPlans.{line_digits}
+use Rattle.codespan_views.specs.Private.SnippetPlans.{line_digit_counts}
 use Rattle.codespan_views.specs.Private.SnippetLines.{filled_line_of, filled_lines_of}
 use Rattle.codespan_views.proofs.SnippetLineRows.{line_of_snippet_line, lines_of_snippet_lines}
 
@@ -43,12 +43,12 @@ snippet_line-lookups layout f (rust.Break next) is = refl
 
 -- in the unbroken layout the digits of its number are those of its line's
 snippet_line-digits : {Id : Type 0} (f : FileModel) (g : RustLine Id) → IsSnippetLineIn Unbroken f g
-    → line_digits g ≡ map (λ l. count_digits (f.line_number l))
+    → line_digit_counts g ≡ map (λ l. count_digits (f.line_number l))
     (line_of_snippet_line (snippet_line_view g))
 snippet_line-digits f (rust.Labeled line annotations) is =
     ap (λ n. count_digits n ∷ []) is.number_is
 snippet_line-digits {Id} f (rust.Filled index number annotations) is =
-    ap (λ (o : Option ℕ). line_digits {Id = Id} (rust.Filled index o annotations)) is
+    ap (λ (o : Option ℕ). line_digit_counts {Id = Id} (rust.Filled index o annotations)) is
 snippet_line-digits f (rust.Break next) is = refl
 
 -- ---- snippet lines
@@ -76,7 +76,7 @@ snippet_lines-lookups layout f (g ∷ gs) h =
 -- in the unbroken layout the digits of their numbers are those of their lines'
 pub snippet_lines-digits : {Id : Type 0} (f : FileModel) (gs : List (RustLine Id))
     → AllByRecursion (IsSnippetLineIn Unbroken f) gs
-    → flat_map line_digits gs ≡ map (λ l. count_digits (f.line_number l))
+    → flat_map line_digit_counts gs ≡ map (λ l. count_digits (f.line_number l))
     (lines_of_snippet_lines (map snippet_line_view gs))
 snippet_lines-digits f [] h = refl
 snippet_lines-digits f (g ∷ gs) h =

@@ -13,7 +13,7 @@ use Rattle.codespan_views.specs.declared.snippet.lines.SnippetContext.{SnippetCo
 use Rattle.codespan_views.specs.declared.plan.snippet_plans.SnippetPlan.{SnippetPlan}
 use Rattle.codespan_views.specs.declared.plan.snippet_lines.SnippetLine.{SnippetLine}
 use Rattle.codespan_views.specs.Private.LookupsWhileRendering.{WroteStream, WritesWithLookups}
-use Rattle.codespan_views.specs.Private.SnippetRows.{start_rows}
+use Rattle.codespan_views.specs.Private.SnippetRows.{first_rows}
 use Rattle.codespan_views.specs.Private.SnippetLineViews.{lookups_of_lines, snippet_line_view}
 use Rattle.codespan_views.specs.Private.SnippetLines.{rows_of_lines}
 use Rattle.codespan_picture.specs.Lookups.{lookups_of_file, first_error}
@@ -66,7 +66,7 @@ module _ {F Id : Type 0} {database : F → FileDatabase Id} {context : SnippetCo
 
   -- the streams of its first rows, and of its lines
   abbrev at_start : Stream
-  at_start = stream (start_rows snippet_plan)
+  at_start = stream (first_rows snippet_plan)
 
   abbrev in_lines : Stream
   in_lines = stream line_rows
@@ -77,7 +77,7 @@ module _ {F Id : Type 0} {database : F → FileDatabase Id} {context : SnippetCo
       WritesWithLookups
       (or_failure ((database context.files.now).failure snippet_plan.file.now.file_id Source)
       (lookups_failure own))
-      s (stream (start_rows snippet_plan ++ line_rows)) r t
+      s (stream (first_rows snippet_plan ++ line_rows)) r t
 
   -- a call renders its lines, and makes their lookups
   abbrev RendersItsLines : Sink → Result (Unit {0}) Error → Sink → Type 0
@@ -88,7 +88,7 @@ module _ {F Id : Type 0} {database : F → FileDatabase Id} {context : SnippetCo
       → IsLookupRun (lookups_failure own) s (at_start ++ in_lines) r t → RendersWhole s r t
   whole-rendered parts =
       (run_after opened.succeeded
-      (run_as refl (sym (rows-two (context_by config) (start_rows snippet_plan) line_rows))
+      (run_as refl (sym (rows-two (context_by config) (first_rows snippet_plan) line_rows))
       parts)).renders
 
   -- the lines were rendered, by an equal configuration

@@ -14,7 +14,7 @@ use Rattle.codespan_core.specs.Labels.{LabelModel}
 use Rattle.codespan_picture.specs.Padding.{count_digits, digits_of, numbered_lines, padding_of, spanned_lines, spans}
 use Rattle.codespan_picture.specs.Snippets.{LabelInFile, LabeledFileModel, labeled_file_model, labeled_file_models, file_ids}
 use Rattle.codespan_views.specs.Private.FileIndices.{IsIdAt, index_of_file}
-use Rattle.codespan_views.specs.Private.SpannedDigits.{all_digits, digits_on, label_digits}
+use Rattle.codespan_views.specs.Private.SpannedDigitCounts.{all_digit_counts, digit_count_if_spanned, label_digit_counts}
 use Rattle.codespan_picture.proofs.Greatest.{greatest-any, greatest-append, greatest-same}
 use Rattle.codespan_picture.proofs.PaddingLemmas.{contains-filter, contains-range, numbered-fits}
 use Rattle.codespan_picture.proofs.RefillLemmas.{any-map}
@@ -76,11 +76,11 @@ module _ (f : FileModel) (x : LabelModel) where
   -- where each number fits the padding, all do
   digits-fit : (m n a : ℕ)
       → ((l : ℕ) → l < a + n → spans f x l ≡ true → count_digits (f.line_number l) ≤ m)
-      → AllByRecursion (λ d. d ≤ m) (flat_map (digits_on f x) (range_with_len a n))
+      → AllByRecursion (λ d. d ≤ m) (flat_map (digit_count_if_spanned f x) (range_with_len a n))
   digits-fit m zero a h = tt
   digits-fit m (suc n) a h =
-      all-append (λ d. d ≤ m) (digits_on f x a)
-      (flat_map (digits_on f x) (range_with_len (a + 1) n))
+      all-append (λ d. d ≤ m) (digit_count_if_spanned f x a)
+      (flat_map (digit_count_if_spanned f x) (range_with_len (a + 1) n))
       (here (spans f x a) (h a (omega arith)))
       (digits-fit m n (a + 1) (λ l k. h l (omega arith)))
     where
@@ -91,23 +91,23 @@ module _ (f : FileModel) (x : LabelModel) where
 
   -- the number of a line that is spanned is counted
   line-counted : (l n a : ℕ) → a ≤ l → l < a + n → spans f x l ≡ true
-      → count_digits (f.line_number l) ≤ fold max 0 (flat_map (digits_on f x) (range_with_len a n))
+      → count_digits (f.line_number l) ≤ fold max 0 (flat_map (digit_count_if_spanned f x) (range_with_len a n))
   line-counted l zero a low high t = absurd (omega arith)
   line-counted l (suc n) a low high t =
       ⊎_elim
-      (λ (e : a ≡ l). in-first (count_digits (f.line_number l)) (digits_on f x a)
-      (flat_map (digits_on f x) (range_with_len (a + 1) n)) (here a e))
-      (λ (ne : a ≡ l → ⊥). in-second (count_digits (f.line_number l)) (digits_on f x a)
-      (flat_map (digits_on f x) (range_with_len (a + 1) n))
+      (λ (e : a ≡ l). in-first (count_digits (f.line_number l)) (digit_count_if_spanned f x a)
+      (flat_map (digit_count_if_spanned f x) (range_with_len (a + 1) n)) (here a e))
+      (λ (ne : a ≡ l → ⊥). in-second (count_digits (f.line_number l)) (digit_count_if_spanned f x a)
+      (flat_map (digit_count_if_spanned f x) (range_with_len (a + 1) n))
       (line-counted l n (a + 1) (omega arith) (omega arith) t))
       (cases_eq a l)
     where
-      here : (k : ℕ) → k ≡ l → count_digits (f.line_number l) ≤ fold max 0 (digits_on f x k)
+      here : (k : ℕ) → k ≡ l → count_digits (f.line_number l) ≤ fold max 0 (digit_count_if_spanned f x k)
       here k e =
-          let one : fold max 0 (digits_on f x l) ≡ max 0 (count_digits (f.line_number l)) =
+          let one : fold max 0 (digit_count_if_spanned f x l) ≡ max 0 (count_digits (f.line_number l)) =
           ap (λ (b : Bool). fold max 0 (if b then count_digits (f.line_number l) ∷ [] else []))
           t in
-          subst (λ i. count_digits (f.line_number l) ≤ fold max 0 (digits_on f x i)) (sym e)
+          subst (λ i. count_digits (f.line_number l) ≤ fold max 0 (digit_count_if_spanned f x i)) (sym e)
           (omega (arith, one))
 
 -- ---- all labels
@@ -171,13 +171,13 @@ module _ {Id : Type 0} (same : Id → Id → Bool) (file : Id → FileModel) (o 
       (contains-range 0 (line_count (file id)) l (omega arith) (omega (arith, count))))))
 
   -- so have those of all lines of labels
-  labels-fit : AllByRecursion (λ n. n ≤ padding_width) (all_digits file xs)
+  labels-fit : AllByRecursion (λ n. n ≤ padding_width) (all_digit_counts file xs)
   labels-fit =
       all-elements (λ n. n ≤ padding_width)
-      (λ (x : LabelInFile Id). label_digits (file x.file_id) x.label) xs
+      (λ (x : LabelInFile Id). label_digit_counts (file x.file_id) x.label) xs
       (recursion_from_All
       (λ (x : LabelInFile Id). AllByRecursion (λ n. n ≤ padding_width)
-      (label_digits (file x.file_id) x.label))
+      (label_digit_counts (file x.file_id) x.label))
       xs
       (λ k d inside. digits-fit (file (get_or xs k d).file_id) (get_or xs k d).label padding_width
       (line_count (file (get_or xs k d).file_id)) 0
@@ -186,21 +186,21 @@ module _ {Id : Type 0} (same : Id → Id → Bool) (file : Id → FileModel) (o 
   -- the number of a line that some label of the file spans is counted
   some-counted : (id : Id) (l : ℕ) → l < line_count (file id) → (ys : List (LabelInFile Id))
       → list_any (λ (x : LabelInFile Id). same id x.file_id && spans (file id) x.label l) ys ≡ true
-      → count_digits ((file id).line_number l) ≤ fold max 0 (all_digits file ys)
+      → count_digits ((file id).line_number l) ≤ fold max 0 (all_digit_counts file ys)
   some-counted id l low [] any = absurd (true≢false (sym any))
   some-counted id l low (y ∷ ys) any =
       ⊎_elim
       (λ (t : (same id y.file_id && spans (file id) y.label l) ≡ true).
       let parts = and_parts (same id y.file_id) (spans (file id) y.label l) t in
-      in-first (count_digits ((file id).line_number l)) (label_digits (file y.file_id) y.label)
-      (all_digits file ys)
-      (subst (λ m. count_digits ((file id).line_number l) ≤ fold max 0 (label_digits m y.label))
+      in-first (count_digits ((file id).line_number l)) (label_digit_counts (file y.file_id) y.label)
+      (all_digit_counts file ys)
+      (subst (λ m. count_digits ((file id).line_number l) ≤ fold max 0 (label_digit_counts m y.label))
       (one_file id y.file_id parts.0)
       (line-counted (file id) y.label l (line_count (file id)) 0 (omega arith) (omega (arith, low))
       parts.1)))
       (λ (t : (same id y.file_id && spans (file id) y.label l) ≡ false).
-      in-second (count_digits ((file id).line_number l)) (label_digits (file y.file_id) y.label)
-      (all_digits file ys)
+      in-second (count_digits ((file id).line_number l)) (label_digit_counts (file y.file_id) y.label)
+      (all_digit_counts file ys)
       (some-counted id l low ys
       (sym
       (ap
@@ -211,30 +211,30 @@ module _ {Id : Type 0} (same : Id → Id → Bool) (file : Id → FileModel) (o 
       (cases_Bool (same id y.file_id && spans (file id) y.label l))
 
   -- so is that of each spanned line of the output
-  lines-counted : AllByRecursion (λ n. n ≤ fold max 0 (all_digits file xs))
+  lines-counted : AllByRecursion (λ n. n ≤ fold max 0 (all_digit_counts file xs))
       (flat_map (λ (s : LabeledFileModel). digits_of s (numbered_lines config s))
       (labeled_file_models same file xs))
   lines-counted =
-      subst (AllByRecursion (λ n. n ≤ fold max 0 (all_digits file xs)))
+      subst (AllByRecursion (λ n. n ≤ fold max 0 (all_digit_counts file xs)))
       (sym
       (flat_map-map (λ (s : LabeledFileModel). digits_of s (numbered_lines config s)) labeled
       ids))
-      (all-ids (λ n. n ≤ fold max 0 (all_digits file xs))
+      (all-ids (λ n. n ≤ fold max 0 (all_digit_counts file xs))
       (λ id. digits_of (labeled id) (numbered_lines config (labeled id))) ids
       (λ f id at. subst
-      (λ ls. AllByRecursion (λ n. n ≤ fold max 0 (all_digits file xs))
+      (λ ls. AllByRecursion (λ n. n ≤ fold max 0 (all_digit_counts file xs))
       (digits_of (labeled id) ls))
       (sym (numbered-spanned (labeled id)))
-      (all-lines (λ n. n ≤ fold max 0 (all_digits file xs))
+      (all-lines (λ n. n ≤ fold max 0 (all_digit_counts file xs))
       (λ l. count_digits ((file id).line_number l))
       (λ l. list_any (λ x. spans (file id) x l) (labeled id).labels)
       (line_count (file id)) 0
       (λ l low t. some-counted id l (omega (arith, low)) xs (sym (spans-any id l) ∙ t)))))
 
   -- the greatest digit count of the lines of labels is the padding
-  pub spanned-padding_width : fold max 0 (all_digits file xs) ≡ padding_width
+  pub spanned-padding_width : fold max 0 (all_digit_counts file xs) ≡ padding_width
   spanned-padding_width =
-      greatest-same (all_digits file xs)
+      greatest-same (all_digit_counts file xs)
       (flat_map (λ (s : LabeledFileModel). digits_of s (numbered_lines config s))
       (labeled_file_models same file xs))
       labels-fit lines-counted

@@ -1,5 +1,5 @@
 -- the calls that render a diagnostic
-pub mod Failures
+pub mod EmitErrors
 pub mod Output
 pub mod WriteCalls
 pub mod Views

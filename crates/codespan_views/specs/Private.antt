@@ -12,8 +12,8 @@ pub mod Annotations
 pub mod AnnotationViews
 -- what is collected of labels
 pub mod LabelAnnotations
-pub mod SpannedDigits
-pub mod CollectedLabels
+pub mod SpannedDigitCounts
+pub mod LabelsToCollect
 pub mod IndexedLabels
 pub mod Collections
 -- what is planned of that

@@ -1,5 +1,5 @@
 -- What the calls that write a diagnostic do: those that write plain text, and those that write to a
--- writer of styles. `Failures` says what an error means.
+-- writer of styles. `EmitErrors` says what an error means.
 use Rattle.std.specs.Prelude.{◌≡◌, true, ℕ, List, Option, Result, MatchResult}
 use Rattle.codespan_picture.specs.Types.{Diagnostic, Error, Config, DisplayStyle, Rich}
 use Rattle.codespan_core.specs.FileModel.{FileDatabase}
@@ -9,7 +9,7 @@ use Rattle.codespan_picture.specs.RichLaws.{MeansLabels}
 use Rattle.codespan_picture.specs.OutputStreams.{AreLoci, output}
 use Rattle.codespan_picture.specs.Picture.{headers_at}
 use Rattle.codespan_picture.specs.Rows.{Locus}
-use Rattle.codespan_views.specs.Failures.{FailsAs}
+use Rattle.codespan_views.specs.EmitErrors.{FailsAs}
 use Rattle.codespan_views.specs.Output.{Succeeds, text_at}
 
 module _ {Id : Type 0} (config : Config) (files : FileDatabase Id) (d : Diagnostic Id) where
@@ -24,7 +24,8 @@ module _ {Id : Type 0} (config : Config) (files : FileDatabase Id) (d : Diagnost
     pub on_end : MatchResult r (λ _. Succeeds config files d config.display_style loci)
         (λ e. FailsAs config files d loci
         (new ≡ old)
-        (λ wrote. are_known old ≡ true → new ≡ extended old (text_of (headers_at config d wrote)))
+        (λ written_loci. are_known old ≡ true
+        → new ≡ extended old (text_of (headers_at config d written_loci)))
         e config.display_style (Unit {0}) (Unit {0}))
     pub means : config.display_style ≡ Rich → MeansLabels config config files d
 
@@ -42,7 +43,8 @@ module _ {Id : Type 0} (style : DisplayStyle) (renderer_config view_config : Con
         (λ _. (new.frame ≡ old.frame) × Succeeds view_config files d style loci)
         (λ e. FailsAs view_config files d loci
         (new ≡ old)
-        (λ wrote. is_known old ≡ true → new ≡ with_written old (headers_at renderer_config d wrote))
+        (λ written_loci. is_known old ≡ true
+        → new ≡ with_written old (headers_at renderer_config d written_loci))
         e style (new.frame ≡ failed_frame old.frame) (new.frame ≡ old.frame))
 
   -- the call writes the output, and whatever the result, in rich style the output means the labels

@@ -5,7 +5,7 @@ ghost use Rattle.std.specs.Option.{option_map};
 ghost use Rattle.codespan_core.specs.Labels.{from_line_start};
 ghost use Rattle.codespan_picture.specs.Arguments.{multi_label_view};
 ghost use Rattle.codespan_picture.specs.OutputStreams.{label_of};
-ghost use Rattle.codespan_views.specs.Private.AnnotationViews.{Adds, kind_view, multi_label_from};
+ghost use Rattle.codespan_views.specs.Private.AnnotationViews.{AppendsAnnotations, kind_view, multi_label_from};
 ghost use Rattle.codespan_views.specs.Private.Annotations.{annotation_if_any};
 
 use codespan_core::diagnostic::Label;
@@ -82,7 +82,7 @@ impl<FileId> Copy for AnnotationKind<'_, FileId> {}
 /// An annotation of a line.
 pub struct Annotation<'d, FileId> {
     /// The file's index among those of the output, 0-based.
-    pub file: usize,
+    pub file_index: usize,
     /// The line.
     pub line: LineInfo,
     /// What a label does on it.
@@ -107,18 +107,22 @@ impl<FileId> Copy for Annotation<'_, FileId> {}
 ///
 /// `OutOfMemory`: an allocation fails.
 pub fn push_annotation<'d, FileId>(
-    file: usize,
+    file_index: usize,
     line: LineInfo,
     kind: Option<AnnotationKind<'d, FileId>>,
     annotations: &mut Vec<Annotation<'d, FileId>>,
 ) -> Result<(), Error>
     ensures added { OnOk result
-        (Adds (λ e. e.line ≡ line) annotations.old.items annotations.new.items
-        (annotation_if_any file line.index (option_map (kind_view line.start) kind.entry))) }
+        (AppendsAnnotations (λ e. e.line ≡ line) annotations.old.items annotations.new.items
+        (annotation_if_any file_index line.index (option_map (kind_view line.start) kind.entry))) }
     ensures failed { OnErr result (IsErrOf result Error.OutOfMemory) }
 {
     if let Some(kind) = kind {
-        annotations.push(Annotation { file, line, kind })?;
+        annotations.push(Annotation {
+            file_index,
+            line,
+            kind,
+        })?;
     }
     Ok(())
 }

@@ -3,8 +3,8 @@
 ghost use Rattle.std.specs.Prelude.{◌≡◌, map, IfOk};
 ghost use Rattle.codespan_core.specs.LawfulFiles.{FailsBy};
 ghost use Rattle.codespan_picture.specs.OutputStreams.{label_of};
-ghost use Rattle.codespan_views.specs.Private.CollectedLabels.{labels_failure};
-ghost use Rattle.codespan_views.specs.Private.Collections.{IsCollected, IsCollectedInTurn};
+ghost use Rattle.codespan_views.specs.Private.LabelsToCollect.{labels_failure};
+ghost use Rattle.codespan_views.specs.Private.Collections.{IsCollected, IsCollectedUnsorted};
 
 use crate::annotation::Annotation;
 use crate::annotation::order::put_in_order;
@@ -52,7 +52,7 @@ pub fn collect<'files, 'd, F: Files<'files>>(
     ensures failed { FailsBy (labels_failure config.now (F.database files.now)
         (map label_of labels.now)) result }
 {
-    let mut collected = collect_in_turn(alloc, files, config, labels)?;
+    let mut collected = collect_unsorted(alloc, files, config, labels)?;
     let lines = collected.first_file_span.with_context_lines(config);
     let has_one_file = collected.files.len() == 1;
     put_in_order(&mut collected.annotations, has_one_file.then_some(lines))?;
@@ -64,44 +64,48 @@ pub fn collect<'files, 'd, F: Files<'files>>(
 /// # Errors
 ///
 /// As [`collect`].
-fn collect_in_turn<'files, 'd, F: Files<'files>>(
+fn collect_unsorted<'files, 'd, F: Files<'files>>(
     alloc: Global,
     files: &'files F,
     config: &Config<'_>,
     labels: &'d [Label<F::FileId>],
 ) -> Result<Collected<'d, F::FileId>, Error>
     ensures labels { IfOk result (λ collected. collected.labels.now ≡ labels.now) }
-    ensures collected { IfOk result (IsCollectedInTurn (F.database files.now) config.now
+    ensures collected { IfOk result (IsCollectedUnsorted (F.database files.now) config.now
         (map label_of labels.now)) }
     ensures failed { FailsBy (labels_failure config.now (F.database files.now)
         (map label_of labels.now)) result }
 {
-    let mut labeled = Vec::new(alloc);
+    let mut labeled_files = Vec::new(alloc);
     let mut found = FoundAnnotations {
         annotations: Vec::with_capacity(alloc, labels.len())?,
-        spanned_padding: PaddingWidth::with_digits(0),
+        spanned_padding: PaddingWidth::with_digit_count(0),
     };
     let mut previous = 0;
-    let mut spanned = LabelSpan {
+    let mut joined_span = LabelSpan {
         first: usize::MAX,
         last: 0,
     };
     for (index, label) in labels.iter().enumerate() {
-        let file = get_or_insert_file(&mut labeled, previous, label.file_id)?;
-        let lane = labeled[file].num_multi_labels;
-        let indices = LabelIndices { file, index, lane };
+        let file_index = get_or_insert_file(&mut labeled_files, previous, label.file_id)?;
+        let lane = labeled_files[file_index].num_multi_labels;
+        let indices = LabelIndices {
+            file_index,
+            index,
+            lane,
+        };
         let span = collect_label(files, config, indices, label, &mut found)?;
-        add_label(&mut labeled, file, label, span);
-        previous = file;
-        if file == 0 {
-            spanned = spanned.join(span);
+        add_label(&mut labeled_files, file_index, label, span);
+        previous = file_index;
+        if file_index == 0 {
+            joined_span = joined_span.join(span);
         }
     }
     Ok(Collected {
         labels,
-        files: labeled,
+        files: labeled_files,
         annotations: found.annotations,
-        spanned_padding: found.spanned_padding.digits,
-        first_file_span: spanned,
+        spanned_padding: found.spanned_padding.digit_count,
+        first_file_span: joined_span,
     })
 }

@@ -3,7 +3,7 @@
 ghost use Rattle.std.specs.Prelude.{◌≡◌, ◌≢◌, true, None, IfErr, IfOk, OnOk, OnErr, IsErrOf};
 ghost use Rattle.std.specs.Option.{option_map};
 ghost use Rattle.codespan_core.specs.LawfulFiles.{FailsBy};
-ghost use Rattle.codespan_views.specs.Private.CollectedLabels.{AddsLine, FindsLine, FindsLines, HasLineLookedUp, IfEnded, IfContinues, ExtendsPadding, ExtendsPaddingForLine, FailsLine, HasLabelLines, label_of_collector, collected_label, label_failure, lines_failure, failure_on, lane_mark_by, kind_by};
+ghost use Rattle.codespan_views.specs.Private.LabelsToCollect.{AppendsLineAnnotations, FindsLineAnnotations, FindsLabelAnnotations, HasLineIfLookedUp, IfEnded, IfContinues, WidensPadding, WidensPaddingForLine, FailsAtLine, HasLabelLines, label_of_collector, label_to_collect, label_failure, lines_failure, failure_if_looked_up, lane_mark_by_collector, kind_by_collector};
 ghost use Rattle.codespan_views.specs.Private.SourceFiles.{EndsBefore, model_of};
 ghost use Rattle.codespan_views.specs.Private.AnnotationViews.{IsLineOf, kind_view};
 ghost use Rattle.codespan_views.specs.Private.LabelSpans.{IsFarInside, line_of_end, line_of_start};
@@ -20,7 +20,7 @@ use codespan_core::term::Config;
 #[derive(Clone, Copy)]
 pub struct LabelIndices {
     /// The index of its file among those of the output.
-    pub file: usize,
+    pub file_index: usize,
     /// Its index in the diagnostic's list of labels.
     pub index: usize,
     /// The number of the file's multi-line labels before it: its lane, if it is one.
@@ -55,7 +55,7 @@ impl<'a, 'c, 'd, 'files, F: Files<'files>> LabelCollector<'a, 'c, 'd, 'files, F>
     /// Returns what the label does on a line, its lane mark aside: it is a single-line label on it,
     /// or makes it shown, or neither.
     fn kind_on_line(&self, line: LineInfo) -> Option<AnnotationKind<'d, F::FileId>>
-        ensures { option_map (kind_view line.start) result ≡ kind_by self.now line }
+        ensures { option_map (kind_view line.start) result ≡ kind_by_collector self.now line }
     {
         if self.span.is_single() && self.span.first == line.index {
             Some(AnnotationKind::Single {
@@ -71,7 +71,7 @@ impl<'a, 'c, 'd, 'files, F: Files<'files>> LabelCollector<'a, 'c, 'd, 'files, F>
 
     /// Returns the label's lane mark on a line, if it is a multi-line label that has one.
     fn lane_mark_on_line(&self, line: LineInfo) -> Option<AnnotationKind<'d, F::FileId>>
-        ensures { option_map (kind_view line.start) result ≡ lane_mark_by self.now line }
+        ensures { option_map (kind_view line.start) result ≡ lane_mark_by_collector self.now line }
     {
         match self.span.multi_label_kind(line.index) {
             None => None,
@@ -103,7 +103,7 @@ impl<'a, 'c, 'd, 'files, F: Files<'files>> LabelCollector<'a, 'c, 'd, 'files, F>
             line.index }
         requires lines { HasLabelLines F.database self.now }
         requires line { IsLineOf (model_of F.database self.now.file) line }
-        ensures added { OnOk result (AddsLine (label_of_collector F.database self.now)
+        ensures added { OnOk result (AppendsLineAnnotations (label_of_collector F.database self.now)
             annotations.old.items annotations.new.items line.index) }
         ensures failed { OnErr result (IsErrOf result Error.OutOfMemory) }
     {
@@ -112,7 +112,7 @@ impl<'a, 'c, 'd, 'files, F: Files<'files>> LabelCollector<'a, 'c, 'd, 'files, F>
             lane: self.indices.lane,
             label: self.label,
         };
-        push_annotation(self.indices.file, line, Some(kind), annotations)?;
+        push_annotation(self.indices.file_index, line, Some(kind), annotations)?;
         Ok(())
     }
 
@@ -137,16 +137,16 @@ impl<'a, 'c, 'd, 'files, F: Files<'files>> LabelCollector<'a, 'c, 'd, 'files, F>
             self.now.span.last line.index }
         requires lines { HasLabelLines F.database self.now }
         requires line { IsLineOf (model_of F.database self.now.file) line }
-        ensures added { OnOk result (AddsLine (label_of_collector F.database self.now)
+        ensures added { OnOk result (AppendsLineAnnotations (label_of_collector F.database self.now)
             annotations.old.items annotations.new.items line.index) }
         ensures failed { OnErr result (IsErrOf result Error.OutOfMemory) }
     {
         if is_far {
             return self.push_far_line(line, annotations);
         }
-        let file = self.indices.file;
-        push_annotation(file, line, self.kind_on_line(line), annotations)?;
-        push_annotation(file, line, self.lane_mark_on_line(line), annotations)?;
+        let file_index = self.indices.file_index;
+        push_annotation(file_index, line, self.kind_on_line(line), annotations)?;
+        push_annotation(file_index, line, self.lane_mark_on_line(line), annotations)?;
         Ok(())
     }
 
@@ -174,17 +174,17 @@ impl<'a, 'c, 'd, 'files, F: Files<'files>> LabelCollector<'a, 'c, 'd, 'files, F>
             self.now.span.last index }
         requires lines { HasLabelLines F.database self.now }
         ensures inside { IfContinues result
-            (HasLineLookedUp (label_of_collector F.database self.now) index) }
-        ensures added { IfContinues result
-            (FindsLine (label_of_collector F.database self.now) found.old found.new index) }
-        ensures padding { IfContinues result (ExtendsPaddingForLine
+            (HasLineIfLookedUp (label_of_collector F.database self.now) index) }
+        ensures added { IfContinues result (FindsLineAnnotations
+            (label_of_collector F.database self.now) found.old found.new index) }
+        ensures padding { IfContinues result (WidensPaddingForLine
             (label_of_collector F.database self.now) found.old found.new index) }
         ensures succeeded { IfContinues result
-            (failure_on (label_of_collector F.database self.now) index ≡ None) }
+            (failure_if_looked_up (label_of_collector F.database self.now) index ≡ None) }
         ensures ended { IfEnded result ((found.new ≡ found.old)
             × EndsBefore F.database self.now.file index) }
         ensures failed { IfErr result (λ e. e ≢ Error.OutOfMemory
-            → FailsLine F.database self.now index e) }
+            → FailsAtLine F.database self.now index e) }
     {
         let is_spanned = is_far || self.span.spans(index);
         if !is_spanned && !self.span.is_around(self.config, index) {
@@ -213,9 +213,9 @@ impl<'a, 'c, 'd, 'files, F: Files<'files>> LabelCollector<'a, 'c, 'd, 'files, F>
     fn collect_lines(&self, found: &mut FoundAnnotations<'d, F::FileId>) -> Result<(), Error>
         requires { HasLabelLines F.database self.now }
         ensures added { OnOk result
-            (FindsLines (label_of_collector F.database self.now) found.old found.new) }
+            (FindsLabelAnnotations (label_of_collector F.database self.now) found.old found.new) }
         ensures padding { OnOk result
-            (ExtendsPadding (label_of_collector F.database self.now) found.old found.new) }
+            (WidensPadding (label_of_collector F.database self.now) found.old found.new) }
         ensures failed { FailsBy (lines_failure (label_of_collector F.database self.now)) result }
     {
         let span = self.span;
@@ -249,12 +249,14 @@ pub fn collect_label<'files, 'd, F: Files<'files>>(
         ≡ line_of_start (F.database files.now).file label.now) }
     ensures last { IfOk result (λ span. span.last
         ≡ line_of_end (F.database files.now).file label.now) }
-    ensures added { OnOk result (FindsLines
-        (collected_label (F.database files.now) config.now indices label.now) found.old found.new) }
-    ensures padding { OnOk result (ExtendsPadding
-        (collected_label (F.database files.now) config.now indices label.now) found.old found.new) }
+    ensures added { OnOk result (FindsLabelAnnotations
+        (label_to_collect (F.database files.now) config.now indices label.now)
+        found.old found.new) }
+    ensures padding { OnOk result (WidensPadding
+        (label_to_collect (F.database files.now) config.now indices label.now)
+        found.old found.new) }
     ensures failed { FailsBy (label_failure
-        (collected_label (F.database files.now) config.now indices label.now)) result }
+        (label_to_collect (F.database files.now) config.now indices label.now)) result }
 {
     let span = label_span(files, label)?;
     found.annotations.reserve(span.annotation_capacity(config))?;

@@ -3,7 +3,7 @@
 ghost use Rattle.std.specs.Prelude.{◌≡◌, ◌<◌, ◌≤◌, ◌+◌, ◌^◌, false, [], ◌∷◌, ◌++◌, IfOk, OnOk, OnErr, IsErrOf, length, slice_index_or, take};
 ghost use Rattle.std.specs.List.{AllByRecursion};
 ghost use Rattle.codespan_picture.specs.OutputStreams.{label_of};
-ghost use Rattle.codespan_views.specs.Private.LabeledFiles.{ids_view, lanes_by, lane_counts, lanes_with_label, starts_with_label, starts_view, with_file};
+ghost use Rattle.codespan_views.specs.Private.LabeledFiles.{ids_view, lanes_of_span, lane_counts, lane_counts_with, all_least_starts_with, all_least_starts, with_file};
 ghost use Rattle.codespan_views.specs.Private.LocusBytes.{least_starts_with, no_starts};
 ghost use Rattle.codespan_views.specs.Private.FileIndices.{AreDistinct, index_of_file};
 
@@ -34,7 +34,7 @@ impl<FileId> LabeledFile<FileId> {
         ensures id { self.new.file_id ≡ self.old.file_id }
         ensures least_starts { self.new.least_starts
             ≡ least_starts_with self.old.least_starts (label_of label.now).label }
-        ensures lanes { self.new.num_multi_labels ≡ self.old.num_multi_labels + lanes_by span }
+        ensures lanes { self.new.num_multi_labels ≡ self.old.num_multi_labels + lanes_of_span span }
     {
         self.least_starts = self.least_starts.with(label);
         if !span.is_single() {
@@ -58,10 +58,11 @@ pub fn add_label<FileId>(
     requires index { index < length files.old.items }
     requires bound { slice_index_or (lane_counts files.old.items) index 0 + 1 < 2 ^ 64 }
     ensures ids { ids_view files.new.items ≡ ids_view files.old.items }
-    ensures starts { starts_view files.new.items
-        ≡ starts_with_label (starts_view files.old.items) index (label_of label.now).label }
+    ensures starts { all_least_starts files.new.items
+        ≡ all_least_starts_with (all_least_starts files.old.items) index
+        (label_of label.now).label }
     ensures lanes { lane_counts files.new.items
-        ≡ lanes_with_label (lane_counts files.old.items) index (lanes_by span) }
+        ≡ lane_counts_with (lane_counts files.old.items) index (lanes_of_span span) }
 {
     files[index].add(label, span);
 }
@@ -86,8 +87,8 @@ pub fn get_or_insert_file<FileId: Copy + Eq>(
         ≡ index_of_file FileId.eq (ids_view files.new.items) id) }
     ensures ids { OnOk result (ids_view files.new.items
         ≡ with_file FileId.eq (ids_view files.old.items) id (ids_view files.old.items) id) }
-    ensures starts { OnOk result (starts_view files.new.items
-        ≡ with_file FileId.eq (ids_view files.old.items) id (starts_view files.old.items)
+    ensures starts { OnOk result (all_least_starts files.new.items
+        ≡ with_file FileId.eq (ids_view files.old.items) id (all_least_starts files.old.items)
         no_starts) }
     ensures lanes { OnOk result (lane_counts files.new.items
         ≡ with_file FileId.eq (ids_view files.old.items) id (lane_counts files.old.items) 0) }
@@ -107,15 +108,15 @@ pub fn get_or_insert_file<FileId: Copy + Eq>(
 /// `OutOfMemory`: an allocation fails.
 fn push_file<FileId: Copy>(files: &mut Vec<LabeledFile<FileId>>, id: FileId) -> Result<(), Error>
     ensures ids { OnOk result (ids_view files.new.items ≡ ids_view files.old.items ++ id ∷ []) }
-    ensures starts { OnOk result (starts_view files.new.items ≡ starts_view files.old.items
-        ++ no_starts ∷ []) }
+    ensures starts { OnOk result (all_least_starts files.new.items
+        ≡ all_least_starts files.old.items ++ no_starts ∷ []) }
     ensures lanes { OnOk result (lane_counts files.new.items ≡ lane_counts files.old.items
         ++ 0 ∷ []) }
     ensures failed { OnErr result (IsErrOf result Error.OutOfMemory) }
 {
     files.push(LabeledFile {
         file_id: id,
-        least_starts: LeastStarts::unknown(),
+        least_starts: LeastStarts::without_labels(),
         num_multi_labels: 0,
     })?;
     Ok(())

@@ -32,7 +32,7 @@ pub struct LeastStarts {
 
 impl LeastStarts {
     /// Returns those of a file without labels.
-    pub fn unknown() -> LeastStarts
+    pub fn without_labels() -> LeastStarts
         ensures { result ≡ no_starts }
     {
         LeastStarts {

@@ -17,7 +17,7 @@ use crate::plan::snippet_plans::SnippetPlan;
 use crate::plan::{OutputPlan, plan_output};
 use crate::snippet::line_buffers::LineBuffers;
 use crate::snippet::lines::SnippetContext;
-use crate::snippet::{render_snippet, render_trailing_empty_row};
+use crate::snippet::{render_empty_row_after, render_snippet};
 use codespan_core::diagnostic::Diagnostic;
 use codespan_core::files::{Error, Files};
 use codespan_core::term::{Config, WriteStyle};
@@ -184,7 +184,7 @@ impl<'diagnostic, 'config, FileId: Copy + Eq> RichDiagnostic<'diagnostic, 'confi
                 snippet_plan,
                 snippet_lines,
             )?;
-            render_trailing_empty_row(&context, renderer, snippet_plan, is_followed)?;
+            render_empty_row_after(&context, renderer, snippet_plan, is_followed)?;
         }
         Ok(())
     }

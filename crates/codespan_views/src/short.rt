@@ -9,7 +9,7 @@ ghost use Rattle.codespan_picture.specs.Lookups.{first_error, header_lookups_of}
 ghost use Rattle.codespan_picture.specs.OutputStreams.{label_of, labels_of};
 ghost use Rattle.codespan_renderer.specs.Renderers.{writer_of, config_of, SameRenderer};
 ghost use Rattle.codespan_views.specs.WriteCalls.{WritesStyled};
-ghost use Rattle.codespan_views.specs.Private.ViewRendering.{RendersHeadersOf, RendersInStyle};
+ghost use Rattle.codespan_views.specs.Private.ViewRendering.{RendersPrimaryHeaders, RendersInStyle};
 
 use crate::least_starts::is_primary;
 use crate::parts::{render_diagnostic_header, render_notes};
@@ -148,7 +148,7 @@ fn render_located_headers<'files, F: Files<'files>, W: WriteStyle>(
     renderer: &mut Renderer<'_, '_, W>,
 ) -> Result<bool, Error>
     ensures same { SameRenderer renderer.old renderer.new }
-    ensures renders { RendersHeadersOf W.sink (F.database files.now)
+    ensures renders { RendersPrimaryHeaders W.sink (F.database files.now)
         diagnostic.now (labels_of diagnostic.now) renderer.old result renderer.new }
 {
     let mut has_primary = false;
@@ -170,7 +170,7 @@ fn render_header_if_primary<'files, F: Files<'files>, W: WriteStyle>(
     label: &Label<F::FileId>,
 ) -> Result<bool, Error>
     ensures same { SameRenderer renderer.old renderer.new }
-    ensures renders { RendersHeadersOf W.sink (F.database files.now)
+    ensures renders { RendersPrimaryHeaders W.sink (F.database files.now)
         diagnostic.now (label_of label.now ∷ []) renderer.old result renderer.new }
 {
     if !is_primary(label) {

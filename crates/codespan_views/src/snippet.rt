@@ -1,6 +1,6 @@
 //! The snippets of an output, one for each file.
 
-ghost use Rattle.codespan_views.specs.Private.SnippetRows.{RendersSnippet, trailing_empty_rows, start_rows};
+ghost use Rattle.codespan_views.specs.Private.SnippetRows.{RendersSnippet, empty_row_after_snippet, first_rows};
 ghost use Rattle.codespan_views.specs.Private.Rendering.{RendersRows};
 ghost use Rattle.codespan_views.specs.Private.LineRendering.{AreLinesOf};
 
@@ -22,13 +22,13 @@ pub mod lines;
 /// # Errors
 ///
 /// `Io` alone: the writer fails or takes no bytes.
-fn render_start<F, FileId, W: WriteStyle>(
+fn render_first_rows<F, FileId, W: WriteStyle>(
     context: &SnippetContext<'_, F>,
     renderer: &mut Renderer<'_, '_, W>,
     snippet_plan: &SnippetPlan<'_, FileId>,
 ) -> Result<(), Error>
     ensures { RendersRows W.sink context.now.severity context.now.padding
-        (start_rows snippet_plan.now) renderer.old result renderer.new }
+        (first_rows snippet_plan.now) renderer.old result renderer.new }
 {
     renderer.render_snippet_start(context.padding, &snippet_plan.locus)?;
     renderer.render_snippet_empty(
@@ -68,7 +68,7 @@ pub fn render_snippet<'files, 'd, F: Files<'files>, W: WriteStyle>(
         result renderer.new }
 {
     let source = context.files.source(snippet_plan.file.file_id)?;
-    render_start(context, renderer, snippet_plan)?;
+    render_first_rows(context, renderer, snippet_plan)?;
     let snippet = Snippet {
         context,
         file: SourceFile {
@@ -86,14 +86,14 @@ pub fn render_snippet<'files, 'd, F: Files<'files>, W: WriteStyle>(
 /// # Errors
 ///
 /// `Io` alone: the writer fails or takes no bytes.
-pub fn render_trailing_empty_row<F, FileId, W: WriteStyle>(
+pub fn render_empty_row_after<F, FileId, W: WriteStyle>(
     context: &SnippetContext<'_, F>,
     renderer: &mut Renderer<'_, '_, W>,
     snippet_plan: &SnippetPlan<'_, FileId>,
     is_followed: bool,
 ) -> Result<(), Error>
     ensures { RendersRows W.sink context.now.severity context.now.padding
-        (trailing_empty_rows snippet_plan.now is_followed) renderer.old result renderer.new }
+        (empty_row_after_snippet snippet_plan.now is_followed) renderer.old result renderer.new }
 {
     if is_followed {
         renderer.render_snippet_empty(

@@ -8,19 +8,19 @@ use codespan_picture::padding::count_digits;
 #[derive(Clone, Copy)]
 pub struct PaddingWidth {
     /// The number of digits; 0 without a number.
-    pub digits: usize,
+    pub digit_count: usize,
     /// Numbers below this one are known to have no more digits.
     limit: usize,
-    ghost fits: { (n : ℕ) → n < limit → length (decimal n) ≤ digits },
+    ghost fits: { (n : ℕ) → n < limit → length (decimal n) ≤ digit_count },
 }
 
 impl PaddingWidth {
     /// Returns a width of this many digits; 0 is that without a number. Its limit is known for 1 to
     /// 6 digits. For others it is 0, so the digits of each number are counted.
-    pub fn with_digits(digits: usize) -> PaddingWidth
-        ensures { result.digits ≡ digits }
+    pub fn with_digit_count(digit_count: usize) -> PaddingWidth
+        ensures { result.digit_count ≡ digit_count }
     {
-        let limit = match digits {
+        let limit = match digit_count {
             1 => 10,
             2 => 100,
             3 => 1_000,
@@ -29,17 +29,17 @@ impl PaddingWidth {
             6 => 1_000_000,
             _ => 0,
         };
-        PaddingWidth { digits, limit }
+        PaddingWidth { digit_count, limit }
     }
 
     /// Widens the padding to the digits of a number. Most numbers are found to fit by one
     /// comparison.
     #[inline(always)]
     pub fn fit(&mut self, number: usize)
-        ensures { self.new.digits ≡ max (length (decimal number)) self.old.digits }
+        ensures { self.new.digit_count ≡ max (length (decimal number)) self.old.digit_count }
     {
         if number >= self.limit {
-            *self = PaddingWidth::with_digits(count_digits(number).max(self.digits));
+            *self = PaddingWidth::with_digit_count(count_digits(number).max(self.digit_count));
         }
     }
 }

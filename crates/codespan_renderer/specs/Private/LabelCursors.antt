@@ -12,10 +12,10 @@ end_with counts end x = if counts && nat_lt x.start x.end then max end x.end els
 
 -- a character that ends at this byte index or later is covered by a label that passes the test,
 -- exactly where it begins before `end` or is covered by a remaining label that passes
-pub record IsCoverEnd (passes : LabelModel → Bool) (labels left : List LabelModel)
+pub record IsCoverEnd (test : LabelModel → Bool) (labels left : List LabelModel)
     (byte_index end : ℕ) : Type 0 where
   pub is : (c : Metrics) → byte_index ≤ c.byte_index + c.bytes → 1 ≤ c.bytes
-      → is_covered passes labels c ≡ (nat_lt c.byte_index end || is_covered passes left c)
+      → is_covered test labels c ≡ (nat_lt c.byte_index end || is_covered test left c)
 
 -- the labels that a cursor has not passed
 abbrev pub labels_left : LabelCursor → List LabelModel

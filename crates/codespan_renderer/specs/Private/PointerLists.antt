@@ -19,7 +19,7 @@ abbrev pub pointer_under : Metrics → LabelStyle → Pointer
 pointer_under c style = record {
   byte_index = c.byte_index;
   column = c.column;
-  after = c.column + min c.unicode_width 1;
+  end_column = c.column + min c.unicode_width 1;
   style = style;
 }
 
@@ -37,7 +37,7 @@ abbrev pub spaced : RowContext → ℕ → ℕ → List Pointer → Stream
 spaced context edge column [] = spaces (edge - column)
 spaced context edge column (p ∷ ps) =
     spaces (p.column - column) ++ label_glyph context.severity p.style context.chars.pointer_left
-    ++ spaced context edge p.after ps
+    ++ spaced context edge p.end_column ps
 
 -- the labels that a cursor has not passed
 abbrev pub label_starts_left : StartCursor → List LabelModel

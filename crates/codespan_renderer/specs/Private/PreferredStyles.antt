@@ -15,8 +15,8 @@ prefer_primary _ style = Some style
 -- the style that takes precedence among what was found and those of the labels that pass the test
 abbrev pub preferred_style : (LabelModel → Bool) → Option LabelStyle → List LabelModel
     → Option LabelStyle
-preferred_style passes found xs =
-    fold (λ best (x : LabelModel). prefer_primary best x.style) found (filter passes xs)
+preferred_style test found xs =
+    fold (λ best (x : LabelModel). prefer_primary best x.style) found (filter test xs)
 
 -- the style of the pointer under a character, where a label hangs from it
 abbrev pub pointer_style_if_any : List LabelModel → Metrics → Option LabelStyle

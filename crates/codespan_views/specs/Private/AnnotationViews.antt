@@ -35,7 +35,7 @@ kind_view start (rust.Multi kind lane label) =
 -- an annotation
 abbrev pub annotation_view : {Id : Type 0} → RustAnnotation Id → Annotation
 annotation_view e = record
-    { file = e.file; line = e.line.index; kind = kind_view e.line.start e.kind }
+    { file_index = e.file_index; line = e.line.index; kind = kind_view e.line.start e.kind }
 
 -- the line is one of the file's, with its number and its range
 pub record IsLineOf (f : FileModel) (line : LineInfo) : Type 0 where
@@ -48,20 +48,21 @@ IsLineAt f l line = (line.index ≡ l) × IsLineOf f line
 
 -- the annotation's line is one of its file, where these are the ids of the files
 abbrev pub IsOfFiles : {Id : Type 0} → (Id → FileModel) → List Id → RustAnnotation Id → Type 0
-IsOfFiles {Id} file ids e = (id : Id) → IsIdAt ids e.file id → IsLineOf (file id) e.line
+IsOfFiles {Id} file ids e = (id : Id) → IsIdAt ids e.file_index id → IsLineOf (file id) e.line
 
 -- these annotations were appended, and this holds of each
-pub record Adds {Id : Type 0} (P : RustAnnotation Id → Type 0) (old new : List (RustAnnotation Id))
-    (annotations : List Annotation) : Type 0 where
+pub record AppendsAnnotations {Id : Type 0} (P : RustAnnotation Id → Type 0)
+    (old new : List (RustAnnotation Id)) (annotations : List Annotation) : Type 0 where
   pub more : List (RustAnnotation Id)
   pub whole : new ≡ old ++ more
   pub are : map annotation_view more ≡ annotations
   pub each : AllByRecursion P more
 
 -- annotations of lines of this file were appended
-abbrev pub AddsOf : {Id : Type 0} → FileModel → List (RustAnnotation Id) → List (RustAnnotation Id)
-    → List Annotation → Type 0
-AddsOf f old new annotations = Adds (λ e. IsLineOf f e.line) old new annotations
+abbrev pub AppendsAnnotationsOf : {Id : Type 0} → FileModel → List (RustAnnotation Id)
+    → List (RustAnnotation Id) → List Annotation → Type 0
+AppendsAnnotationsOf f old new annotations =
+    AppendsAnnotations (λ e. IsLineOf f e.line) old new annotations
 
 -- the kind of the multi-line label mark that a label from line `s` to line `e` has on line `l`, if
 -- it is a multi-line label that has one

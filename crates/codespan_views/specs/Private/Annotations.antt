@@ -13,7 +13,7 @@ pub data AnnotationKind : Type 0 where
 
 -- an annotation of a line; the file by its index among those of the output
 pub record Annotation : Type 0 where
-  pub file : ℕ
+  pub file_index : ℕ
   pub line : ℕ
   pub kind : AnnotationKind
 
@@ -55,7 +55,7 @@ kind_cmp x y =
 -- by file, by line, and then by kind
 abbrev pub annotation_cmp : Annotation → Annotation → Ordering
 annotation_cmp x y =
-    ordering_then (nat_cmp x.file y.file)
+    ordering_then (nat_cmp x.file_index y.file_index)
     (ordering_then (nat_cmp x.line y.line) (kind_cmp x.kind y.kind))
 
 -- one annotation is before another
@@ -74,17 +74,18 @@ is_on_line l e = e.line == l
 
 -- the annotation is of this file
 abbrev pub is_of_file : ℕ → Annotation → Bool
-is_of_file f e = e.file == f
+is_of_file f e = e.file_index == f
 
 -- the annotation is a lane mark in this lane, on this line of this file
 abbrev pub IsLaneMarkOn : ℕ → ℕ → ℕ → Annotation → Type 0
 IsLaneMarkOn f l lane e =
-    (e.file ≡ f) × (e.line ≡ l) × (rank_of e.kind ≡ 2) × (first_of e.kind ≡ lane)
+    (e.file_index ≡ f) × (e.line ≡ l) × (rank_of e.kind ≡ 2) × (first_of e.kind ≡ lane)
     × (second_of e.kind ≡ 0) × (index_in_list e.kind ≡ 0)
 
 -- ---- the annotations of a line
 
 -- an annotation of a line, if there is one
 abbrev pub annotation_if_any : ℕ → ℕ → Option AnnotationKind → List Annotation
-annotation_if_any file l None = []
-annotation_if_any file l (Some kind) = record { file = file; line = l; kind = kind } ∷ []
+annotation_if_any file_index l None = []
+annotation_if_any file_index l (Some kind) =
+    record { file_index = file_index; line = l; kind = kind } ∷ []

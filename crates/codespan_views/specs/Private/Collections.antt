@@ -7,10 +7,10 @@ use Rattle.codespan_core.specs.FileModel.{FileDatabase}
 use Rattle.codespan_picture.specs.Snippets.{LabelInFile, file_ids}
 use Rattle.codespan_views.specs.declared.collected.Collected.{Collected}
 use Rattle.codespan_views.specs.Private.Annotations.{is_before}
-use Rattle.codespan_views.specs.Private.AnnotationViews.{Adds, IsOfFiles, annotation_view}
+use Rattle.codespan_views.specs.Private.AnnotationViews.{AppendsAnnotations, IsOfFiles, annotation_view}
 use Rattle.codespan_views.specs.Private.LabeledFiles.{HasLabels, ids_view}
 use Rattle.codespan_views.specs.Private.IndexedLabels.{all_annotations}
-use Rattle.codespan_views.specs.Private.SpannedDigits.{all_digits}
+use Rattle.codespan_views.specs.Private.SpannedDigitCounts.{all_digit_counts}
 
 module _ {Id : Type 0} (database : FileDatabase Id) where
   -- the files of these labels were collected, and the padding width of the classic layout
@@ -18,13 +18,13 @@ module _ {Id : Type 0} (database : FileDatabase Id) where
       : Type 0 where
     pub ids_are : ids_view collected.files.items ≡ file_ids database.same xs
     pub labels_are : AllByRecursion (HasLabels database.same database.file xs) collected.files.items
-    pub padding_is : collected.spanned_padding ≡ fold max 0 (all_digits database.file xs)
+    pub padding_is : collected.spanned_padding ≡ fold max 0 (all_digit_counts database.file xs)
 
   -- this was collected of these labels, one after another
-  pub record IsCollectedInTurn (config : Config) (xs : List (LabelInFile Id))
+  pub record IsCollectedUnsorted (config : Config) (xs : List (LabelInFile Id))
       (collected : Collected Id) : Type 0 where
     pub files : AreFilesCollected xs collected
-    pub adds : Adds (IsOfFiles database.file (ids_view collected.files.items)) []
+    pub adds : AppendsAnnotations (IsOfFiles database.file (ids_view collected.files.items)) []
         collected.annotations.items (all_annotations database.same database.file config xs)
 
   -- this was collected of these labels, and is in order

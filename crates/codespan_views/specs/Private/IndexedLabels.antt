@@ -12,7 +12,7 @@ module _ {Id : Type 0} (same : Id → Id → Bool) (file : Id → FileModel) whe
   -- the indices of a label that comes after these
   abbrev pub indices_after : List Id → List (LabelInFile Id) → LabelInFile Id → LabelIndices
   indices_after ids before x = record {
-    file = index_of_file same ids x.file_id;
+    file_index = index_of_file same ids x.file_id;
     index = length before;
     lane = num_multi_labels (labeled_file_model same file before x.file_id);
   }

@@ -24,8 +24,8 @@ module _ (config : Config) (f : FileModel) (indices : LabelIndices) (x : LabelMo
 
   -- its annotations of a line
   abbrev pub line_annotations : ℕ → List Annotation
-  line_annotations l = annotation_if_any indices.file l (kind_on l)
-      ++ annotation_if_any indices.file l (lane_mark_on l)
+  line_annotations l = annotation_if_any indices.file_index l (kind_on l)
+      ++ annotation_if_any indices.file_index l (lane_mark_on l)
 
   -- its annotations of all lines that are looked up for it
   abbrev pub annotations_of : List Annotation
@@ -34,14 +34,14 @@ module _ (config : Config) (f : FileModel) (indices : LabelIndices) (x : LabelMo
 -- ---- by the lines of its ends
 
 -- what a label from line `s` to line `e` does on line `l`, which starts at this byte index
-abbrev pub kind_at : Config → LabelIndices → ℕ → ℕ → ℕ → ℕ → LabelModel → Option AnnotationKind
-kind_at config indices s e l start x =
+abbrev pub kind_by_ends : Config → LabelIndices → ℕ → ℕ → ℕ → ℕ → LabelModel → Option AnnotationKind
+kind_by_ends config indices s e l start x =
     if (s == e) && (s == l) then Some (Single indices.index (from_line_start start x))
     else if shows config s e l then Some Shown else None
 
 -- its lane mark there, if it is a multi-line label that has one
-abbrev pub lane_mark_at : LabelIndices → ℕ → ℕ → ℕ → ℕ → LabelModel → Option AnnotationKind
-lane_mark_at indices s e l start x =
+abbrev pub lane_mark_by_ends : LabelIndices → ℕ → ℕ → ℕ → ℕ → LabelModel → Option AnnotationKind
+lane_mark_by_ends indices s e l start x =
     if s == e then None
     else option_map Multi (lane_mark_of indices.lane x (multi_label_at s e l start x))
 
@@ -49,10 +49,10 @@ lane_mark_at indices s e l start x =
 
 module _ (config : Config) (f : FileModel) (x : LabelModel) where
   -- the lookups of a line, where it is looked up for the label
-  abbrev pub lookups_on : ℕ → List Lookup
-  lookups_on l = if is_looked_up config f x l then line_lookups l else []
+  abbrev pub lookups_if_looked_up : ℕ → List Lookup
+  lookups_if_looked_up l = if is_looked_up config f x l then line_lookups l else []
 
   -- the annotations of such a line
-  abbrev pub annotations_on : LabelIndices → ℕ → List Annotation
-  annotations_on indices l =
+  abbrev pub annotations_if_looked_up : LabelIndices → ℕ → List Annotation
+  annotations_if_looked_up indices l =
       if is_looked_up config f x l then line_annotations config f indices x l else []

@@ -16,8 +16,8 @@ abbrev pub ids_view : {Id : Type 0} → List (RustFile Id) → List Id
 ids_view {Id} files = map (λ (f : RustFile Id). f.file_id) files
 
 -- the least starts of the labels of each
-abbrev pub starts_view : {Id : Type 0} → List (RustFile Id) → List LeastStarts
-starts_view {Id} files = map (λ (f : RustFile Id). f.least_starts) files
+abbrev pub all_least_starts : {Id : Type 0} → List (RustFile Id) → List LeastStarts
+all_least_starts {Id} files = map (λ (f : RustFile Id). f.least_starts) files
 
 -- how many lanes each has
 abbrev pub lane_counts : {Id : Type 0} → List (RustFile Id) → List ℕ
@@ -44,14 +44,15 @@ with_file same ids id known one = if list_any (λ j. same j id) ids then known e
 -- ---- one label more
 
 -- how many lanes a label takes that starts and ends on these lines
-abbrev pub lanes_by : LabelSpan → ℕ
-lanes_by span = if span.first == span.last then 0 else 1
+abbrev pub lanes_of_span : LabelSpan → ℕ
+lanes_of_span span = if span.first == span.last then 0 else 1
 
 -- the least starts of all files, with one more label of the file at this index
-abbrev pub starts_with_label : List LeastStarts → ℕ → LabelModel → List LeastStarts
-starts_with_label starts index x =
+abbrev pub all_least_starts_with : List LeastStarts → ℕ → LabelModel → List LeastStarts
+all_least_starts_with starts index x =
     slice_set starts index (least_starts_with (slice_index_or starts index no_starts) x)
 
 -- how many lanes all files have, with those of one more label of the file at this index
-abbrev pub lanes_with_label : List ℕ → ℕ → ℕ → List ℕ
-lanes_with_label lanes index own = slice_set lanes index (slice_index_or lanes index 0 + own)
+abbrev pub lane_counts_with : List ℕ → ℕ → ℕ → List ℕ
+lane_counts_with lanes index own_lanes =
+    slice_set lanes index (slice_index_or lanes index 0 + own_lanes)

@@ -21,27 +21,27 @@ pub record AreLinesOf {Id : Type 0} (f : FileModel) (num_multi_labels : ℕ)
   pub in_order : AreInOrder num_multi_labels (map snippet_line_view snippet_lines)
 
 -- the snippet has the text of its file, and these are lines of it, each with its labels in order
-pub record HasLines {F Id Name Source : Type 0} (database : F → FileDatabase Id)
+pub record HasLines {F Id Name Source : Type 0} (database_of : F → FileDatabase Id)
     (snippet : Snippet F Id Name Source) (snippet_lines : List (RustLine Id)) : Type 0 where
-  pub text : snippet.text.now ≡ (model_of database snippet.file).text
-  pub are : AreLinesOf (model_of database snippet.file) snippet.num_multi_labels snippet_lines
+  pub text : snippet.text.now ≡ (model_of database_of snippet.file).text
+  pub are : AreLinesOf (model_of database_of snippet.file) snippet.num_multi_labels snippet_lines
 
 -- the snippet has the text of its file, and this is a line of it, with its labels in order
-pub record HasLine {F Id Name Source : Type 0} (database : F → FileDatabase Id)
+pub record HasLine {F Id Name Source : Type 0} (database_of : F → FileDatabase Id)
     (snippet : Snippet F Id Name Source) (snippet_line : RustLine Id) : Type 0 where
-  pub text : snippet.text.now ≡ (model_of database snippet.file).text
-  pub is : IsSnippetLineOf (model_of database snippet.file) snippet_line
+  pub text : snippet.text.now ≡ (model_of database_of snippet.file).text
+  pub is : IsSnippetLineOf (model_of database_of snippet.file) snippet_line
   pub in_order : IsTrue (is_line_in_order snippet.num_multi_labels (snippet_line_view snippet_line))
 
-module _ {W F Id Name Source : Type 0} (sink : W → Sink) (database : F → FileDatabase Id)
+module _ {W F Id Name Source : Type 0} (sink : W → Sink) (database_of : F → FileDatabase Id)
     (snippet : Snippet F Id Name Source) where
   -- the call renders rows of the file, and makes these lookups
   abbrev pub RendersFileRows : List Lookup → (FileModel → List Row) → Renderer W
       → Result (Unit {0}) Error → Renderer W → Type 0
   RendersFileRows lookups rows =
       let context = snippet.context.now in
-      RendersRowsWithLookups sink (failure_of database snippet.file lookups) context.severity
-      context.padding (rows (model_of database snippet.file))
+      RendersRowsWithLookups sink (failure_of database_of snippet.file lookups) context.severity
+      context.padding (rows (model_of database_of snippet.file))
 
   -- the call renders a line of the snippet, and makes these lookups
   abbrev pub RendersLine : List Lookup → SnippetLine → Renderer W → Result (Unit {0}) Error

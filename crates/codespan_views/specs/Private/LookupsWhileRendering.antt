@@ -16,16 +16,16 @@ WrotePrefix old items new =
     (new.frame ≡ failed_frame old.frame) × (is_known old ≡ true → PrefixWritten old items new)
 
 -- a lookup or an allocation failed after a prefix of the stream
-pub record FailedWithLookups (failed : Option Error) (old : Sink) (items : Stream) (error : Error)
+pub record FailedWithLookups (failure : Option Error) (old : Sink) (items : Stream) (error : Error)
     (new : Sink) : Type 0 where
   pub frame : new.frame ≡ old.frame
   pub prefix : is_known old ≡ true → PrefixWritten old items new
-  pub error_is : error ≢ OutOfMemory → failed ≡ Some error
+  pub error_is : error ≢ OutOfMemory → failure ≡ Some error
 
--- the call writes the stream and makes lookups on the way, the first error of which is `failed`
+-- the call writes the stream and makes lookups on the way, the first error of which is `failure`
 abbrev pub WritesWithLookups : Option Error → Sink → Stream → Result (Unit {0}) Error → Sink
     → Type 0
-WritesWithLookups failed old items r new =
+WritesWithLookups failure old items r new =
     MatchResult r
-    (λ _. (failed ≡ None) × WroteStream old items new)
-    (λ e. (IsIo e × WrotePrefix old items new) ⊎ FailedWithLookups failed old items e new)
+    (λ _. (failure ≡ None) × WroteStream old items new)
+    (λ e. (IsIo e × WrotePrefix old items new) ⊎ FailedWithLookups failure old items e new)

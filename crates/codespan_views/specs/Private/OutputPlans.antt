@@ -29,15 +29,15 @@ ids_of {Id} snippet_plans = map (λ (snippet_plan : SnippetPlan Id). snippet_pla
 -- the plan is that of a file with its labels: its lanes, its locus, the rows of its lines, and
 -- their lookups
 pub record IsPlanOfLabels {Id : Type 0} (config : Config) (s : LabeledFileModel)
-    (snippet_plan : SnippetPlan Id) (own : List (RustLine Id)) : Type 0 where
+    (snippet_plan : SnippetPlan Id) (own_lines : List (RustLine Id)) : Type 0 where
   pub lanes_are : snippet_plan.file.now.num_multi_labels ≡ num_multi_labels s
   pub locus_is : IsLocusOfFile s (locus_view snippet_plan.locus)
-  pub count_is : snippet_plan.line_total ≡ length own
-  pub each : AllByRecursion (IsSnippetLineOf s.file) own
-  pub in_order : AreInOrder (num_multi_labels s) (map snippet_line_view own)
-  pub rows : rows_of_lines s.file (num_multi_labels s) (map snippet_line_view own)
+  pub count_is : snippet_plan.line_total ≡ length own_lines
+  pub each : AllByRecursion (IsSnippetLineOf s.file) own_lines
+  pub in_order : AreInOrder (num_multi_labels s) (map snippet_line_view own_lines)
+  pub rows : rows_of_lines s.file (num_multi_labels s) (map snippet_line_view own_lines)
       ≡ rows_of_drawn s None (drawn_lines config s.file s.labels)
-  pub lookups : lookups_of_lines own ≡ flat_map (filled_line_lookups config.layout)
+  pub lookups : lookups_of_lines own_lines ≡ flat_map (filled_line_lookups config.layout)
       (filled_lines config s)
 
 module _ {Id : Type 0} (database : FileDatabase Id) where

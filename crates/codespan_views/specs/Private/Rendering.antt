@@ -10,13 +10,13 @@ use Rattle.codespan_renderer.specs.declared.term.renderer.Renderer.{Renderer}
 use Rattle.codespan_renderer.specs.Renderers.{Renders, SameRenderer, config_of, writer_of}
 use Rattle.codespan_views.specs.Private.LookupsWhileRendering.{WritesWithLookups}
 
--- the call renders a stream and makes lookups on the way, the first error of which is `failed`; the
--- renderer keeps its writer and its configuration
-pub record RendersWithLookups {W : Type 0} (sink : W → Sink) (failed : Option Error)
+-- the call renders a stream and makes lookups on the way, the first error of which is `failure`;
+-- the renderer keeps its writer and its configuration
+pub record RendersWithLookups {W : Type 0} (sink : W → Sink) (failure : Option Error)
     (items : Stream) (old : Renderer W) (r : Result (Unit {0}) Error) (new : Renderer W)
     : Type 0 where
   pub same : SameRenderer old new
-  pub renders : WritesWithLookups failed (sink (writer_of old)) items r (sink (writer_of new))
+  pub renders : WritesWithLookups failure (sink (writer_of old)) items r (sink (writer_of new))
 
 module _ {W : Type 0} (sink : W → Sink) where
   -- the call renders these rows
@@ -27,9 +27,9 @@ module _ {W : Type 0} (sink : W → Sink) where
       Renders sink (stream_of_rows (context_of (config_of old) severity padding) rows) old
 
   -- the call renders these rows and makes lookups on the way, the first error of which is
-  -- `failed`
+  -- `failure`
   abbrev pub RendersRowsWithLookups : Option Error → Severity → ℕ → List Row → Renderer W
       → Result (Unit {0}) Error → Renderer W → Type 0
-  RendersRowsWithLookups failed severity padding rows old =
-      RendersWithLookups sink failed
+  RendersRowsWithLookups failure severity padding rows old =
+      RendersWithLookups sink failure
       (stream_of_rows (context_of (config_of old) severity padding) rows) old

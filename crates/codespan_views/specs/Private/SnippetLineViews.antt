@@ -20,18 +20,19 @@ snippet_line_view (rust.Labeled line annotations) = Labeled line.index
     (map annotation_view annotations.now)
 snippet_line_view (rust.Filled index number annotations) = Filled index
     (map annotation_view annotations.now)
-snippet_line_view (rust.Break next) = Break (map annotation_view next.now)
+snippet_line_view (rust.Break next_annotations) = Break (map annotation_view next_annotations.now)
 
 -- what is in a gap before a line with these annotations, where the line between has those
 abbrev pub gap_lines : List Annotation → List Annotation → Gap → List SnippetLine
-gap_lines hidden next gaps.Nothing = []
-gap_lines hidden next (gaps.Filled l) = Filled l hidden ∷ []
-gap_lines hidden next gaps.Break = Break next ∷ []
+gap_lines hidden_annotations next_annotations gaps.Nothing = []
+gap_lines hidden_annotations next_annotations (gaps.Filled l) = Filled l hidden_annotations ∷ []
+gap_lines hidden_annotations next_annotations gaps.Break = Break next_annotations ∷ []
 
 -- the gap is that between two shown lines, of which the first may be none
 abbrev pub IsGapBefore : Option ℕ → ℕ → Gap → Type 0
-IsGapBefore previous d gap = (hidden next : List Annotation)
-    → before_line (lines_between hidden next) previous d ≡ gap_lines hidden next gap
+IsGapBefore previous d gap = (hidden_annotations next_annotations : List Annotation)
+    → before_line (lines_between hidden_annotations next_annotations) previous d
+    ≡ gap_lines hidden_annotations next_annotations gap
 
 -- the number of a line that is filled in is known before the header in the unbroken layout
 abbrev pub known_number : Layout → ℕ → Option ℕ
@@ -47,7 +48,7 @@ numbers_looked_up Unbroken ls = map LineNumber ls
 abbrev pub lookups_of_line : {Id : Type 0} → RustLine Id → List Lookup
 lookups_of_line (rust.Labeled line annotations) = []
 lookups_of_line (rust.Filled index number annotations) = lookups_of_filled number index
-lookups_of_line (rust.Break next) = []
+lookups_of_line (rust.Break next_annotations) = []
 
 -- those when lines are rendered
 abbrev pub lookups_of_lines : {Id : Type 0} → List (RustLine Id) → List Lookup
@@ -59,18 +60,18 @@ abbrev pub IsSnippetLineOf : {Id : Type 0} → FileModel → RustLine Id → Typ
 IsSnippetLineOf f (rust.Labeled line annotations) = IsLineOf f line
 IsSnippetLineOf f (rust.Filled index number annotations) = IfSome number
     (λ known. known ≡ f.line_number index)
-IsSnippetLineOf f (rust.Break next) = Unit {0}
+IsSnippetLineOf f (rust.Break next_annotations) = Unit {0}
 
 -- and its number is known as the layout has it
 abbrev pub IsSnippetLineIn : {Id : Type 0} → Layout → FileModel → RustLine Id → Type 0
 IsSnippetLineIn layout f (rust.Labeled line annotations) = IsLineOf f line
 IsSnippetLineIn layout f (rust.Filled index number annotations) =
     number ≡ known_number layout (f.line_number index)
-IsSnippetLineIn layout f (rust.Break next) = Unit {0}
+IsSnippetLineIn layout f (rust.Break next_annotations) = Unit {0}
 
 -- these lines of the file's snippet were appended
-pub record AddsLines {Id : Type 0} (layout : Layout) (f : FileModel) (old new : List (RustLine Id))
-    (snippet_lines : List SnippetLine) : Type 0 where
+pub record AppendsSnippetLines {Id : Type 0} (layout : Layout) (f : FileModel)
+    (old new : List (RustLine Id)) (snippet_lines : List SnippetLine) : Type 0 where
   pub more : List (RustLine Id)
   pub whole : new ≡ old ++ more
   pub are : map snippet_line_view more ≡ snippet_lines

@@ -14,7 +14,7 @@ use Rattle.codespan_views.specs.Private.Annotations.{Annotation, AnnotationKind,
 pub data SnippetLine : Type 0 where
   Labeled : (line : ℕ) (annotations : List Annotation) → SnippetLine
   Filled : (line : ℕ) (annotations : List Annotation) → SnippetLine
-  Break : (next : List Annotation) → SnippetLine
+  Break : (next_annotations : List Annotation) → SnippetLine
 
 -- ---- from annotations in order to lines
 
@@ -46,19 +46,20 @@ are_shown (x ∷ xs) = shows_line x
 -- what is between two shown lines: the one line between them, with its annotations, a break,
 -- with those of the line after it, or nothing
 abbrev pub lines_between : List Annotation → List Annotation → ℕ → ℕ → List SnippetLine
-lines_between hidden next = gap_between (λ l. Filled l hidden ∷ []) (λ d. Break next ∷ [])
+lines_between hidden_annotations next_annotations =
+    gap_between (λ l. Filled l hidden_annotations ∷ []) (λ d. Break next_annotations ∷ [])
 
 -- a shown line, after what is before it
 abbrev pub lines_to : Option ℕ → List Annotation → ℕ → List Annotation → List SnippetLine
-lines_to previous hidden d es =
-    before_line (lines_between hidden es) previous d ++ Labeled d es ∷ []
+lines_to previous hidden_annotations d es =
+    before_line (lines_between hidden_annotations es) previous d ++ Labeled d es ∷ []
 
--- the lines of groups, where `previous` is the shown line before them, and `hidden` are the
--- annotations of the line before them, where that is hidden
+-- the lines of groups, where `previous` is the shown line before them, and `hidden_annotations` are
+-- the annotations of the line before them, where that is hidden
 abbrev pub lines_from : Option ℕ → List Annotation → List Group → List SnippetLine
-lines_from previous hidden [] = []
-lines_from previous hidden (g ∷ gs) =
-    if are_shown g.annotations then lines_to previous hidden g.line g.annotations
+lines_from previous hidden_annotations [] = []
+lines_from previous hidden_annotations (g ∷ gs) =
+    if are_shown g.annotations then lines_to previous hidden_annotations g.line g.annotations
     ++ lines_from (Some g.line) [] gs
     else lines_from previous g.annotations gs
 

@@ -38,13 +38,13 @@ number_lookups layout es ids =
 module _ {Id : Type 0} (layout : Layout) (file : Id → FileModel) (es : List Annotation) where
   -- the plan is that of this file, which is at an index: its locus and its lines
   pub record IsPlanOfAnnotations (k : ℕ) (f : RustFile Id) (snippet_plan : SnippetPlan Id)
-      (own : List (RustLine Id)) : Type 0 where
+      (own_lines : List (RustLine Id)) : Type 0 where
     pub file_is : snippet_plan.file.now ≡ f
     pub locus_is : IsTextLocus (file f.file_id, locus_byte f.least_starts)
         (locus_view snippet_plan.locus)
-    pub count_is : snippet_plan.line_total ≡ length own
-    pub are : map snippet_line_view own ≡ lines_at es k
-    pub each : AllByRecursion (IsSnippetLineIn layout (file f.file_id)) own
+    pub count_is : snippet_plan.line_total ≡ length own_lines
+    pub are : map snippet_line_view own_lines ≡ lines_at es k
+    pub each : AllByRecursion (IsSnippetLineIn layout (file f.file_id)) own_lines
 
   -- the plans are those of the files from an index on, and these are all their lines, those of the
   -- first file in front
@@ -80,14 +80,15 @@ collected_plan_failure layout failure collected =
     first_error failure (collected_plan_lookups layout collected)
 
 -- the digits of the known number of a line
-abbrev pub line_digits : {Id : Type 0} → RustLine Id → List ℕ
-line_digits (rust.Labeled line annotations) = count_digits line.number ∷ []
-line_digits (rust.Filled index (Some number) annotations) = count_digits number ∷ []
-line_digits (rust.Filled index None annotations) = []
-line_digits (rust.Break next) = []
+abbrev pub line_digit_counts : {Id : Type 0} → RustLine Id → List ℕ
+line_digit_counts (rust.Labeled line annotations) = count_digits line.number ∷ []
+line_digit_counts (rust.Filled index (Some number) annotations) = count_digits number ∷ []
+line_digit_counts (rust.Filled index None annotations) = []
+line_digit_counts (rust.Break next_annotations) = []
 
--- the padding width: in the classic layout `spanned`, that of the lines that labels span, and in
--- the unbroken one that of the known numbers of these lines
+-- the padding width: in the classic layout `spanned_padding`, that of the lines that labels span,
+-- and in the unbroken one that of the known numbers of these lines
 abbrev pub padding_width : {Id : Type 0} → Layout → ℕ → List (RustLine Id) → ℕ
-padding_width Classic spanned snippet_lines = spanned
-padding_width Unbroken spanned snippet_lines = fold max 0 (flat_map line_digits snippet_lines)
+padding_width Classic spanned_padding snippet_lines = spanned_padding
+padding_width Unbroken spanned_padding snippet_lines =
+    fold max 0 (flat_map line_digit_counts snippet_lines)

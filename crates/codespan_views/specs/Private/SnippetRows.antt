@@ -22,32 +22,33 @@ module _ {Id : Type 0} (snippet_plan : SnippetPlan Id) where
       EmptyRow (record { count = snippet_plan.file.now.num_multi_labels; lane_marks = [] })
 
   -- the snippet's first rows
-  abbrev pub start_rows : List Row
-  start_rows = SnippetStartRow (locus_view snippet_plan.locus) ∷ snippet_empty_row ∷ []
+  abbrev pub first_rows : List Row
+  first_rows = SnippetStartRow (locus_view snippet_plan.locus) ∷ snippet_empty_row ∷ []
 
   -- the row after the snippet, where something follows
-  abbrev pub trailing_empty_rows : Bool → List Row
-  trailing_empty_rows is_followed = if is_followed then snippet_empty_row ∷ [] else []
+  abbrev pub empty_row_after_snippet : Bool → List Row
+  empty_row_after_snippet is_followed = if is_followed then snippet_empty_row ∷ [] else []
 
   -- all rows of the snippet, where these are its lines
-  abbrev pub rows_in : FileModel → List (RustLine Id) → List Row
-  rows_in f snippet_lines =
-      start_rows
+  abbrev pub rows_of_snippet : FileModel → List (RustLine Id) → List Row
+  rows_of_snippet f snippet_lines =
+      first_rows
       ++ rows_of_lines f snippet_plan.file.now.num_multi_labels
       (map snippet_line_view snippet_lines)
 
 -- the lookups of a snippet of these lines
-abbrev pub lookups_with : {Id : Type 0} → List (RustLine Id) → List Lookup
-lookups_with snippet_lines = Source ∷ lookups_of_lines snippet_lines
+abbrev pub lookups_of_snippet : {Id : Type 0} → List (RustLine Id) → List Lookup
+lookups_of_snippet snippet_lines = Source ∷ lookups_of_lines snippet_lines
 
-module _ {W F Id : Type 0} (sink : W → Sink) (database : F → FileDatabase Id)
+module _ {W F Id : Type 0} (sink : W → Sink) (database_of : F → FileDatabase Id)
     (context : SnippetContext F) where
   -- the call renders the snippet of a file by these lines, and makes its lookups
   abbrev pub RendersSnippet : SnippetPlan Id → List (RustLine Id) → Renderer W
       → Result (Unit {0}) Error → Renderer W → Type 0
   RendersSnippet snippet_plan snippet_lines =
-      let t = database context.files.now in
+      let database = database_of context.files.now in
       let id = snippet_plan.file.now.file_id in
-      RendersRowsWithLookups sink (failure_in t.failure id (lookups_with snippet_lines))
-      context.severity context.padding
-      (rows_in snippet_plan (t.file id) snippet_lines)
+      RendersRowsWithLookups sink
+      (failure_in database.failure id (lookups_of_snippet snippet_lines)) context.severity
+      context.padding
+      (rows_of_snippet snippet_plan (database.file id) snippet_lines)

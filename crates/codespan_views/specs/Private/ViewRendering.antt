@@ -41,9 +41,9 @@ module _ {Id : Type 0} (d : Diagnostic Id) where
 module _ {W Id : Type 0} (sink : W → Sink) (database : FileDatabase Id) where
   -- the call renders the headers of those of these labels that are primary, and returns whether
   -- there is one
-  unfoldable pub RendersHeadersOf : Diagnostic Id → List (LabelInFile Id) → Renderer W
+  unfoldable pub RendersPrimaryHeaders : Diagnostic Id → List (LabelInFile Id) → Renderer W
       → Result Bool Error → Renderer W → Type 0
-  RendersHeadersOf d xs old r new =
+  RendersPrimaryHeaders d xs old r new =
       RendersHeaders (config_of old) database.file database.failure d (primary_of xs)
       (sink (writer_of old))
       r (sink (writer_of new))

@@ -17,13 +17,14 @@ pub fn shows_line<FileId>(annotation: &Annotation<'_, FileId>) -> bool
 }
 
 /// Returns how many annotations at the start are of the line at this 0-based index.
-pub fn count_on_line<FileId>(annotations: &[Annotation<'_, FileId>], line: usize) -> usize
-    ensures value { result ≡ prefix_len (λ e. is_on_line line (annotation_view e)) annotations.now }
+pub fn count_on_line<FileId>(annotations: &[Annotation<'_, FileId>], line_index: usize) -> usize
+    ensures value { result
+        ≡ prefix_len (λ e. is_on_line line_index (annotation_view e)) annotations.now }
     ensures within { result ≤ length annotations.now }
 {
     annotations
         .iter()
-        .take_while(|annotation| annotation.line.index == line)
+        .take_while(|annotation| annotation.line.index == line_index)
         .count()
 }
 
@@ -33,18 +34,22 @@ pub fn count_on_line<FileId>(annotations: &[Annotation<'_, FileId>], line: usize
 /// # Requires
 ///
 /// The annotations are in order.
-pub fn count_in_file<FileId>(annotations: &[Annotation<'_, FileId>], file: usize) -> usize
+pub fn count_in_file<FileId>(annotations: &[Annotation<'_, FileId>], file_index: usize) -> usize
     requires { IsSortedWithin (λ x y. is_before (annotation_view x) (annotation_view y))
         annotations.now 0 (length annotations.now) }
-    ensures value { result ≡ prefix_len (λ e. is_of_file file (annotation_view e)) annotations.now }
+    ensures value { result
+        ≡ prefix_len (λ e. is_of_file file_index (annotation_view e)) annotations.now }
     ensures within { result ≤ length annotations.now }
 {
     let len = annotations.len();
-    if len != 0 && annotations[len - 1].file == file && annotations[0].file == file {
+    if len != 0
+        && annotations[len - 1].file_index == file_index
+        && annotations[0].file_index == file_index
+    {
         return len;
     }
     annotations
         .iter()
-        .take_while(|annotation| annotation.file == file)
+        .take_while(|annotation| annotation.file_index == file_index)
         .count()
 }

@@ -16,7 +16,7 @@ use std::ops::Range;
 fn compare<FileId>(left: &Annotation<'_, FileId>, right: &Annotation<'_, FileId>) -> Ordering
     ensures { result ≡ annotation_cmp (annotation_view left.now) (annotation_view right.now) }
 {
-    match left.file.cmp(&right.file) {
+    match left.file_index.cmp(&right.file_index) {
         Ordering::Equal => match left.line.index.cmp(&right.line.index) {
             Ordering::Equal => compare_kinds(left, right),
             by_line => by_line,
@@ -79,8 +79,8 @@ pub fn rank<FileId>(annotation: &Annotation<'_, FileId>) -> usize
 fn is_before<FileId>(left: &Annotation<'_, FileId>, right: &Annotation<'_, FileId>) -> bool
     ensures { result ≡ is_before (annotation_view left.now) (annotation_view right.now) }
 {
-    if left.file != right.file {
-        return left.file < right.file;
+    if left.file_index != right.file_index {
+        return left.file_index < right.file_index;
     }
     if left.line.index != right.line.index {
         return left.line.index < right.line.index;
@@ -117,12 +117,12 @@ fn lane_marks_end<FileId>(annotations: &[Annotation<'_, FileId>], start: usize) 
         annotations.now start result }
 {
     let first = &annotations[start];
-    let Some(mut lane) = lane_on(first, first.file, first.line.index) else {
+    let Some(mut lane) = lane_on(first, first.file_index, first.line.index) else {
         return start + 1;
     };
     let mut end = start + 1;
     while end < annotations.len() {
-        match lane_on(&annotations[end], first.file, first.line.index) {
+        match lane_on(&annotations[end], first.file_index, first.line.index) {
             Some(next) if lane <= next => lane = next,
             _ => break,
         }
@@ -134,10 +134,15 @@ fn lane_marks_end<FileId>(annotations: &[Annotation<'_, FileId>], start: usize) 
 /// Returns the lane of an annotation, if it is a lane mark on this line of this file. All three are
 /// 0-based.
 #[inline(always)]
-fn lane_on<FileId>(annotation: &Annotation<'_, FileId>, file: usize, line: usize) -> Option<usize>
-    ensures { IfSome result (λ lane. IsLaneMarkOn file line lane (annotation_view annotation.now)) }
+fn lane_on<FileId>(
+    annotation: &Annotation<'_, FileId>,
+    file_index: usize,
+    line_index: usize,
+) -> Option<usize>
+    ensures { IfSome result (λ lane.
+        IsLaneMarkOn file_index line_index lane (annotation_view annotation.now)) }
 {
-    if annotation.file != file || annotation.line.index != line {
+    if annotation.file_index != file_index || annotation.line.index != line_index {
         return None;
     }
     match &annotation.kind {

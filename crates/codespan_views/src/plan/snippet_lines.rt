@@ -5,7 +5,7 @@ ghost use Rattle.codespan_core.specs.LawfulFiles.{FailsBy};
 ghost use Rattle.codespan_views.specs.Private.AnnotationViews.{IsLineOf, annotation_view};
 ghost use Rattle.codespan_views.specs.Private.SnippetLineViews.{IsGapBefore, gap_lines, known_number};
 ghost use Rattle.codespan_views.specs.Private.SnippetLines.{filled_lines_of, lines_of, lines_to};
-ghost use Rattle.codespan_views.specs.Private.LinePlanners.{AddsPlanned, numbers_failure};
+ghost use Rattle.codespan_views.specs.Private.LinePlanners.{AppendsPlannedLines, numbers_failure};
 ghost use Rattle.codespan_views.specs.Private.SourceFiles.{model_of};
 
 use crate::annotation::groups::{count_on_line, shows_line};
@@ -36,7 +36,7 @@ pub enum SnippetLine<'e, 'd, FileId> {
     /// A break: two lines or more are left out.
     Break {
         /// The annotations of the shown line after it, in order.
-        next: &'e [Annotation<'d, FileId>],
+        next_annotations: &'e [Annotation<'d, FileId>],
     },
 }
 
@@ -99,7 +99,8 @@ impl<'files, F: Files<'files>> LinePlanner<'files, F> {
     }
 
     /// Appends what is between two shown lines: the one line between them, which has the
-    /// annotations `hidden`, or a break, where `next` are those of the shown line after it.
+    /// annotations `hidden_annotations`, or a break, where `next_annotations` are those of the
+    /// shown line after it.
     ///
     /// # Errors
     ///
@@ -108,17 +109,18 @@ impl<'files, F: Files<'files>> LinePlanner<'files, F> {
     fn push_gap<'e, 'd>(
         &self,
         gap: Gap,
-        hidden: &'e [Annotation<'d, F::FileId>],
-        next: &'e [Annotation<'d, F::FileId>],
+        hidden_annotations: &'e [Annotation<'d, F::FileId>],
+        next_annotations: &'e [Annotation<'d, F::FileId>],
         snippet_lines: &mut Vec<SnippetLine<'e, 'd, F::FileId>>,
     ) -> Result<(), Error>
         ensures added { OnOk result
-            (AddsPlanned F.database self.now snippet_lines.old.items
+            (AppendsPlannedLines F.database self.now snippet_lines.old.items
             snippet_lines.new.items
-            (gap_lines (map annotation_view hidden.now) (map annotation_view next.now) gap)) }
+            (gap_lines (map annotation_view hidden_annotations.now)
+            (map annotation_view next_annotations.now) gap)) }
         ensures failed { FailsBy (numbers_failure F.database self.now
-            (filled_lines_of (gap_lines (map annotation_view hidden.now)
-            (map annotation_view next.now) gap))) result }
+            (filled_lines_of (gap_lines (map annotation_view hidden_annotations.now)
+            (map annotation_view next_annotations.now) gap))) result }
     {
         match gap {
             Gap::Nothing => {}
@@ -127,17 +129,17 @@ impl<'files, F: Files<'files>> LinePlanner<'files, F> {
                 snippet_lines.push(SnippetLine::Filled {
                     index,
                     number,
-                    annotations: hidden,
+                    annotations: hidden_annotations,
                 })?;
             }
-            Gap::Break => snippet_lines.push(SnippetLine::Break { next })?,
+            Gap::Break => snippet_lines.push(SnippetLine::Break { next_annotations })?,
         }
         Ok(())
     }
 
     /// Appends a shown line with its annotations, after what is before it. `previous` is the
-    /// 0-based index of the shown line before it, if there is one, and `hidden` are the annotations
-    /// of the line just before it, where that is hidden.
+    /// 0-based index of the shown line before it, if there is one, and `hidden_annotations` are the
+    /// annotations of the line just before it, where that is hidden.
     ///
     /// # Errors
     ///
@@ -150,25 +152,25 @@ impl<'files, F: Files<'files>> LinePlanner<'files, F> {
     fn push_shown<'e, 'd>(
         &self,
         previous: Option<usize>,
-        hidden: &'e [Annotation<'d, F::FileId>],
+        hidden_annotations: &'e [Annotation<'d, F::FileId>],
         line: LineInfo,
         annotations: &'e [Annotation<'d, F::FileId>],
         snippet_lines: &mut Vec<SnippetLine<'e, 'd, F::FileId>>,
     ) -> Result<(), Error>
         requires line { IsLineOf (model_of F.database self.now.file) line }
         ensures added { OnOk result
-            (AddsPlanned F.database self.now snippet_lines.old.items
+            (AppendsPlannedLines F.database self.now snippet_lines.old.items
             snippet_lines.new.items
-            (lines_to previous (map annotation_view hidden.now) line.index
+            (lines_to previous (map annotation_view hidden_annotations.now) line.index
             (map annotation_view annotations.now))) }
         ensures failed { FailsBy (numbers_failure F.database self.now (filled_lines_of
-            (lines_to previous (map annotation_view hidden.now) line.index
+            (lines_to previous (map annotation_view hidden_annotations.now) line.index
             (map annotation_view annotations.now))))
             result }
     {
         self.push_gap(
             gap_before(previous, line.index),
-            hidden,
+            hidden_annotations,
             annotations,
             snippet_lines,
         )?;
@@ -196,25 +198,31 @@ impl<'files, F: Files<'files>> LinePlanner<'files, F> {
         requires lines { All (λ e. IsLineOf (model_of F.database self.now.file)
             e.line) annotations.now }
         ensures added { OnOk result
-            (AddsPlanned F.database self.now snippet_lines.old.items
+            (AppendsPlannedLines F.database self.now snippet_lines.old.items
             snippet_lines.new.items (lines_of (map annotation_view annotations.now))) }
         ensures failed { FailsBy (numbers_failure F.database self.now
             (filled_lines_of (lines_of (map annotation_view annotations.now)))) result }
     {
         let none = &annotations[..0];
         let mut previous = None;
-        let mut hidden = none;
+        let mut hidden_annotations = none;
         let mut rest = annotations;
         while let Some(first) = rest.first() {
             let count = count_on_line(rest, first.line.index);
             let group = &rest[..count];
             let later = &rest[count..];
             if shows_line(first) {
-                self.push_shown(previous, hidden, first.line, group, snippet_lines)?;
+                self.push_shown(
+                    previous,
+                    hidden_annotations,
+                    first.line,
+                    group,
+                    snippet_lines,
+                )?;
                 previous = Some(first.line.index);
-                hidden = none;
+                hidden_annotations = none;
             } else {
-                hidden = group;
+                hidden_annotations = group;
             }
             rest = later;
         }

@@ -13,7 +13,7 @@ ghost use Rattle.codespan_views.specs.Private.LabeledFiles.{ids_view};
 ghost use Rattle.codespan_views.specs.Private.Loci.{locus_failure, locus_start_of};
 ghost use Rattle.codespan_views.specs.Private.SnippetPlans.{ArePlansOfCollected, collected_plan_failure};
 ghost use Rattle.codespan_views.specs.Private.SnippetLines.{filled_lines_of, lines_of};
-ghost use Rattle.codespan_views.specs.Private.SnippetLineViews.{AddsLines, numbers_looked_up};
+ghost use Rattle.codespan_views.specs.Private.SnippetLineViews.{AppendsSnippetLines, numbers_looked_up};
 ghost use Rattle.codespan_views.specs.Private.TextLoci.{IsTextLocus};
 
 use crate::annotation::Annotation;
@@ -57,7 +57,7 @@ fn push_snippet<'files, 'e, 'd, F: Files<'files>>(
     snippet_lines: &mut Vec<SnippetLine<'e, 'd, F::FileId>>,
 ) -> Result<usize, Error>
     requires { All (λ e. IsLineOf ((F.database files.now).file id) e.line) annotations.now }
-    ensures added { OnOk result (AddsLines layout ((F.database files.now).file id)
+    ensures added { OnOk result (AppendsSnippetLines layout ((F.database files.now).file id)
         snippet_lines.old.items snippet_lines.new.items
         (lines_of (map annotation_view annotations.now))) }
     ensures count { IfOk result (λ count. count
@@ -107,11 +107,11 @@ fn locate_snippet<'files, 'e, F: Files<'files>>(
     })
 }
 
-/// Returns the first error: that of `located` if it is `Err`, else `failed`.
-fn first_error_of(located: Result<(), Error>, failed: Error) -> Result<(), Error>
-    ensures { result ≡ result_and located (Err failed) }
+/// Returns the first error: that of `located` if it is `Err`, else `error`.
+fn first_error_of(located: Result<(), Error>, error: Error) -> Result<(), Error>
+    ensures { result ≡ result_and located (Err error) }
 {
-    located.and(Err(failed))
+    located.and(Err(error))
 }
 
 /// Plans the snippets of the files, in the order of their first labels. Their lines are appended to
@@ -154,12 +154,12 @@ pub fn plan_snippets<'files, 'e, 'd, F: Files<'files>>(
     let mut start = 0;
     for (index, file) in collected.files.iter().enumerate() {
         let len = count_in_file(&collected.annotations[start..], index);
-        let own = &collected.annotations[start..start + len];
-        let line_total = push_snippet(files, file.file_id, layout, own, snippet_lines)?;
+        let own_annotations = &collected.annotations[start..start + len];
+        let line_total = push_snippet(files, file.file_id, layout, own_annotations, snippet_lines)?;
         start += len;
         match locate_snippet(alloc, files, file, line_total) {
             Ok(snippet_plan) => snippet_plans.push(snippet_plan)?,
-            Err(failed) => located = first_error_of(located, failed),
+            Err(error) => located = first_error_of(located, error),
         }
     }
     located?;

@@ -109,7 +109,11 @@ impl<'context, 'files, F: Files<'files>> Snippet<'context, 'files, F> {
                 let line = self.file.line(*index, *number)?;
                 self.render_line(renderer, buffers, line, *annotations)
             }
-            SnippetLine::Break { next } => self.render_break(renderer, buffers, *next),
+            SnippetLine::Break { next_annotations } => self.render_break(
+                renderer,
+                buffers,
+                *next_annotations,
+            ),
         }
     }
 
@@ -168,15 +172,15 @@ impl<'context, 'files, F: Files<'files>> Snippet<'context, 'files, F> {
         &self,
         renderer: &mut Renderer<'_, '_, W>,
         buffers: &mut LineBuffers<'d>,
-        next: &[Annotation<'d, F::FileId>],
+        next_annotations: &[Annotation<'d, F::FileId>],
     ) -> Result<(), Error>
         requires in_order { IsTrue (are_lane_marks_in_order self.now.num_multi_labels
-            (map annotation_view next.now)) }
+            (map annotation_view next_annotations.now)) }
         ensures { RendersLine W.sink F.database self.now []
-            (Break (map annotation_view next.now))
+            (Break (map annotation_view next_annotations.now))
             renderer.old result renderer.new }
     {
-        fill_lane_marks(&mut buffers.lane_marks, next)?;
+        fill_lane_marks(&mut buffers.lane_marks, next_annotations)?;
         renderer.render_snippet_break(
             self.context.padding,
             self.context.severity,

@@ -124,16 +124,16 @@ fn scanned_caret_pointers<W: PutStyle>(
     context: RowContext<'_>,
     line: Line<'_, '_>,
     messages: Messages<'_, '_>,
-    before: usize,
+    byte_index: usize,
 ) -> Result<(), W::Error>
     requires { AreHanging line.labels.now messages.before.now messages.after.now }
-    ensures { Writes (W.sink w.old) (pointers_before_stream context.entry line.entry before)
+    ensures { Writes (W.sink w.old) (pointers_before_stream context.entry line.entry byte_index)
         result (W.sink w.new) }
 {
     let greatest_start = max_label_start(line.labels);
     let mut pending = 0u128;
     for metrics in CharMetrics::new(line.text, context.tab_width) {
-        if metrics.byte_index >= before || metrics.byte_index > greatest_start {
+        if metrics.byte_index >= byte_index || metrics.byte_index > greatest_start {
             break;
         }
         let mut width = metrics.unicode_width;

@@ -3,7 +3,7 @@ use Rattle.std.proofs.lemmas.List.{set-get_or}
 use Rattle.codespan_picture.specs.OutputStreams.{label_of}
 use Rattle.codespan_views.specs.declared.labeled_files.LabeledFile.{LabeledFile as RustFile}
 use Rattle.codespan_views.specs.declared.least_starts.LeastStarts.{LeastStarts}
-use Rattle.codespan_views.specs.Private.LabeledFiles.{ids_view, lanes_by}
+use Rattle.codespan_views.specs.Private.LabeledFiles.{ids_view, lanes_of_span}
 use Rattle.codespan_views.specs.Private.LocusBytes.{no_starts, least_starts_with}
 use Rattle.codespan_views.proofs.IndexedElements.{IsElementAt, map-changed}
 use Rattle.codespan_views.proofs.labeled_files.add_label.Given.{Over}
@@ -31,5 +31,5 @@ returns-clause-starts g c =
 pub returns-clause-lanes : goal.returns-clause-lanes
 returns-clause-lanes g c =
     let lanes : RustFile g.row.FileId.Denot → ℕ = λ f. f.num_multi_labels in
-    map-changed lanes 0 (λ n. n + lanes_by c.args.span)
+    map-changed lanes 0 (λ n. n + lanes_of_span c.args.span)
     (at g (goal.at.returns-clause-lanes g c).After-add) c.add.new.self c.add.ensures.lanes

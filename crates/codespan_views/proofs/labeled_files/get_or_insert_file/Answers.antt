@@ -1,5 +1,5 @@
 use Rattle.std.proofs.Common.{◌≡◌, List, [], ◌∷◌, ◌++◌, sym, ap, ◌∙◌}
-use Rattle.codespan_views.specs.Private.LabeledFiles.{ids_view, lane_counts, starts_view, with_file}
+use Rattle.codespan_views.specs.Private.LabeledFiles.{ids_view, lane_counts, all_least_starts, with_file}
 use Rattle.codespan_views.specs.Private.LocusBytes.{no_starts}
 use Rattle.codespan_views.specs.Private.FileIndices.{index_of_file}
 use Rattle.codespan_views.proofs.FileSearch.{file-added, file-unchanged}
@@ -33,7 +33,7 @@ returns-in_ok-push_file-clause-ids g c =
 
 pub returns-in_ok-push_file-clause-starts : goal.returns-in_ok-push_file-clause-starts
 returns-in_ok-push_file-clause-starts g c =
-    c.in_ok-push_file.ensures.starts ∙ added g c (starts_view c.args.files.now.items) no_starts
+    c.in_ok-push_file.ensures.starts ∙ added g c (all_least_starts c.args.files.now.items) no_starts
 
 pub returns-in_ok-push_file-clause-lanes : goal.returns-in_ok-push_file-clause-lanes
 returns-in_ok-push_file-clause-lanes g c =
@@ -44,7 +44,7 @@ returns-else-index-len-clause-ids g c = unchanged g c (ids_view c.args.files.now
 
 pub returns-else-index-len-clause-starts : goal.returns-else-index-len-clause-starts
 returns-else-index-len-clause-starts g c =
-    unchanged g c (starts_view c.args.files.now.items) no_starts
+    unchanged g c (all_least_starts c.args.files.now.items) no_starts
 
 pub returns-else-index-len-clause-lanes : goal.returns-else-index-len-clause-lanes
 returns-else-index-len-clause-lanes g c = unchanged g c (lane_counts c.args.files.now.items) 0

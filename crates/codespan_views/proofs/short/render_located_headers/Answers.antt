@@ -1,6 +1,6 @@
 use Rattle.std.proofs.Common.{◌≤◌, Err, length, refl, ap, ◌∙◌, arith}
 use Rattle.std.proofs.lemmas.Result.{err_from_is_err_and}
-use Rattle.codespan_views.specs.Private.ViewRendering.{RendersHeadersOf}
+use Rattle.codespan_views.specs.Private.ViewRendering.{RendersPrimaryHeaders}
 use Rattle.codespan_views.proofs.HeaderStreams.{some_next}
 use Rattle.codespan_views.proofs.LabelHeaders.{all_written, written_next, failed_next, none_yet}
 use Rattle.codespan_views.proofs.IndexedElements.{element-equal}
@@ -23,7 +23,7 @@ pub returns-clause-same : goal.returns-clause-same
 returns-clause-same g c = c.loop-label.invariant.same
 
 pub returns-in_err-has_primary-clause-renders : goal.returns-in_err-has_primary-clause-renders
-unfolding RendersHeadersOf
+unfolding RendersPrimaryHeaders
 returns-in_err-has_primary-clause-renders g c =
     let at =
     element-equal c.deref-label-items.ensures.value c.loop-label-test.true c.label-item.is in
@@ -33,7 +33,7 @@ returns-in_err-has_primary-clause-renders g c =
     c.in_err-has_primary.ensures.renders)
 
 pub loop-label-preserved : goal.loop-label-preserved
-unfolding RendersHeadersOf
+unfolding RendersPrimaryHeaders
 loop-label-preserved g c =
     let at =
     element-equal c.deref-label-items.ensures.value c.loop-label-test.true c.label-item.is in
@@ -49,7 +49,7 @@ loop-label-preserved g c =
     }
 
 pub returns-clause-renders : goal.returns-clause-renders
-unfolding RendersHeadersOf
+unfolding RendersPrimaryHeaders
 returns-clause-renders g c =
     let past : length c.args.diagnostic.now.labels.items ≤ c.loop-label.label-index =
     omega (arith, c.loop-label-test.false, ap length c.deref-label-items.ensures.value) in

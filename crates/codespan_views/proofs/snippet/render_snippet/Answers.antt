@@ -28,19 +28,19 @@ open_at : (g : Over) (c : In_ok-source g)
     (config_of c.args.renderer.now)
 open_at g c = record { succeeded = c.in_ok-source.ensures.failed }
 
-pub returns-in_err-render_start : goal.returns-in_err-render_start
-returns-in_err-render_start g c =
-    let p = err_from_is_err_and c.from_residual-in_err-render_start.result
-    c.from_residual-in_err-render_start.ensures.1 in
-    let opened = open_at g (goal.at.returns-in_err-render_start g c).In_ok-source in
-    let start = c.in_err-render_start.ensures in
+pub returns-in_err-render_first_rows : goal.returns-in_err-render_first_rows
+returns-in_err-render_first_rows g c =
+    let p = err_from_is_err_and c.from_residual-in_err-render_first_rows.result
+    c.from_residual-in_err-render_first_rows.ensures.1 in
+    let opened = open_at g (goal.at.returns-in_err-render_first_rows g c).In_ok-source in
+    let start = c.in_err-render_first_rows.ensures in
     rw (p.1 ∙ ap Err p.2)
     (record { same = start.same; renders = snippet-at_start opened start.writes start.io })
 
 pub returns : goal.returns
 returns g c =
     let opened = open_at g (goal.at.returns g c).In_ok-source in
-    let start = c.in_ok-render_start.ensures in
+    let start = c.in_ok-render_first_rows.ensures in
     let lines = c.render_lines.ensures in
     record {
       same =

@@ -29,7 +29,7 @@ pub struct Pointer {
     /// The column of the pointer: that of the character's first cell.
     pub column: u128,
     /// The column after the pointer: the next one, or the same where the character has no cell.
-    pub after: u128,
+    pub end_column: u128,
     /// The style that takes precedence among those of the labels that hang from it.
     pub style: LabelStyle,
 }
@@ -45,19 +45,19 @@ pub fn write_pointers<W: PutStyle>(
     w: &mut W,
     context: RowContext<'_>,
     pointers: &[Pointer],
-    before: usize,
+    byte_index: usize,
     edge: u128,
 ) -> Result<(), W::Error>
     ensures { Writes (W.sink w.old)
-        (spaced (context_view context.entry) edge 0 (pointers_before before pointers.now))
+        (spaced (context_view context.entry) edge 0 (pointers_before byte_index pointers.now))
         result (W.sink w.new) }
 {
     let mut column = 0u128;
     for pointer in pointers {
-        if pointer.byte_index < before {
+        if pointer.byte_index < byte_index {
             let pending = pointer.column.saturating_sub(column);
             caret_pointer(w, context, pending, pointer.style)?;
-            column = pointer.after;
+            column = pointer.end_column;
         }
     }
     write_spaces(w, edge.saturating_sub(column))
@@ -84,8 +84,8 @@ pub fn find_pointers(
     characters: CachedMetrics<'_, '_>,
 ) -> Result<(), Error>
     requires hanging_labels { AreHanging line.labels.now messages.before.now messages.after.now }
-    requires before { IsTrue (starts_in_order (single_label_views messages.before.now)) }
-    requires after { IsTrue (starts_in_order (single_label_views messages.after.now)) }
+    requires before_trailing { IsTrue (starts_in_order (single_label_views messages.before.now)) }
+    requires after_trailing { IsTrue (starts_in_order (single_label_views messages.after.now)) }
     requires characters { cached_left characters ≡ char_metrics tab_width line.text.now }
     ensures found { IfOk result (λ _. pointers.new.items
         ≡ pointers_in (hanging_labels (single_label_views line.entry.labels.now))
@@ -96,15 +96,15 @@ pub fn find_pointers(
     if !has_any_message(messages.before) && !has_any_message(messages.after) {
         return Ok(());
     }
-    let mut before = StartCursor::new(messages.before);
-    let mut after = StartCursor::new(messages.after);
+    let mut before_trailing = StartCursor::new(messages.before);
+    let mut after_trailing = StartCursor::new(messages.after);
     let greatest_start = max_label_start(line.labels);
     for metrics in characters {
         if metrics.byte_index > greatest_start {
             return Ok(());
         }
-        let early = before.start_style(None, metrics);
-        if let Some(style) = after.start_style(early, metrics) {
+        let early = before_trailing.start_style(None, metrics);
+        if let Some(style) = after_trailing.start_style(early, metrics) {
             pointers.push(pointer_under(metrics, style))?;
         }
     }
@@ -119,7 +119,7 @@ fn pointer_under(metrics: Metrics, style: LabelStyle) -> Pointer
     Pointer {
         byte_index: metrics.byte_index,
         column: metrics.column,
-        after: metrics.column + metrics.unicode_width.min(1) as u128,
+        end_column: metrics.column + metrics.unicode_width.min(1) as u128,
         style,
     }
 }

@@ -14,7 +14,7 @@ loop-end-init g c =
       within = omega (arith, c.requires);
       sorted = λ k d from below. absurd (omega arith);
       last =
-          subst (λ e. IsLaneMarkOn first.file first.line.index c.in-Some.lane (annotation_view e))
+          subst (λ e. IsLaneMarkOn first.file_index first.line.index c.in-Some.lane (annotation_view e))
           (c.index-annotations-start.is ∙ ap (λ i. get_or xs i first) (omega arith))
           c.in-Some.ensures;
     }
@@ -26,7 +26,7 @@ loop-end-preserved g c =
     let first = c.index-annotations-start.result in
     let last = get_or xs (end - 1) first in
     let new = c.index-annotations-end.result in
-    let mark : IsLaneMarkOn first.file first.line.index c.in-Some-lane_on.next
+    let mark : IsLaneMarkOn first.file_index first.line.index c.in-Some-lane_on.next
     (annotation_view new) =
     c.in-Some-lane_on.ensures in
     record {
@@ -37,13 +37,13 @@ loop-end-preserved g c =
           (end + 1) last new
           (get_or_default xs (end - 1) first last (omega arith)) c.index-annotations-end.is
           (omega arith)
-          (mark_rises first.file first.line.index c.loop-end.lane c.in-Some-lane_on.next
+          (mark_rises first.file_index first.line.index c.loop-end.lane c.in-Some-lane_on.next
           (annotation_view last) (annotation_view new) c.loop-end.invariant.last mark
           c.if-lane-next.true)
           c.loop-end.invariant.sorted (λ k d from below. absurd (omega arith));
       last =
           subst
-          (λ e. IsLaneMarkOn first.file first.line.index c.in-Some-lane_on.next (annotation_view e))
+          (λ e. IsLaneMarkOn first.file_index first.line.index c.in-Some-lane_on.next (annotation_view e))
           (c.index-annotations-end.is ∙ get_or_default xs end new first (omega arith)
           ∙ ap (λ i. get_or xs i first) (omega arith))
           mark;

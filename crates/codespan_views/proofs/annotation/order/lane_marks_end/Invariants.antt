@@ -11,7 +11,7 @@ invariant-loop-end g l = record {
   within : l.end ≤ length l.annotations;
   sorted : IsSortedWithin (λ x y. is_before (annotation_view x) (annotation_view y)) l.annotations
       l.start l.end;
-  last : IsLaneMarkOn l.first.file l.first.line.index l.lane
+  last : IsLaneMarkOn l.first.file_index l.first.line.index l.lane
       (annotation_view (get_or l.annotations (l.end - 1) l.first));
 }
 

@@ -3,13 +3,13 @@ use Rattle.std.specs.Prelude.{if◌then◌else◌}
 use Rattle.codespan_core.specs.FileModel.{line_count}
 use Rattle.codespan_views.specs.Private.LabelAnnotations.{line_annotations}
 use Rattle.codespan_views.specs.Private.AnnotationViews.{IsLineAt}
-use Rattle.codespan_views.specs.Private.CollectedLabels.{AddsLine, label_of_collector}
+use Rattle.codespan_views.specs.Private.LabelsToCollect.{AppendsLineAnnotations, label_of_collector}
 use Rattle.codespan_views.specs.Private.LabelSpans.{spans_line}
 use Rattle.codespan_views.specs.declared.label_annotations.FoundAnnotations.{FoundAnnotations}
 use Rattle.codespan_picture.specs.Lookups.{is_looked_up}
 use Rattle.codespan_picture.specs.OutputStreams.{label_of}
 use Rattle.codespan_views.specs.Private.SourceFiles.{model_of}
-use Rattle.codespan_views.proofs.Collecting.{Adds-none, Adds-as}
+use Rattle.codespan_views.proofs.Collecting.{AppendsAnnotations-none, AppendsAnnotations-as}
 use Rattle.codespan_views.proofs.CollectedLines.{added-looked_up, far-spans, looked_up-around, looked_up-spanned, padding-spanned, padding-unspanned, succeeded-looked_up}
 use Rattle.codespan_views.proofs.label_annotations.LabelCollector.collect_line.Given.{Over}
 use Rattle.codespan_views.proofs.label_annotations.LabelCollector.collect_line.Goals.{In_ok-push_line, then-is_far, else-is_far, then-is_spanned, else-is_spanned, else-not-is_spanned-via-then-not-is_spanned+else-not-is_around, else-not-is_spanned-via-else-not-is_spanned}
@@ -21,9 +21,9 @@ returns-then-not-is_around-clause-added g c =
     let x = (label_of c.args.self.now.label.now).label in
     let not_looked_up : is_looked_up c.args.self.now.config.now f x c.args.index ≡ false =
     search rules in
-    λ _. Adds-as
+    λ _. AppendsAnnotations-as
     (ap (λ (b : Bool). if b then line_annotations c.args.self.now.config.now f c.args.self.now.indices x c.args.index else []) not_looked_up)
-    Adds-none
+    AppendsAnnotations-none
 
 -- the line was found
 line_found : (g : Over) (c : In_ok-push_line g)
@@ -81,9 +81,9 @@ pub returns-clause-added : goal.returns-clause-added
 returns-clause-added g c =
     let x = label_of_collector g.F.Files.database c.args.self.now in
     λ _. added-looked_up x c.args.index (looked_up g c)
-    (subst (λ l. AddsLine x c.args.found.now.annotations.items c.push_line.new.annotations.items l)
+    (subst (λ l. AppendsLineAnnotations x c.args.found.now.annotations.items c.push_line.new.annotations.items l)
     (line_found g c).0
-    (subst (λ old. AddsLine x old c.push_line.new.annotations.items c.in-Some.line.index)
+    (subst (λ old. AppendsLineAnnotations x old c.push_line.new.annotations.items c.in-Some.line.index)
     (annotations_are g c) c.in_ok-push_line.ensures.added))
 
 pub returns-clause-padding : goal.returns-clause-padding
@@ -93,14 +93,14 @@ returns-clause-padding g c =
     let span = collector.span in
     let found = line_found g c in
     let number = found.1.number_is ∙ ap x.file.line_number found.0 in
-    let digits : FoundAnnotations g.row.F-FileId.Denot → ℕ = λ f. f.spanned_padding.digits in
+    let digits : FoundAnnotations g.row.F-FileId.Denot → ℕ = λ f. f.spanned_padding.digit_count in
     λ _. elim c.if-is_spanned.branch [
       | then-is_spanned w ↦ padding-spanned x span.first span.last c.args.index c.requires.lines.first
-          c.requires.lines.last _ c.args.found.now.spanned_padding.digits
+          c.requires.lines.last _ c.args.found.now.spanned_padding.digit_count
           (sym (is_spanned g c) ∙ w.if-is_spanned.true)
           (ap digits w.found-is ∙ rw number at w.fit.ensures)
       | else-is_spanned w ↦ padding-unspanned x span.first span.last c.args.index
-          c.requires.lines.first c.requires.lines.last _ c.args.found.now.spanned_padding.digits
+          c.requires.lines.first c.requires.lines.last _ c.args.found.now.spanned_padding.digit_count
           (sym (is_spanned g c) ∙ w.if-is_spanned.false) (ap digits w.found-is)
     ]
 

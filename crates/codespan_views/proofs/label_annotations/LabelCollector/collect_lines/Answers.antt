@@ -4,10 +4,10 @@ use Rattle.std.proofs.lemmas.Bool.Decides.{nat_tests}
 use Rattle.std.proofs.lemmas.Result.{err_from_is_err_and}
 use Rattle.codespan_core.specs.Lemmas.Lines.{line_of_below}
 use Rattle.codespan_views.specs.declared.label_annotations.LabelCollector.{LabelCollector}
-use Rattle.codespan_views.specs.Private.CollectedLabels.{label_of_collector}
+use Rattle.codespan_views.specs.Private.LabelsToCollect.{label_of_collector}
 use Rattle.std.specs.Ordering.{nat_cmp, partial_le, partial_lt}
 use Rattle.codespan_views.specs.Private.LabelSpans.{IsFarInside}
-use Rattle.codespan_views.specs.Private.SourceFiles.{line_failure}
+use Rattle.codespan_views.specs.Private.SourceFiles.{line_failure_unless_past_end}
 use Rattle.codespan_views.proofs.Contexts.{CollectsLabel, CollectsLines, HasEnds, collected-start, collected-context, collected-reach, collected-failed, collected-line}
 use Rattle.codespan_views.proofs.label_annotations.LabelCollector.collect_lines.Given.{Over}
 use Rattle.codespan_views.proofs.label_annotations.LabelCollector.collect_lines.Goals.{Else-not-branch}
@@ -60,7 +60,7 @@ returns-in_err-collect_line-clause-failed g c =
     rw (p.1 ∙ ap Err p.2) (λ known. let failed = c.in_err-collect_line.ensures.failed known in
     collected-failed {x = x} c.loop-index.invariant
     (has_ends g c.lifetimes (search rules) collector) failed.0
-    (ap (λ k. line_failure x.file (x.failure x.file_id) k c.loop-index.index-counter) c.requires.last
+    (ap (λ k. line_failure_unless_past_end x.file (x.failure x.file_id) k c.loop-index.index-counter) c.requires.last
     ∙ failed.1))
 
 -- the file has no more lines

@@ -1,4 +1,4 @@
-use Rattle.codespan_views.specs.Private.CollectedLabels.{label_of_collector}
+use Rattle.codespan_views.specs.Private.LabelsToCollect.{label_of_collector}
 use Rattle.codespan_views.proofs.Contexts.{CollectsLines}
 use Rattle.codespan_views.proofs.label_annotations.LabelCollector.collect_lines.Given as goal
 

@@ -70,21 +70,21 @@ returns-in_err-render_snippet g c =
           c.loop-index.invariant.same.config c.in_err-render_snippet.ensures.renders;
     })
 
-pub returns-in_err-render_trailing_empty_row : goal.returns-in_err-render_trailing_empty_row
-returns-in_err-render_trailing_empty_row g c =
+pub returns-in_err-render_empty_row_after : goal.returns-in_err-render_empty_row_after
+returns-in_err-render_empty_row_after g c =
     let at = element-equal c.deref-snippet_plan-items.ensures.value c.loop-index-test.true
     c.snippet_plan-item.is in
     let own =
     own-snippet_lines at c.loop-index.invariant.files c.lines_of_file-snippet_lines.ensures in
-    let p = err_from_is_err_and c.from_residual-in_err-render_trailing_empty_row.result
-    c.from_residual-in_err-render_trailing_empty_row.ensures.1 in
+    let p = err_from_is_err_and c.from_residual-in_err-render_empty_row_after.result
+    c.from_residual-in_err-render_empty_row_after.ensures.1 in
     let was = c.loop-index.invariant.same in
     let first = c.in_ok-render_snippet.ensures in
-    let second = c.in_err-render_trailing_empty_row.ensures in
+    let second = c.in_err-render_empty_row_after.ensures in
     rw (p.1 ∙ ap Err p.2) (record {
       same = same_twice was (same_twice first.same second.same);
       renders = cut-after_snippet c.requires c.loop-index.invariant.left at own
-          (followed g (goal.at.returns-in_err-render_trailing_empty_row g c).After-render_snippet)
+          (followed g (goal.at.returns-in_err-render_empty_row_after g c).After-render_snippet)
           was.config first.renders first.same.config second.writes second.io;
     })
 
@@ -95,7 +95,7 @@ loop-index-preserved g c =
     let own =
     own-snippet_lines at c.loop-index.invariant.files c.lines_of_file-snippet_lines.ensures in
     let first = c.in_ok-render_snippet.ensures.same in
-    let second = c.in_ok-render_trailing_empty_row.ensures.same in
+    let second = c.in_ok-render_empty_row_after.ensures.same in
     let was = c.loop-index.invariant.same in
     record {
       same = same_twice was (same_twice first second);
@@ -103,7 +103,7 @@ loop-index-preserved g c =
       left =
           next-file c.requires c.loop-index.invariant.left at own
           (followed g (goal.at.loop-index-preserved g c).After-render_snippet) was.config
-          c.in_ok-render_snippet.ensures.renders first.config c.in_ok-render_trailing_empty_row.ensures.writes;
+          c.in_ok-render_snippet.ensures.renders first.config c.in_ok-render_empty_row_after.ensures.writes;
     }
 
 pub returns : goal.returns

@@ -11,7 +11,7 @@ use Rattle.codespan_renderer.specs.Private.MetricsLeft.{metrics_left}
 use Rattle.codespan_renderer.proofs.ScannedPointers.{spaces_none, pointer_first, spaces_first, spaces_last, spaces_due}
 use Rattle.codespan_renderer.proofs.PointersBefore.{spaces_rest}
 use Rattle.codespan_picture.proofs.ScanState.{scan_state-char_metrics, scan_state-more}
-use Rattle.codespan_renderer.proofs.term.renderer.scanned_line.scanned_caret_pointers.Goals.{in-Some-pointer_style_if_any+in_ok-caret_pointer, in_default, in-None, in-Some+then-metrics-before}
+use Rattle.codespan_renderer.proofs.term.renderer.scanned_line.scanned_caret_pointers.Goals.{in-Some-pointer_style_if_any+in_ok-caret_pointer, in_default, in-None, in-Some+then-metrics-byte_index}
 use Rattle.codespan_renderer.proofs.term.renderer.scanned_line.scanned_caret_pointers.Goals as goal
 
 pub loop-metrics-init : goal.loop-metrics-init
@@ -73,12 +73,12 @@ returns g c =
     let context = context_view c.args.context in
     let labels = single_label_views c.args.line.labels.now in
     let end : spaces at.pending
-    ++ pointers context labels (metrics_before c.args.before (metrics_left at.metrics-iterator))
+    ++ pointers context labels (metrics_before c.args.byte_index (metrics_left at.metrics-iterator))
     ≡ spaces at.pending =
     elim c.match-next.branch [
       | in-None w ↦ spaces_last context labels _ _ _ w.in-None.ensures.steps.0
-      | in-Some+then-metrics-before w ↦ spaces_rest context labels _ _ _ _ _ _ w.in-Some.metrics _
+      | in-Some+then-metrics-byte_index w ↦ spaces_rest context labels _ _ _ _ _ _ w.in-Some.metrics _
           c.max_label_start-greatest_start.ensures w.in-Some.ensures.steps at.invariant.scan_state
-          w.then-metrics-before.either
+          w.then-metrics-byte_index.either
     ] in
     StillToWrite-last _ _ _ _ _ _ at.invariant.with_written (rw end c.write_spaces.ensures)

@@ -15,9 +15,9 @@ invariant-loop-metrics g l = record {
   scan_state : ScanState (length l.line.text.now) l.pending (metrics_left l.metrics-iterator);
   with_written : StillToWrite (g.W.PutStyle.sink l.fn.w)
       (pointers (context_view l.context) (single_label_views l.line.labels.now)
-      (metrics_before l.before (char_metrics l.context.tab_width l.line.text.now)))
+      (metrics_before l.byte_index (char_metrics l.context.tab_width l.line.text.now)))
       (spaces l.pending
       ++ pointers (context_view l.context) (single_label_views l.line.labels.now)
-      (metrics_before l.before (metrics_left l.metrics-iterator)))
+      (metrics_before l.byte_index (metrics_left l.metrics-iterator)))
       (g.W.PutStyle.sink l.w);
 }

@@ -41,12 +41,12 @@ offset_bounds-rest-count g c = omega arith
 pub returns-in_err-push_shown-clause-failed : goal.returns-in_err-push_shown-clause-failed
 returns-in_err-push_shown-clause-failed g c =
     let group = next g (goal.at.returns-in_err-push_shown-clause-failed g c).After-shows_line in
-    let opens = views_of-shown group c.loop-first.previous c.loop-first.hidden.now
+    let opens = views_of-shown group c.loop-first.previous c.loop-first.hidden_annotations.now
     (sym c.if-shows_line.ensures) in
     let p = err_from_is_err_and c.from_residual.result c.from_residual.ensures.1 in
     rw (p.1 ∙ ap Err p.2)
     (λ known. left_failed c.loop-first.invariant.left
-    (lines_to c.loop-first.previous (map annotation_view c.loop-first.hidden.now)
+    (lines_to c.loop-first.previous (map annotation_view c.loop-first.hidden_annotations.now)
     c.in-Some.first.now.line.index
     (map annotation_view (take c.count_on_line-count.result c.loop-first.rest.now)))
     _ opens
@@ -65,7 +65,7 @@ loop-first-smaller g c =
 pub loop-first-preserved-in_ok-push_shown : goal.loop-first-preserved-in_ok-push_shown
 loop-first-preserved-in_ok-push_shown g c =
     let group = next g (goal.at.loop-first-preserved-in_ok-push_shown g c).After-shows_line in
-    let opens = views_of-shown group c.loop-first.previous c.loop-first.hidden.now
+    let opens = views_of-shown group c.loop-first.previous c.loop-first.hidden_annotations.now
     (sym c.if-shows_line.ensures) in
     let fewer = later-fewer group c.count_on_line-count.ensures.within in
     record {
@@ -84,18 +84,18 @@ loop-first-preserved g c =
       within = omega (arith, fewer);
       lines = later_lines g (goal.at.loop-first-preserved g c).After-shows_line;
       left =
-          rw (sym (views_of-hidden group c.loop-first.previous c.loop-first.hidden.now
+          rw (sym (views_of-hidden group c.loop-first.previous c.loop-first.hidden_annotations.now
           (sym c.if-shows_line.ensures))) c.loop-first.invariant.left;
     }
 
 pub returns-clause-added : goal.returns-clause-added
 returns-clause-added g c =
     left_added c.loop-first.invariant.left
-    (lines_left-none c.loop-first.hidden.now c.loop-first.rest.now c.loop-first.previous
+    (lines_left-none c.loop-first.hidden_annotations.now c.loop-first.rest.now c.loop-first.previous
     (sym c.in_default.ensures.value))
 
 pub returns-clause-failed : goal.returns-clause-failed
 returns-clause-failed g c =
     left_succeeded c.loop-first.invariant.left
-    (lines_left-none c.loop-first.hidden.now c.loop-first.rest.now c.loop-first.previous
+    (lines_left-none c.loop-first.hidden_annotations.now c.loop-first.rest.now c.loop-first.previous
     (sym c.in_default.ensures.value))

@@ -15,7 +15,7 @@ invariant-loop-first g l = record {
   left : LinesLeft (g.F.Files.database l.self.file.files.now).failure l.self.file.file_id
       l.self.layout
       (model_of g.F.Files.database l.self.file) (lines_of (map annotation_view l.annotations))
-      (lines_left l.hidden l.rest l.previous) l.fn.snippet_lines.items l.snippet_lines.items;
+      (lines_left l.hidden_annotations l.rest l.previous) l.fn.snippet_lines.items l.snippet_lines.items;
 }
 
 abbrev pub decreases-loop-first : goal.decreases-loop-first

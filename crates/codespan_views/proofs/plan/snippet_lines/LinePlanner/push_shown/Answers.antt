@@ -2,7 +2,7 @@ use Rattle.std.proofs.Common.{◌∷◌, [], ◌++◌, map, Err, refl, sym, ap, 
 use Rattle.std.proofs.lemmas.Result.{err_from_is_err_and}
 use Rattle.codespan_views.specs.Private.AnnotationViews.{annotation_view}
 use Rattle.codespan_views.specs.Private.LinePlanners.{numbers_failure}
-use Rattle.codespan_views.specs.Private.SnippetLineViews.{AddsLines, gap_lines}
+use Rattle.codespan_views.specs.Private.SnippetLineViews.{AppendsSnippetLines, gap_lines}
 use Rattle.codespan_views.specs.Private.SnippetLines.{Labeled, filled_lines_of}
 use Rattle.codespan_views.specs.Private.SourceFiles.{model_of}
 use Rattle.codespan_views.proofs.LinesFound.{adds_then, filled_lines_of-shown}
@@ -11,10 +11,10 @@ use Rattle.codespan_views.proofs.plan.snippet_lines.LinePlanner.push_shown.Goals
 pub returns-clause-added : goal.returns-clause-added
 returns-clause-added g c =
     let planner = c.args.self.now in
-    let hidden = map annotation_view c.args.hidden.now in
+    let hidden = map annotation_view c.args.hidden_annotations.now in
     let own = map annotation_view c.args.annotations.now in
     subst
-    (λ xs. AddsLines planner.layout (model_of g.F.Files.database planner.file)
+    (λ xs. AppendsSnippetLines planner.layout (model_of g.F.Files.database planner.file)
     c.args.snippet_lines.now.items c.push.new.self.items
     (xs ++ Labeled c.args.line.index own ∷ []))
     (sym (c.gap_before.ensures hidden own))
@@ -31,7 +31,7 @@ returns-clause-added g c =
 pub returns-in_err-push_gap-clause-failed : goal.returns-in_err-push_gap-clause-failed
 returns-in_err-push_gap-clause-failed g c =
     let failure = numbers_failure g.F.Files.database c.args.self.now in
-    let hidden = map annotation_view c.args.hidden.now in
+    let hidden = map annotation_view c.args.hidden_annotations.now in
     let own = map annotation_view c.args.annotations.now in
     let p = err_from_is_err_and c.from_residual.result c.from_residual.ensures.1 in
     rw (p.1 ∙ ap Err p.2)
@@ -44,7 +44,7 @@ returns-in_err-push_gap-clause-failed g c =
 pub returns-clause-failed : goal.returns-clause-failed
 returns-clause-failed g c =
     let failure = numbers_failure g.F.Files.database c.args.self.now in
-    let hidden = map annotation_view c.args.hidden.now in
+    let hidden = map annotation_view c.args.hidden_annotations.now in
     let own = map annotation_view c.args.annotations.now in
     ap (λ xs. failure (filled_lines_of (xs ++ Labeled c.args.line.index own ∷ [])))
     (c.gap_before.ensures hidden own)

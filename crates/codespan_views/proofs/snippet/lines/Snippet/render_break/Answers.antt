@@ -19,7 +19,7 @@ returns-in_err-fill_lane_marks g c =
 
 pub render_snippet_break-requires : goal.render_snippet_break-requires
 render_snippet_break-requires g c = lanes_fit c.args.self.now.num_multi_labels
-    (map annotation_view c.args.next.now) _
+    (map annotation_view c.args.next_annotations.now) _
     (ap (map lane_mark_view) c.as_slice.ensures.value
     ∙ c.in_ok-fill_lane_marks.ensures.lane_marks) c.requires.in_order
 

@@ -26,8 +26,8 @@ loop-metrics-init c =
     ∙ c.requires.characters in
     rw (all, c.clear.ensures.items) record {
       cursor =
-          passing-start _ _ _ _ _ c.new-before.ensures.passed c.new-after.ensures.passed
-          c.new-before.ensures.labels c.new-after.ensures.labels
+          passing-start _ _ _ _ _ c.new-before_trailing.ensures.passed c.new-after_trailing.ensures.passed
+          c.new-before_trailing.ensures.labels c.new-after_trailing.ensures.labels
           (char_metrics-consecutive c.args.tab_width 0 0 (chars c.args.line.text.now));
       scan_state = scan_state-char_metrics _ _ (IsUtf8-had _ c.args.line.utf8);
       found = refl;

@@ -11,7 +11,7 @@ use Rattle.codespan_renderer.proofs.term.renderer.cached.pointers.find_pointers.
 -- the pointers of the characters that are left are still to be found
 abbrev pub invariant-loop-metrics : goal.invariant-loop-metrics
 invariant-loop-metrics l = record {
-  cursor : IsPassing l.messages.before.now l.messages.after.now l.before l.after
+  cursor : IsPassing l.messages.before.now l.messages.after.now l.before_trailing l.after_trailing
       (cached_left l.metrics-iterator);
   scan_state : ScanState (length l.line.text.now) 0 (cached_left l.metrics-iterator);
   found : l.pointers.items ++ pointers_in (hanging_labels (single_label_views l.line.labels.now))

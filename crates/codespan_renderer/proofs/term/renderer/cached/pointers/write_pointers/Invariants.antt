@@ -8,7 +8,7 @@ use Rattle.codespan_renderer.proofs.term.renderer.cached.pointers.write_pointers
 abbrev pub invariant-loop-pointer : goal.invariant-loop-pointer
 invariant-loop-pointer g l =
     StillToWrite (g.W.PutStyle.sink l.fn.w)
-    (spaced (context_view l.context) l.edge 0 (pointers_before l.before l.pointers))
+    (spaced (context_view l.context) l.edge 0 (pointers_before l.byte_index l.pointers))
     (spaced (context_view l.context) l.edge l.column
-    (pointers_before l.before (drop l.pointer-index l.pointers)))
+    (pointers_before l.byte_index (drop l.pointer-index l.pointers)))
     (g.W.PutStyle.sink l.w)

@@ -1,10 +1,10 @@
 use Rattle.std.proofs.Common.{arith}
 use Rattle.codespan_views.proofs.FewDigits.{few_digits}
-use Rattle.codespan_views.proofs.spanned_padding.PaddingWidth.with_digits.Goals as goal
-use Rattle.codespan_views.proofs.spanned_padding.PaddingWidth.with_digits.Goals.{in-1, in-2, in-3, in-4, in-5, in-6, in_default}
+use Rattle.codespan_views.proofs.spanned_padding.PaddingWidth.with_digit_count.Goals as goal
+use Rattle.codespan_views.proofs.spanned_padding.PaddingWidth.with_digit_count.Goals.{in-1, in-2, in-3, in-4, in-5, in-6, in_default}
 
 pub invariant_of-result : goal.invariant_of-result
-invariant_of-result c = elim c.match-digits.branch [
+invariant_of-result c = elim c.match-digit_count.branch [
   | in-1 w ↦ rw (w.in-1.is, w.limit-is)
       (record { fits = λ n below. few_digits 1 n (omega arith) (omega arith) below })
   | in-2 w ↦ rw (w.in-2.is, w.limit-is)

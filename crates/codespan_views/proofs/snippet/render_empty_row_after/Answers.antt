@@ -1,6 +1,6 @@
 use Rattle.std.proofs.Common.{append-nil, sym}
 use Rattle.codespan_views.proofs.RendererRuns.{renders_as, renders_nothing}
-use Rattle.codespan_views.proofs.snippet.render_trailing_empty_row.Goals as goal
+use Rattle.codespan_views.proofs.snippet.render_empty_row_after.Goals as goal
 
 pub returns-then-is_followed : goal.returns-then-is_followed
 returns-then-is_followed g c =

@@ -4,7 +4,7 @@ use Rattle.codespan_core.specs.declared.term.config.Config.{Config}
 use Rattle.codespan_renderer.specs.Renderers.{config_of}
 use Rattle.codespan_picture.specs.RenderedRows.{rendered_snippet_empty, rendered_start}
 use Rattle.codespan_views.proofs.RendererRuns.{renders_as, renders_cut, renders_then}
-use Rattle.codespan_views.proofs.snippet.render_start.Goals as goal
+use Rattle.codespan_views.proofs.snippet.render_first_rows.Goals as goal
 
 pub returns-in_err-render_snippet_start : goal.returns-in_err-render_snippet_start
 returns-in_err-render_snippet_start g c =

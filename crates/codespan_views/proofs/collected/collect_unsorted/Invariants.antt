@@ -1,11 +1,11 @@
 use Rattle.codespan_picture.specs.Snippets.{file_ids}
 use Rattle.codespan_views.proofs.LabelsBefore.{before}
 use Rattle.codespan_views.proofs.LabelsCollected.{AreCollected}
-use Rattle.codespan_views.proofs.collected.collect_in_turn.Given as goal
+use Rattle.codespan_views.proofs.collected.collect_unsorted.Given as goal
 
 -- the labels before this one are done with
 abbrev pub invariant-loop-index : goal.invariant-loop-index
 invariant-loop-index g l =
     AreCollected (g.F.Files.database l.files) l.config
     (file_ids (g.F.Files.database l.files).same (before l.labels l.index))
-    (before l.labels l.index) l.labeled.items l.found
+    (before l.labels l.index) l.labeled_files.items l.found

@@ -8,14 +8,14 @@ use Rattle.codespan_picture.specs.Padding.{count_digits, spans}
 use Rattle.codespan_picture.specs.Snippets.{LabelInFile}
 
 -- those of a line's number, where the label spans it
-abbrev pub digits_on : FileModel → LabelModel → ℕ → List ℕ
-digits_on f x l = if spans f x l then count_digits (f.line_number l) ∷ [] else []
+abbrev pub digit_count_if_spanned : FileModel → LabelModel → ℕ → List ℕ
+digit_count_if_spanned f x l = if spans f x l then count_digits (f.line_number l) ∷ [] else []
 
 -- those of all lines of a label
-abbrev pub label_digits : FileModel → LabelModel → List ℕ
-label_digits f x = flat_map (digits_on f x) (range_with_len 0 (line_count f))
+abbrev pub label_digit_counts : FileModel → LabelModel → List ℕ
+label_digit_counts f x = flat_map (digit_count_if_spanned f x) (range_with_len 0 (line_count f))
 
 -- those of all labels
-abbrev pub all_digits : {Id : Type 0} → (Id → FileModel) → List (LabelInFile Id) → List ℕ
-all_digits {Id} file xs =
-    flat_map (λ (x : LabelInFile Id). label_digits (file x.file_id) x.label) xs
+abbrev pub all_digit_counts : {Id : Type 0} → (Id → FileModel) → List (LabelInFile Id) → List ℕ
+all_digit_counts {Id} file xs =
+    flat_map (λ (x : LabelInFile Id). label_digit_counts (file x.file_id) x.label) xs

@@ -12,11 +12,11 @@ use Rattle.codespan_views.specs.declared.label_annotations.LabelCollector.{Label
 use Rattle.codespan_views.specs.declared.label_annotations.FoundAnnotations.{FoundAnnotations}
 use Rattle.codespan_views.specs.declared.label_annotations.LabelIndices.{LabelIndices}
 use Rattle.codespan_views.specs.Private.Annotations.{AnnotationKind}
-use Rattle.codespan_views.specs.Private.LabelAnnotations.{annotations_of, line_annotations, annotations_on, lookups_on, lane_mark_at, kind_at}
+use Rattle.codespan_views.specs.Private.LabelAnnotations.{annotations_of, line_annotations, annotations_if_looked_up, lookups_if_looked_up, lane_mark_by_ends, kind_by_ends}
 use Rattle.codespan_views.specs.Private.FileLookups.{failure_in}
 use Rattle.codespan_views.specs.Private.SourceFiles.{failure_unless_past_end, model_of}
-use Rattle.codespan_views.specs.Private.AnnotationViews.{AddsOf}
-use Rattle.codespan_views.specs.Private.SpannedDigits.{digits_on, label_digits}
+use Rattle.codespan_views.specs.Private.AnnotationViews.{AppendsAnnotationsOf}
+use Rattle.codespan_views.specs.Private.SpannedDigitCounts.{digit_count_if_spanned, label_digit_counts}
 
 -- the lookups of one label
 abbrev pub lookups_of_label : {Id : Type 0} → Config → FileDatabase Id → LabelInFile Id
@@ -32,7 +32,7 @@ labels_failure config database xs =
     first_error database.failure (label_lookups config database xs)
 
 -- a label with its file, what lookups fail with, the configuration, and its indices
-pub record CollectedLabel (Id : Type 0) : Type 0 where
+pub record LabelToCollect (Id : Type 0) : Type 0 where
   pub file_id : Id
   pub file : FileModel
   pub failure : Failures Id
@@ -41,9 +41,9 @@ pub record CollectedLabel (Id : Type 0) : Type 0 where
   pub label : LabelModel
 
 -- a label of the files of a database
-abbrev pub collected_label : {Id : Type 0} → FileDatabase Id → Config → LabelIndices → Label Id
-    → CollectedLabel Id
-collected_label database config indices label = record {
+abbrev pub label_to_collect : {Id : Type 0} → FileDatabase Id → Config → LabelIndices → Label Id
+    → LabelToCollect Id
+label_to_collect database config indices label = record {
   file_id = label.file_id;
   file = database.file label.file_id;
   failure = database.failure;
@@ -54,25 +54,25 @@ collected_label database config indices label = record {
 
 -- the label whose lines a collector looks up
 abbrev pub label_of_collector : {F Id Name Source : Type 0} → (F → FileDatabase Id)
-    → LabelCollector F Id Name Source → CollectedLabel Id
-label_of_collector database collector = record {
+    → LabelCollector F Id Name Source → LabelToCollect Id
+label_of_collector database_of collector = record {
   file_id = collector.file.file_id;
-  file = model_of database collector.file;
-  failure = (database collector.file.files.now).failure;
+  file = model_of database_of collector.file;
+  failure = (database_of collector.file.files.now).failure;
   config = collector.config.now;
   indices = collector.indices;
   label = (label_of collector.label.now).label;
 }
 
 -- the collector has the lines on which its label starts and ends
-pub record HasLabelLines {F Id Name Source : Type 0} (database : F → FileDatabase Id)
+pub record HasLabelLines {F Id Name Source : Type 0} (database_of : F → FileDatabase Id)
     (collector : LabelCollector F Id Name Source) : Type 0 where
-  pub first : first_line (model_of database collector.file) (label_of collector.label.now).label
+  pub first : first_line (model_of database_of collector.file) (label_of collector.label.now).label
       ≡ collector.span.first
-  pub last : last_line (model_of database collector.file) (label_of collector.label.now).label
+  pub last : last_line (model_of database_of collector.file) (label_of collector.label.now).label
       ≡ collector.span.last
 
-module _ {Id : Type 0} (x : CollectedLabel Id) where
+module _ {Id : Type 0} (x : LabelToCollect Id) where
   -- ---- one line
 
   -- the line is looked up for it
@@ -80,40 +80,46 @@ module _ {Id : Type 0} (x : CollectedLabel Id) where
   IsLookedUp l = is_looked_up x.config x.file x.label l ≡ true
 
   -- the file has the line, where it is looked up
-  abbrev pub HasLineLookedUp : ℕ → Type 0
-  HasLineLookedUp l = IsLookedUp l → l < line_count x.file
+  abbrev pub HasLineIfLookedUp : ℕ → Type 0
+  HasLineIfLookedUp l = IsLookedUp l → l < line_count x.file
 
   -- its annotations of a line were appended
-  abbrev pub AddsLine : List (RustAnnotation Id) → List (RustAnnotation Id) → ℕ → Type 0
-  AddsLine old new l = AddsOf x.file old new (line_annotations x.config x.file x.indices x.label l)
+  abbrev pub AppendsLineAnnotations : List (RustAnnotation Id) → List (RustAnnotation Id) → ℕ
+      → Type 0
+  AppendsLineAnnotations old new l =
+      AppendsAnnotationsOf x.file old new
+      (line_annotations x.config x.file x.indices x.label l)
 
   -- its annotations of a line were found, where it is looked up
-  abbrev pub FindsLine : FoundAnnotations Id → FoundAnnotations Id → ℕ → Type 0
-  FindsLine old new l =
-      AddsOf x.file old.annotations.items new.annotations.items
-      (annotations_on x.config x.file x.label x.indices l)
+  abbrev pub FindsLineAnnotations : FoundAnnotations Id → FoundAnnotations Id → ℕ → Type 0
+  FindsLineAnnotations old new l =
+      AppendsAnnotationsOf x.file old.annotations.items new.annotations.items
+      (annotations_if_looked_up x.config x.file x.label x.indices l)
 
   -- the padding has been widened to the number of a line, where the label spans the line
-  abbrev pub ExtendsPaddingForLine : FoundAnnotations Id → FoundAnnotations Id → ℕ → Type 0
-  ExtendsPaddingForLine old new l =
-      new.spanned_padding.digits ≡ fold max old.spanned_padding.digits (digits_on x.file x.label l)
+  abbrev pub WidensPaddingForLine : FoundAnnotations Id → FoundAnnotations Id → ℕ → Type 0
+  WidensPaddingForLine old new l =
+      new.spanned_padding.digit_count
+      ≡ fold max old.spanned_padding.digit_count (digit_count_if_spanned x.file x.label l)
 
   -- what the lookups of a line fail with, where it is looked up
-  abbrev pub failure_on : ℕ → Option Error
-  failure_on l = failure_in x.failure x.file_id (lookups_on x.config x.file x.label l)
+  abbrev pub failure_if_looked_up : ℕ → Option Error
+  failure_if_looked_up l =
+      failure_in x.failure x.file_id (lookups_if_looked_up x.config x.file x.label l)
 
   -- ---- all of its lines
 
   -- its annotations were found
-  abbrev pub FindsLines : FoundAnnotations Id → FoundAnnotations Id → Type 0
-  FindsLines old new =
-      AddsOf x.file old.annotations.items new.annotations.items
+  abbrev pub FindsLabelAnnotations : FoundAnnotations Id → FoundAnnotations Id → Type 0
+  FindsLabelAnnotations old new =
+      AppendsAnnotationsOf x.file old.annotations.items new.annotations.items
       (annotations_of x.config x.file x.indices x.label)
 
   -- the padding has been widened to the numbers of the lines that the label spans
-  abbrev pub ExtendsPadding : FoundAnnotations Id → FoundAnnotations Id → Type 0
-  ExtendsPadding old new =
-      new.spanned_padding.digits ≡ fold max old.spanned_padding.digits (label_digits x.file x.label)
+  abbrev pub WidensPadding : FoundAnnotations Id → FoundAnnotations Id → Type 0
+  WidensPadding old new =
+      new.spanned_padding.digit_count
+      ≡ fold max old.spanned_padding.digit_count (label_digit_counts x.file x.label)
 
   -- what the lookups of its lines fail with
   abbrev pub lines_failure : Option Error
@@ -137,22 +143,22 @@ abbrev pub IfEnded : Result Bool Error → Type 0 → Type 0
 IfEnded r P = IfOk r (λ goes_on. goes_on ≡ false → P)
 
 -- what a label does on a line, by the lines of its ends
-abbrev pub kind_by : {F Id Name Source : Type 0} → LabelCollector F Id Name Source → LineInfo
-    → Option AnnotationKind
-kind_by collector line =
-    kind_at collector.config.now collector.indices collector.span.first collector.span.last
+abbrev pub kind_by_collector : {F Id Name Source : Type 0} → LabelCollector F Id Name Source
+    → LineInfo → Option AnnotationKind
+kind_by_collector collector line =
+    kind_by_ends collector.config.now collector.indices collector.span.first collector.span.last
     line.index line.start (label_of collector.label.now).label
 
 -- its lane mark on a line, by the lines of its ends
-abbrev pub lane_mark_by : {F Id Name Source : Type 0} → LabelCollector F Id Name Source → LineInfo
-    → Option AnnotationKind
-lane_mark_by collector line =
-    lane_mark_at collector.indices collector.span.first collector.span.last line.index line.start
-    (label_of collector.label.now).label
+abbrev pub lane_mark_by_collector : {F Id Name Source : Type 0} → LabelCollector F Id Name Source
+    → LineInfo → Option AnnotationKind
+lane_mark_by_collector collector line =
+    lane_mark_by_ends collector.indices collector.span.first collector.span.last line.index
+    line.start (label_of collector.label.now).label
 
 -- a line is looked up for the label, and its lookups fail with this error
-abbrev pub FailsLine : {F Id Name Source : Type 0} → (F → FileDatabase Id)
+abbrev pub FailsAtLine : {F Id Name Source : Type 0} → (F → FileDatabase Id)
     → LabelCollector F Id Name Source → ℕ → Error → Type 0
-FailsLine database collector l e =
-    IsLookedUp (label_of_collector database collector) l
-    × (failure_unless_past_end database collector.file collector.span.last l ≡ Some e)
+FailsAtLine database_of collector l e =
+    IsLookedUp (label_of_collector database_of collector) l
+    × (failure_unless_past_end database_of collector.file collector.span.last l ≡ Some e)
