@@ -13,7 +13,7 @@ use Rattle.gallery_script.specs.Requests.GalleryRequestView.{All, Styles, Docume
 use Rattle.gallery_cases.specs.Galleries.{IsGallery}
 use Rattle.gallery_cases.specs.Documents.{IsDocument}
 use Rattle.program_io.specs.declared.run_error.RunError.{RunError}
-use Rattle.program_io.specs.declared.run_error.RunError.TheVariants.{Failed, OutOfMemory}
+use Rattle.program_io.specs.declared.run_error.RunError.TheVariants.{Program, OutOfMemory}
 
 -- the bytes are what is requested of cases
 abbrev pub IsResponseOf : GalleryRequestView → List Case → List ℕ → Type 0
@@ -29,19 +29,19 @@ IsResponse request input bytes =
 
 -- why a request of cases fails: no case has the name, rendering failed, or an allocation failed
 abbrev pub IsFailureOf : GalleryRequestView → List Case → RunError GalleryError → Type 0
-IsFailureOf request cases (Failed (UnknownCase name)) =
+IsFailureOf request cases (Program (UnknownCase name)) =
     (format : Format) × (request ≡ Document format (string_bytes name))
     × (case_named (string_bytes name) cases ≡ None)
-IsFailureOf request cases (Failed (CannotRender error)) = Unit {0}
+IsFailureOf request cases (Program (CannotRender error)) = Unit {0}
 IsFailureOf request cases OutOfMemory = Unit {0}
 IsFailureOf request cases _ = ⊥
 
 -- what an error says of the input: a line's is the first of the input, and no case has an unknown
 -- name
 abbrev pub GalleryErrorMeans : Option GalleryRequestView → RunError GalleryError → List ℕ → Type 0
-GalleryErrorMeans request (Failed (Line number line_error)) input =
-    IsFirstLineError (lines input) (Failed (Line number line_error))
-GalleryErrorMeans request (Failed (UnknownCase name)) input =
+GalleryErrorMeans request (Program (Line number line_error)) input =
+    IsFirstLineError (lines input) (Program (Line number line_error))
+GalleryErrorMeans request (Program (UnknownCase name)) input =
     (format : Format) × (request ≡ Some (Document format (string_bytes name)))
     × ((cases : List Case) × AppliesLines (lines input) [] cases
     × (case_named (string_bytes name) cases ≡ None))

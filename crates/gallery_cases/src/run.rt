@@ -85,7 +85,7 @@ fn response(
         Request::Document(format, name) => {
             let Some(case) = case_named(cases, name) else {
                 let name = String::from_str(alloc, name)?;
-                return Err(RunError::Failed(GalleryError::UnknownCase(name)));
+                return Err(RunError::Program(GalleryError::UnknownCase(name)));
             };
             bytes_of(document(alloc, case, format))
         }
@@ -97,10 +97,10 @@ fn bytes_of(document: Result<String, Error>) -> Result<Vec<u8>, RunError<Gallery
     ensures { MatchResult result
         (λ bytes. IsOkAnd document (λ text. bytes.items ≡ string_bytes text))
         (λ run_error. IsErrAnd document (λ error.
-        run_error ≡ RunError.Failed (GalleryError.CannotRender error))) }
+        run_error ≡ RunError.Program (GalleryError.CannotRender error))) }
 {
     match document {
         Ok(document) => Ok(document.into_bytes()),
-        Err(error) => Err(RunError::Failed(GalleryError::CannotRender(error))),
+        Err(error) => Err(RunError::Program(GalleryError::CannotRender(error))),
     }
 }

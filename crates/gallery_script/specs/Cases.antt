@@ -153,7 +153,7 @@ IsLineError line before line_error =
 -- the error has the number, from 1, of the first line that is wrong, and what is wrong with it; or
 -- an allocation failed
 abbrev pub IsFirstLineError : List (List ℕ) → RunError GalleryError → Type 0
-IsFirstLineError lines (run_errors.Failed (gallery_errors.Line number line_error)) =
+IsFirstLineError lines (run_errors.Program (gallery_errors.Line number line_error)) =
     (k : ℕ) × (line : List ℕ) × (before : List Case) × (number ≡ k + 1)
     × (slice_get lines k ≡ Some line) × AppliesLines (take k lines) [] before
     × IsLineError line before line_error

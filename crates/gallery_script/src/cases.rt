@@ -23,7 +23,7 @@ use std::alloc::Global;
 ///
 /// # Errors
 ///
-/// - `Failed` with [`GalleryError::Line`]: the number, from 1, of the first line that has an error,
+/// - `Program` with [`GalleryError::Line`]: the number, from 1, of the first line that has an error,
 ///   and that error, or a failed allocation for the line.
 /// - `OutOfMemory`: an allocation for the list of lines fails.
 pub fn parse_cases(alloc: Global, input: &str) -> Result<Vec<Case<'_>>, RunError<GalleryError>>
@@ -47,7 +47,7 @@ fn apply_lines<'input>(
     for (index, line) in lines.iter().enumerate() {
         if let Err(error) = apply_line(alloc, &mut cases, line) {
             let number = index + 1;
-            return Err(RunError::Failed(GalleryError::Line { number, error }));
+            return Err(RunError::Program(GalleryError::Line { number, error }));
         }
     }
     Ok(cases)

@@ -29,7 +29,7 @@ pub enum RunError<E> {
     /// Writing or flushing the output failed.
     CannotWriteOutput,
     /// An error that only this program has.
-    Failed(E),
+    Program(E),
 }
 
 /// An error that only one program has. Its type also has the name and the usage of that program,
@@ -155,7 +155,7 @@ impl<E> From<AllocError> for RunError<E> {
     }
 }
 
-/// Writes the error's line, without its newline; for [`RunError::Failed`], what the `Display` of
+/// Writes the error's line, without its newline; for [`RunError::Program`], what the `Display` of
 /// the program's own error writes.
 impl<E: ProgramError> fmt::Display for RunError<E> {
     ghost output = { displayed_error E.program_name E.usage_line E.output };
@@ -168,7 +168,7 @@ impl<E: ProgramError> fmt::Display for RunError<E> {
             RunError::NotUtf8 => write!(f, "{program}: input is not UTF-8"),
             RunError::OutOfMemory => write!(f, "{program}: out of memory"),
             RunError::CannotWriteOutput => write!(f, "{program}: cannot write output"),
-            RunError::Failed(error) => write!(f, "{error}"),
+            RunError::Program(error) => write!(f, "{error}"),
         }
     }
 }

@@ -2,7 +2,7 @@
 use Rattle.std.proofs.Common.{◌≤◌, IfErr, OnOk, Result, ap, ◌≡◌, ◌≢◌, ◌⊎◌, inl, inr, ℕ, List, Option, Some, None, Ok, Err, IfSome, IsErrOf, subst, arith, codes, string_bytes}
 use Rattle.std.specs.Str.{IsUtf8}
 use Rattle.program_io.specs.declared.run_error.RunError.{RunError}
-use Rattle.program_io.specs.declared.run_error.RunError.TheVariants.{WrongArguments, CannotWriteOutput, Failed}
+use Rattle.program_io.specs.declared.run_error.RunError.TheVariants.{WrongArguments, CannotWriteOutput, Program}
 use Rattle.program_io.specs.Output.{AppendsPrefix}
 use Rattle.program_io.specs.RunErrors.{failed_output_line}
 use Rattle.program_io.proofs.Outcomes as general
@@ -113,7 +113,7 @@ reported_at_bad_script args bytes outcome status Reported is three are_known rep
       (λ (r : Outcome). IfErr r
       (λ error. IfBadScript error (λ text. Reported (string_bytes text))))
       bad.1.1 reported in
-      known_weaker (request_of args) bytes (ReportErrorMeans (Failed (BadScript text)))
+      known_weaker (request_of args) bytes (ReportErrorMeans (Program (BadScript text)))
       (λ request input. (p : List ℕ) × (rendering_of request input ≡ Err p) × Reported p)
       (λ request input same. (string_bytes text, same, received)) means
 ]

@@ -84,7 +84,7 @@ pub fn conclude<E: Write>(outcome: Result<(), RunError<ReportError>>, error_outp
         (failed_output_line (codes "report")) }
 {
     match outcome {
-        Err(RunError::Failed(ReportError::BadScript(text))) => {
+        Err(RunError::Program(ReportError::BadScript(text))) => {
             match write_and_flush(error_output, text.as_bytes()) {
                 Ok(()) => 3,
                 Err(_) => 1,
