@@ -38,11 +38,11 @@ IsFailureOf request cases _ = ⊥
 
 -- what an error says of the input: a line's is the first of the input, and no case has an unknown
 -- name
-abbrev pub GalleryErrorMeans : Option GalleryRequestView → RunError GalleryError → List ℕ → Type 0
-GalleryErrorMeans request (Program (Line number line_error)) input =
+abbrev pub IsRunError : Option GalleryRequestView → RunError GalleryError → List ℕ → Type 0
+IsRunError request (Program (Line number line_error)) input =
     IsFirstLineError (lines input) (Program (Line number line_error))
-GalleryErrorMeans request (Program (UnknownCase name)) input =
+IsRunError request (Program (UnknownCase name)) input =
     (format : Format) × (request ≡ Some (Document format (string_bytes name)))
     × ((cases : List Case) × AppliesLines (lines input) [] cases
     × (case_named (string_bytes name) cases ≡ None))
-GalleryErrorMeans request _ input = Unit {0}
+IsRunError request _ input = Unit {0}

@@ -2,7 +2,7 @@
 
 ghost use Rattle.std.specs.Prelude.{◌≡◌, ◌≢◌, ◌≤◌, ◌↔◌, ℕ, List, MatchResult, None, OnOk, IfErr, IfOk, IfSome, IsErrAnd, IsErrOf, IsOkAnd, map, string_bytes};
 ghost use Rattle.std.specs.Io.KnownBytes.{Appends};
-ghost use Rattle.gallery_cases.specs.Requests.{IsResponse, IsResponseOf, GalleryErrorMeans, IsFailureOf};
+ghost use Rattle.gallery_cases.specs.Requests.{IsResponse, IsResponseOf, IsRunError, IsFailureOf};
 ghost use Rattle.gallery_script.specs.Requests.{gallery_request_of, gallery_request_view};
 
 use crate::document::{default_style_sheet, document};
@@ -58,7 +58,7 @@ fn respond<R: Read, W: Write>(
         × Appends (W.contents output.old) (W.contents output.new) response))) }
     ensures reported { IfErr result (λ error.
         IfSome (R.remaining input.old)
-        (GalleryErrorMeans (gallery_request_of (map string_bytes args.now)) error)) }
+        (IsRunError (gallery_request_of (map string_bytes args.now)) error)) }
     ensures unchanged { IfErr result (λ error. error ≢ RunError.CannotWriteOutput
         → output.new ≡ output.old) }
 {

@@ -28,14 +28,14 @@ displayed_report_error (CannotRender error) =
 displayed_report_error (BadScript text) = Some (string_bytes text)
 
 -- what an error says of the request and of the input
-abbrev pub ReportErrorMeans : RunError ReportError → RequestView → List ℕ → Type 0
-ReportErrorMeans WrongArguments request input = ⊥
-ReportErrorMeans CannotReadInput request input = Unit {0}
-ReportErrorMeans NotUtf8 request input = ¬ (IsUtf8 input)
-ReportErrorMeans OutOfMemory request input = Unit {0}
-ReportErrorMeans CannotWriteOutput request input =
+abbrev pub IsRunError : RunError ReportError → RequestView → List ℕ → Type 0
+IsRunError WrongArguments request input = ⊥
+IsRunError CannotReadInput request input = Unit {0}
+IsRunError NotUtf8 request input = ¬ (IsUtf8 input)
+IsRunError OutOfMemory request input = Unit {0}
+IsRunError CannotWriteOutput request input =
     IsUtf8 input × ((text : List ℕ) × (rendering_of request input ≡ Ok text))
-ReportErrorMeans (Program error) request input = IsRenderFailure (rendering_of request input) error
+IsRunError (Program error) request input = IsRenderFailure (rendering_of request input) error
 
 -- the fact holds of the diagnostic, where the error is that of a script
 abbrev pub IfBadScript : RunError ReportError → (String Global → Type 0) → Type 0

@@ -6,7 +6,7 @@ ghost use Rattle.std.specs.Str.{IsUtf8};
 ghost use Rattle.report.specs.RenderedTexts.{rendering_of};
 ghost use Rattle.program_io.specs.Output.{AppendsPrefix};
 ghost use Rattle.program_io.specs.RunErrors.{failed_output_line};
-ghost use Rattle.report.specs.ReportErrors.{ReportErrorMeans, IfBadScript, IsReportStatusOf, UnchangedUnlessRendered};
+ghost use Rattle.report.specs.ReportErrors.{IsRunError, IfBadScript, IsReportStatusOf, UnchangedUnlessRendered};
 ghost use Rattle.report_script.specs.Requests.{WhereKnown, request_of};
 
 use crate::rendering::render;
@@ -112,7 +112,7 @@ fn respond<R: Read, W: Write>(
     ensures utf8 { OnOk result (WhereKnown (map string_bytes args.now) (R.remaining input.old)
         (λ _ bytes. IsUtf8 bytes)) }
     ensures reported { IfErr result (λ error.
-        WhereKnown (map string_bytes args.now) (R.remaining input.old) (ReportErrorMeans error)) }
+        WhereKnown (map string_bytes args.now) (R.remaining input.old) (IsRunError error)) }
     ensures unchanged { IfErr result (λ error. error ≢ RunError.CannotWriteOutput
         → output.new ≡ output.old) }
     ensures prefix { IsErrOf result RunError.CannotWriteOutput

@@ -3,7 +3,7 @@ use Rattle.std.specs.Str.Lines.{lines}
 use Rattle.gallery_script.specs.declared.case.Case.{Case}
 use Rattle.gallery_script.specs.Cases.{AppliesLines}
 use Rattle.gallery_script.specs.Requests.{gallery_request_of, gallery_request_view}
-use Rattle.gallery_cases.specs.Requests.{IsResponseOf, GalleryErrorMeans, IsFailureOf}
+use Rattle.gallery_cases.specs.Requests.{IsResponseOf, IsRunError, IsFailureOf}
 use Rattle.gallery_cases.proofs.Outcomes.{responded, requested, failed}
 use Rattle.gallery_cases.proofs.run.respond.Goals as goal
 
@@ -20,7 +20,7 @@ returns-in_err-response-clause-reported g c =
     c.in_err-response.field-0.0)
     c.as_slice.ensures.value c.in_err-response.ensures.fails in
     let reported : IfSome (g.R.Read.remaining c.args.input.now)
-    (GalleryErrorMeans (gallery_request_of (map string_bytes c.args.args.now))
+    (IsRunError (gallery_request_of (map string_bytes c.args.args.now))
     c.in_err-response.field-0.0) =
     failed _ _ _ _ c.in_ok-cases.cases.items _ is_requested read applied_lines fails in
     search rules
