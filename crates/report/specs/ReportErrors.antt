@@ -11,7 +11,7 @@ use Rattle.program_io.specs.declared.run_error.RunError.{RunError}
 use Rattle.program_io.specs.declared.run_error.RunError.TheVariants.{WrongArguments, CannotReadInput, NotUtf8, OutOfMemory, CannotWriteOutput, Program}
 use Rattle.report.specs.declared.report_error.ReportError.{ReportError}
 use Rattle.report.specs.declared.report_error.ReportError.TheVariants.{CannotRender, BadScript}
-use Rattle.report.specs.RenderedTexts.{IsRenderFailure, rendering_of}
+use Rattle.report.specs.RenderedTexts.{IsRenderError, rendering_of}
 use Rattle.report_script.specs.Requests.{RequestView}
 
 -- the program's status: that of any program, or 3 for a script's error
@@ -35,7 +35,7 @@ IsRunError NotUtf8 request input = ¬ (IsUtf8 input)
 IsRunError OutOfMemory request input = Unit {0}
 IsRunError CannotWriteOutput request input =
     IsUtf8 input × ((text : List ℕ) × (rendering_of request input ≡ Ok text))
-IsRunError (Program error) request input = IsRenderFailure (rendering_of request input) error
+IsRunError (Program error) request input = IsRenderError (rendering_of request input) error
 
 -- the fact holds of the diagnostic, where the error is that of a script
 abbrev pub IfBadScript : RunError ReportError → (String Global → Type 0) → Type 0
