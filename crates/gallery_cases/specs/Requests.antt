@@ -28,13 +28,13 @@ IsResponse request input bytes =
     (cases : List Case) × AppliesLines (lines input) [] cases × IsResponseOf request cases bytes
 
 -- why a request of cases fails: no case has the name, rendering failed, or an allocation failed
-abbrev pub IsFailureOf : GalleryRequestView → List Case → RunError GalleryError → Type 0
-IsFailureOf request cases (Program (UnknownCase name)) =
+abbrev pub IsResponseError : GalleryRequestView → List Case → RunError GalleryError → Type 0
+IsResponseError request cases (Program (UnknownCase name)) =
     (format : Format) × (request ≡ Document format (string_bytes name))
     × (case_named (string_bytes name) cases ≡ None)
-IsFailureOf request cases (Program (CannotRender error)) = Unit {0}
-IsFailureOf request cases OutOfMemory = Unit {0}
-IsFailureOf request cases _ = ⊥
+IsResponseError request cases (Program (CannotRender error)) = Unit {0}
+IsResponseError request cases OutOfMemory = Unit {0}
+IsResponseError request cases _ = ⊥
 
 -- what an error says of the input: a line's is the first of the input, and no case has an unknown
 -- name

@@ -2,7 +2,7 @@
 
 ghost use Rattle.std.specs.Prelude.{◌≡◌, ◌≢◌, ◌≤◌, ◌↔◌, ℕ, List, MatchResult, None, OnOk, IfErr, IfOk, IfSome, IsErrAnd, IsErrOf, IsOkAnd, map, string_bytes};
 ghost use Rattle.std.specs.Io.KnownBytes.{Appends};
-ghost use Rattle.gallery_cases.specs.Requests.{IsResponse, IsResponseOf, IsRunError, IsFailureOf};
+ghost use Rattle.gallery_cases.specs.Requests.{IsResponse, IsResponseOf, IsRunError, IsResponseError};
 ghost use Rattle.gallery_script.specs.Requests.{gallery_request_of, gallery_request_view};
 
 use crate::document::{default_style_sheet, document};
@@ -77,7 +77,7 @@ fn response(
 ) -> Result<Vec<u8>, RunError<GalleryError>>
     ensures responds { IfOk result (λ bytes.
         IsResponseOf (gallery_request_view request.entry) cases.now bytes.items) }
-    ensures fails { IfErr result (IsFailureOf (gallery_request_view request.entry) cases.now) }
+    ensures fails { IfErr result (IsResponseError (gallery_request_view request.entry) cases.now) }
 {
     match request {
         Request::All => Ok(render_cases(alloc, cases)?),
