@@ -40,7 +40,7 @@ pub record IsSection (case : Case) (text : List ℕ) : Type 0 where
   pub output : List ℕ
   pub error_line : List ℕ
   pub is : text ≡ with_escapes output ++ error_line
-  pub failure : IsErrorLine rendered error_line
+  pub is_error_line : IsErrorLine rendered error_line
   pub plain : case.colors ≡ Plain → OnOk rendered (IsOutput case output)
   pub document : case.colors ≡ Svg → OnOk rendered (IsSvg case output)
 
