@@ -43,7 +43,7 @@ IfBadScript (Program (BadScript text)) P = P text
 IfBadScript _ P = Unit {0}
 
 -- the output is unchanged, or all of it was rendered: the status is 0, or it is 1 and what
--- `error_output` has received is a prefix of the line of a failed output
+-- `stderr` has received is a prefix of the line of a failed output
 abbrev pub UnchangedUnlessRendered : Type 0 → ℕ → Option (List ℕ) → Option (List ℕ) → Type 0
 UnchangedUnlessRendered is_unchanged status old new =
     is_unchanged ⊎ ((status ≡ 0)

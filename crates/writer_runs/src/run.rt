@@ -17,19 +17,19 @@ use std::io::{Read, Write};
 
 /// Makes the runs of each worked output and of each direct call, writes a line for each and a last
 /// line with the numbers of them and of the runs, and returns the program's status. An error that
-/// ends the program is written to `error_output`, whose own errors are ignored.
+/// ends the program is written to `stderr`, whose own errors are ignored.
 pub fn run<R: Read, W: Write, E: Write>(
     alloc: Global,
-    input: &mut R,
-    output: &mut W,
-    error_output: &mut E,
+    stdin: &mut R,
+    stdout: &mut W,
+    stderr: &mut E,
 ) -> u8
     ensures { result ≤ 1 }
 {
-    match judge_all(alloc, input, output) {
+    match judge_all(alloc, stdin, stdout) {
         Ok(sum) => u8::from(sum.is_wrong),
         Err(error) => {
-            let _ = writeln!(error_output, "writer_runs: {error}");
+            let _ = writeln!(stderr, "writer_runs: {error}");
             1
         }
     }
@@ -48,7 +48,7 @@ impl Sum {
     /// rendered, or the error.
     fn report<W: Write, T: Display + Drop, D: Display + Drop>(
         &mut self,
-        output: &mut W,
+        stdout: &mut W,
         title: T,
         judged: Result<usize, FailureAt>,
         calls: D,
@@ -57,20 +57,20 @@ impl Sum {
         match judged {
             Ok(runs) => {
                 self.runs = self.runs.saturating_add(runs);
-                writeln!(output, "{title}: {calls}, {WRITERS} writers")
+                writeln!(stdout, "{title}: {calls}, {WRITERS} writers")
             }
             Err(failure) => {
                 self.is_wrong = true;
-                writeln!(output, "{title}: wrong: {failure}")
+                writeln!(stdout, "{title}: wrong: {failure}")
             }
         }
     }
 
     /// Writes the line of the counts.
-    fn write_counts<W: Write>(self, output: &mut W) -> io::Result<()> {
+    fn write_counts<W: Write>(self, stdout: &mut W) -> io::Result<()> {
         let (outputs_and_rows, runs) = (self.outputs_and_rows, self.runs);
         writeln!(
-            output,
+            stdout,
             "{outputs_and_rows} worked outputs and rows, {runs} runs"
         )
     }
@@ -80,16 +80,16 @@ impl Sum {
 /// each and the line of the counts, and returns the counts.
 fn judge_all<R: Read, W: Write>(
     alloc: Global,
-    input: &mut R,
-    output: &mut W,
+    stdin: &mut R,
+    stdout: &mut W,
 ) -> Result<Sum, StreamError> {
     let mut sum = Sum::default();
-    let text = read_text(alloc, input)?;
-    judge_text(alloc, text.as_str(), output, &mut sum)?;
+    let text = read_text(alloc, stdin)?;
+    judge_text(alloc, text.as_str(), stdout, &mut sum)?;
     for rows in &rows() {
-        judge_direct_rows(alloc, rows, output, &mut sum)?;
+        judge_direct_rows(alloc, rows, stdout, &mut sum)?;
     }
-    sum.write_counts(output)?;
+    sum.write_counts(stdout)?;
     Ok(sum)
 }
 
@@ -97,18 +97,18 @@ fn judge_all<R: Read, W: Write>(
 fn judge_text<W: Write>(
     alloc: Global,
     text: &str,
-    output: &mut W,
+    stdout: &mut W,
     sum: &mut Sum,
 ) -> Result<(), StreamError> {
     let worked_outputs = parse_outputs(alloc, text)?;
-    judge_outputs(alloc, worked_outputs.as_slice(), output, sum)
+    judge_outputs(alloc, worked_outputs.as_slice(), stdout, sum)
 }
 
 /// Makes the runs of worked outputs, and writes a line for each.
 fn judge_outputs<W: Write>(
     alloc: Global,
     worked_outputs: &[WorkedOutput<'_>],
-    output: &mut W,
+    stdout: &mut W,
     sum: &mut Sum,
 ) -> Result<(), StreamError> {
     let (styles, calls) = (STYLES.len(), CALLS.len());
@@ -116,7 +116,7 @@ fn judge_outputs<W: Write>(
         let judged = judge_output(alloc, worked);
         let calls = format_args!("{calls} calls in {styles} styles");
         let name = worked.case.name;
-        sum.report(output, format_args!("output {name}"), judged, calls)?;
+        sum.report(stdout, format_args!("output {name}"), judged, calls)?;
     }
     Ok(())
 }
@@ -125,12 +125,12 @@ fn judge_outputs<W: Write>(
 fn judge_direct_rows<W: Write>(
     alloc: Global,
     rows: &[DirectRow<'_>],
-    output: &mut W,
+    stdout: &mut W,
     sum: &mut Sum,
 ) -> Result<(), StreamError> {
     for row in rows {
         let (name, judged) = (row.name, judge_direct(alloc, row));
-        sum.report(output, format_args!("row {name}"), judged, row.call)?;
+        sum.report(stdout, format_args!("row {name}"), judged, row.call)?;
     }
     Ok(())
 }

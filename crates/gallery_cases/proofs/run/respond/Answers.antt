@@ -19,7 +19,7 @@ returns-in_err-response-clause-reported g c =
     (λ (cs : List Case). IsResponseError (gallery_request_view c.in_ok-request.request) cs
     c.in_err-response.field-0.0)
     c.as_slice.ensures.value c.in_err-response.ensures.fails in
-    let reported : IfSome (g.R.Read.remaining c.args.input.now)
+    let reported : IfSome (g.R.Read.remaining c.args.stdin.now)
     (IsRunError (gallery_request_of (map string_bytes c.args.args.now))
     c.in_err-response.field-0.0) =
     failed _ _ _ _ c.in_ok-cases.cases.items _ is_requested read applied_lines fails in
