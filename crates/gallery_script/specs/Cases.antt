@@ -14,7 +14,7 @@ use Rattle.gallery_script.specs.declared.errors.GalleryError.TheVariants as gall
 use Rattle.gallery_script.specs.declared.errors.LineError.{LineError}
 use Rattle.gallery_script.specs.declared.errors.LineError.TheVariants.{NoCase, NoFile, OutOfMemory}
 use Rattle.gallery_script.specs.declared.statement.Line.{Line}
-use Rattle.gallery_script.specs.declared.statement.Line.TheVariants.{Ignored, NewCase, Description}
+use Rattle.gallery_script.specs.declared.statement.Line.TheVariants.{Ignored, NewCase, OfLastCase}
 use Rattle.gallery_script.specs.declared.statement.Statement.{Statement}
 use Rattle.gallery_script.specs.declared.statement.Statement.TheVariants as statements
 use Rattle.gallery_script.specs.Statements.{ParsesTo, IsWrongLine}
@@ -118,7 +118,7 @@ pub record AddsCase (name : List ℕ) (before after : List Case) : Type 0 where
 abbrev pub AppliesParsedLine : Line → List Case → List Case → Type 0
 AppliesParsedLine Ignored before after = after ≡ before
 AppliesParsedLine (NewCase name) before after = AddsCase name.now before after
-AppliesParsedLine (Description statement) before after = AppliesToLast statement before after
+AppliesParsedLine (OfLastCase statement) before after = AppliesToLast statement before after
 
 -- the cases after a line are those before it, with the line applied
 pub record AppliesLine (line : List ℕ) (before after : List Case) : Type 0 where
@@ -147,7 +147,7 @@ abbrev pub IsLineError : List ℕ → List Case → LineError → Type 0
 IsLineError line before line_error =
     (line_error ≡ OutOfMemory)
     ⊎ (IsWrongLine line line_error
-    ⊎ ((statement : Statement) × ParsesTo line (Description statement)
+    ⊎ ((statement : Statement) × ParsesTo line (OfLastCase statement)
     × FailsAtLast statement before line_error))
 
 -- the error has the number, from 1, of the first line that is wrong, and what is wrong with it; or

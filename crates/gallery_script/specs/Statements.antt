@@ -7,7 +7,7 @@ use Rattle.gallery_script.specs.declared.errors.LineError.{LineError}
 use Rattle.gallery_script.specs.declared.errors.LineError.TheVariants.{UnknownWord, UnknownName, BadNumber, BadEscape, NoCase, NoFile, OutOfMemory}
 use Rattle.gallery_script.specs.declared.statement.ContextLines as context_lines
 use Rattle.gallery_script.specs.declared.statement.Line.{Line}
-use Rattle.gallery_script.specs.declared.statement.Line.TheVariants.{Ignored, NewCase, Description}
+use Rattle.gallery_script.specs.declared.statement.Line.TheVariants.{Ignored, NewCase, OfLastCase}
 use Rattle.gallery_script.specs.declared.statement.Statement.{Statement}
 use Rattle.gallery_script.specs.declared.statement.Statement.TheVariants as statements
 use Rattle.gallery_script.specs.declared.words.Word.{Word}
@@ -90,7 +90,7 @@ abbrev pub ParsesTo : List ℕ → Line → Type 0
 ParsesTo line Ignored = is_ignored_text line ≡ true
 ParsesTo line (NewCase name) =
     (is_ignored_text line ≡ false) × (field_of line ≡ codes "case") × (name.now ≡ past_space line)
-ParsesTo line (Description statement) =
+ParsesTo line (OfLastCase statement) =
     (is_ignored_text line ≡ false)
     × Describes (case_word_named (field_of line)) (past_space line) statement
 

@@ -65,7 +65,7 @@ fn apply_line<'input>(
     match parse_line(alloc, line)? {
         Line::Ignored => {}
         Line::NewCase(name) => cases.push(Case::new(alloc, name))?,
-        Line::Description(statement) => apply_to_last(cases, statement)?,
+        Line::OfLastCase(statement) => apply_to_last(cases, statement)?,
     }
     Ok(())
 }

@@ -27,7 +27,7 @@ pub enum Line<'input> {
     /// `case NAME`: the beginning of a case with this name.
     NewCase(&'input str),
     /// A line that describes the last case.
-    Description(Statement),
+    OfLastCase(Statement),
 }
 
 /// A part of the description of a case.
@@ -105,7 +105,7 @@ pub fn parse_line<'input>(alloc: Global, line: &'input str) -> Result<Line<'inpu
         return Ok(Line::NewCase(rest));
     }
     let word = parse_word(word).ok_or(LineError::UnknownWord)?;
-    Ok(Line::Description(parse_statement(alloc, word, rest)?))
+    Ok(Line::OfLastCase(parse_statement(alloc, word, rest)?))
 }
 
 /// Parses the rest of a line that begins with the word.

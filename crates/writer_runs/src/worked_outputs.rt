@@ -65,7 +65,7 @@ fn apply_case_line<'input>(
     match parse_line(alloc, line)? {
         Line::Ignored => Ok(()),
         Line::NewCase(name) => add_output(alloc, outputs, name),
-        Line::Description(statement) => apply_to_last(outputs, statement),
+        Line::OfLastCase(statement) => apply_to_last(outputs, statement),
     }
 }
 
