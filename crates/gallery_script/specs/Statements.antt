@@ -54,35 +54,35 @@ pub record IsLabel (rest : List ℕ) (label : Label ℕ) : Type 0 where
   pub message : UnescapesTo (past_three_spaces rest) (string_bytes label.message)
 
 -- what a line describes, by its word and its rest
-abbrev pub Describes : Option Word → List ℕ → Statement → Type 0
-Describes word rest (statements.Database kind) =
+abbrev pub States : Option Word → List ℕ → Statement → Type 0
+States word rest (statements.Database kind) =
     (word ≡ Some Database) × (database_kind_named rest ≡ Some kind)
-Describes word rest (statements.File name) =
+States word rest (statements.File name) =
     (word ≡ Some File) × UnescapesTo rest (string_bytes name)
-Describes word rest (statements.Source text) =
+States word rest (statements.Source text) =
     (word ≡ Some Source) × UnescapesTo rest (string_bytes text)
-Describes word rest (statements.Number line number) =
+States word rest (statements.Number line number) =
     (word ≡ Some Number) × IsNumber (field_of rest) line × IsNumber (past_space rest) number
-Describes word rest (statements.Style style) =
+States word rest (statements.Style style) =
     (word ≡ Some Style) × (display_style_named rest ≡ Some style)
-Describes word rest (statements.Layout layout) =
+States word rest (statements.Layout layout) =
     (word ≡ Some Layout) × (layout_named rest ≡ Some layout)
-Describes word rest (statements.Tab width) = (word ≡ Some Tab) × IsNumber rest width
-Describes word rest (statements.Context context) =
+States word rest (statements.Tab width) = (word ≡ Some Tab) × IsNumber rest width
+States word rest (statements.Context context) =
     (word ≡ Some Context) × AreContextLines rest context
-Describes word rest (statements.Characters set) =
+States word rest (statements.Characters set) =
     (word ≡ Some Characters) × (characters_named rest ≡ Some set)
-Describes word rest (statements.Colors colors) =
+States word rest (statements.Colors colors) =
     (word ≡ Some Colors) × (colors_named rest ≡ Some colors)
-Describes word rest (statements.Severity severity) =
+States word rest (statements.Severity severity) =
     (word ≡ Some Severity) × (severity_named rest ≡ Some severity)
-Describes word rest (statements.Code code) =
+States word rest (statements.Code code) =
     (word ≡ Some Code) × UnescapesTo rest (string_bytes code)
-Describes word rest (statements.Message message) =
+States word rest (statements.Message message) =
     (word ≡ Some Message) × UnescapesTo rest (string_bytes message)
-Describes word rest (statements.Label label) =
+States word rest (statements.Label label) =
     (word ≡ Some (label_style_word label.style)) × IsLabel rest label
-Describes word rest (statements.Note note) =
+States word rest (statements.Note note) =
     (word ≡ Some Note) × UnescapesTo rest (string_bytes note)
 
 -- what a line is: ignored, the first of a case of this name, or a statement of the last case
@@ -92,7 +92,7 @@ ParsesTo line (NewCase name) =
     (is_ignored_text line ≡ false) × (field_of line ≡ codes "case") × (name.now ≡ past_space line)
 ParsesTo line (OfLastCase statement) =
     (is_ignored_text line ≡ false)
-    × Describes (case_word_named (field_of line)) (past_space line) statement
+    × States (case_word_named (field_of line)) (past_space line) statement
 
 -- ---- what is wrong with a line
 

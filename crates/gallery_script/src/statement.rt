@@ -2,7 +2,7 @@
 
 ghost use Rattle.std.specs.Prelude.{◌≡◌, Some, IfOk, IfErr};
 ghost use Rattle.std.specs.Option.{ok_or};
-ghost use Rattle.gallery_script.specs.Statements.{ParsesTo, Describes, IsWrong, IsWrongLine, label_style_word};
+ghost use Rattle.gallery_script.specs.Statements.{ParsesTo, States, IsWrong, IsWrongLine, label_style_word};
 ghost use Rattle.gallery_script.specs.declared.errors.LineError.TheVariants.{UnknownName};
 ghost use Rattle.gallery_script.specs.declared.words.Word.TheVariants as words;
 
@@ -110,7 +110,7 @@ pub fn parse_line<'input>(alloc: Global, line: &'input str) -> Result<Line<'inpu
 
 /// Parses the rest of a line that begins with the word.
 fn parse_statement(alloc: Global, word: Word, rest: &str) -> Result<Statement, LineError>
-    ensures parsed { IfOk result (Describes (Some word) rest.now) }
+    ensures parsed { IfOk result (States (Some word) rest.now) }
     ensures wrong { IfErr result (IsWrong (Some word) rest.now) }
 {
     match word {
@@ -142,7 +142,7 @@ fn or_unknown_name<T: Drop>(named: Option<T>) -> Result<T, LineError>
 
 /// Parses the rest of a `number` line.
 fn parse_line_number(rest: &str) -> Result<Statement, LineError>
-    ensures parsed { IfOk result (Describes (Some words.Number) rest.now) }
+    ensures parsed { IfOk result (States (Some words.Number) rest.now) }
     ensures wrong { IfErr result (IsWrong (Some words.Number) rest.now) }
 {
     let (line, left) = split_number(rest)?;
@@ -152,7 +152,7 @@ fn parse_line_number(rest: &str) -> Result<Statement, LineError>
 
 /// Parses the rest of a `context` line.
 fn parse_context(rest: &str) -> Result<Statement, LineError>
-    ensures parsed { IfOk result (Describes (Some words.Context) rest.now) }
+    ensures parsed { IfOk result (States (Some words.Context) rest.now) }
     ensures wrong { IfErr result (IsWrong (Some words.Context) rest.now) }
 {
     let (start, left) = split_number(rest)?;
@@ -168,7 +168,7 @@ fn parse_context(rest: &str) -> Result<Statement, LineError>
 
 /// Parses the rest of a line of a label in this style.
 fn parse_label(alloc: Global, style: LabelStyle, rest: &str) -> Result<Statement, LineError>
-    ensures parsed { IfOk result (Describes (Some (label_style_word style)) rest.now) }
+    ensures parsed { IfOk result (States (Some (label_style_word style)) rest.now) }
     ensures wrong { IfErr result (IsWrong (Some (label_style_word style)) rest.now) }
 {
     let (file_id, left) = split_number(rest)?;
