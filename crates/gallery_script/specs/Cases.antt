@@ -33,7 +33,7 @@ pub record IsNew (name : List ℕ) (case : Case) : Type 0 where
   pub named : case.name.now ≡ name
   pub database_kind : case.database_kind ≡ Several
   pub files : case.files.items ≡ []
-  pub numbers : case.numbers.items ≡ []
+  pub set_numbers : case.set_numbers.items ≡ []
   pub config : IsEqualConfig default_config case.config
   pub colors : case.colors ≡ Plain
   pub diagnostic : diagnostic_view case.diagnostic
@@ -59,8 +59,9 @@ Applies (statements.Source text) old new =
     × ContinuesSource (string_bytes text) (map file_view old.files.items)
     (map file_view new.files.items)
 Applies (statements.Number line number) old new =
-    (new ≡ record old { numbers = new.numbers })
-    × (new.numbers.items ≡ old.numbers.items ++ record { line = line; number = number } ∷ [])
+    (new ≡ record old { set_numbers = new.set_numbers })
+    × (new.set_numbers.items
+    ≡ old.set_numbers.items ++ record { line = line; number = number } ∷ [])
 Applies (statements.Style style) old new =
     new ≡ record old { config = record old.config { display_style = style } }
 Applies (statements.Layout layout) old new =
