@@ -117,7 +117,7 @@ fn parse_statement(alloc: Global, word: Word, rest: &str) -> Result<Statement, L
         Word::Database => Ok(Statement::Database(or_unknown_name(parse_database_kind(rest))?)),
         Word::File => Ok(Statement::File(unescape(alloc, rest)?)),
         Word::Source => Ok(Statement::Source(unescape(alloc, rest)?)),
-        Word::Number => parse_line_number(rest),
+        Word::Number => parse_set_number(rest),
         Word::Style => Ok(Statement::Style(or_unknown_name(parse_display_style(rest))?)),
         Word::Layout => Ok(Statement::Layout(or_unknown_name(parse_layout(rest))?)),
         Word::Tab => Ok(Statement::Tab(parse_number(rest)?)),
@@ -141,7 +141,7 @@ fn or_unknown_name<T: Drop>(named: Option<T>) -> Result<T, LineError>
 }
 
 /// Parses the rest of a `number` line.
-fn parse_line_number(rest: &str) -> Result<Statement, LineError>
+fn parse_set_number(rest: &str) -> Result<Statement, LineError>
     ensures parsed { IfOk result (States (Some words.Number) rest.now) }
     ensures wrong { IfErr result (IsWrong (Some words.Number) rest.now) }
 {
