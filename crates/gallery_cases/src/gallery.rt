@@ -1,7 +1,7 @@
 //! The output of every case, each under its name.
 
 ghost use Rattle.std.specs.Prelude.{◌≡◌, ℕ, List, ◌++◌, IfOk, OnOk};
-ghost use Rattle.gallery_script.specs.declared.case.Colors.TheVariants.{Plain, Svg};
+ghost use Rattle.gallery_script.specs.declared.case.ColorChoice.TheVariants.{Plain, Svg};
 ghost use Rattle.gallery_cases.specs.CaseOutputs.{AppendsOutput};
 ghost use Rattle.gallery_cases.specs.Documents.{AppendsSvg};
 ghost use Rattle.gallery_cases.specs.Galleries.{heading, with_escapes, IsSection, IsGallery, IsErrorLine};
@@ -9,7 +9,7 @@ ghost use Rattle.gallery_cases.specs.Galleries.{heading, with_escapes, IsSection
 use crate::document::document;
 use crate::rendering::render;
 use codespan_base::files::Error;
-use gallery_script::case::{Case, Colors};
+use gallery_script::case::{Case, ColorChoice};
 use gallery_script::request::Format;
 use std::alloc::{AllocError, Global};
 
@@ -62,8 +62,8 @@ fn render_as_stated(alloc: Global, case: &Case<'_>, output: &mut Vec<u8>) -> Res
         → OnOk result (AppendsSvg case.now output.old.items output.new.items) }
 {
     match case.colors {
-        Colors::Plain | Colors::Ansi => render(alloc, case, output),
-        Colors::Svg => {
+        ColorChoice::Plain | ColorChoice::Ansi => render(alloc, case, output),
+        ColorChoice::Svg => {
             let document = document(alloc, case, Format::Svg)?;
             output.extend_from_slice(document.as_bytes())?;
             Ok(())

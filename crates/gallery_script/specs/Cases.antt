@@ -6,7 +6,7 @@ use Rattle.codespan_base.specs.Defaults.{default_config}
 use Rattle.codespan_base.specs.Diagnostics.{diagnostic_view}
 use Rattle.codespan_base.specs.ConfigEquality.{IsEqualChars, IsEqualConfig}
 use Rattle.gallery_script.specs.declared.case.Case.{Case}
-use Rattle.gallery_script.specs.declared.case.Colors.TheVariants.{Plain}
+use Rattle.gallery_script.specs.declared.case.ColorChoice.TheVariants.{Plain}
 use Rattle.gallery_script.specs.declared.case.File.{File}
 use Rattle.gallery_script.specs.declared.case.DatabaseKind.TheVariants.{Several}
 use Rattle.gallery_script.specs.declared.errors.GalleryError.{GalleryError}

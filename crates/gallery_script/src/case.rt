@@ -46,7 +46,7 @@ impl CharacterSet {
 
 /// Whether an output has colors, and how these are written.
 #[derive(Clone, Copy, PartialEq, Eq)]
-pub enum Colors {
+pub enum ColorChoice {
     /// Plain text, without colors.
     Plain,
     /// Colors as ANSI escape sequences.
@@ -87,7 +87,7 @@ pub struct Case<'input> {
     /// The configuration.
     pub config: Config<'input>,
     /// Whether the output has colors, and how these are written.
-    pub colors: Colors,
+    pub colors: ColorChoice,
     /// The diagnostic.
     pub diagnostic: Diagnostic<usize>,
 }
@@ -104,7 +104,7 @@ impl<'input> Case<'input> {
             files: Vec::new(alloc),
             set_numbers: Vec::new(alloc),
             config: Config::default(),
-            colors: Colors::Plain,
+            colors: ColorChoice::Plain,
             diagnostic: Diagnostic::error(alloc),
         }
     }

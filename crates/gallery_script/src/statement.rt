@@ -6,7 +6,7 @@ ghost use Rattle.gallery_script.specs.Statements.{ParsesTo, States, IsWrong, IsW
 ghost use Rattle.gallery_script.specs.declared.errors.LineError.TheVariants.{UnknownName};
 ghost use Rattle.gallery_script.specs.declared.words.Word.TheVariants as words;
 
-use crate::case::{CharacterSet, Colors, DatabaseKind};
+use crate::case::{CharacterSet, ColorChoice, DatabaseKind};
 use crate::errors::LineError;
 use crate::escape::unescape;
 use crate::numbers::{parse_number, split_number};
@@ -58,7 +58,7 @@ pub enum Statement {
     /// `characters NAME`: the characters of borders, carets and lanes.
     Characters(CharacterSet),
     /// `colors NAME`: whether the output has colors, and how these are written.
-    Colors(Colors),
+    Colors(ColorChoice),
     /// `severity NAME`: the severity.
     Severity(Severity),
     /// `code TEXT`: the code.
