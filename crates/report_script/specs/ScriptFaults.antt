@@ -89,6 +89,6 @@ abbrev pub missing_end : List ℕ → Fault
 missing_end input = fault_at MissingEnd (record { start = length input; end = length input })
 
 -- the error that is returned is the script's, unless an allocation failed
-abbrev pub IsFaultOf : {T : Type 0} → Result T Fault → ScriptError → Type 0
-IsFaultOf parsed (errors.Fault fault) = parsed ≡ Err fault
-IsFaultOf parsed errors.OutOfMemory = Unit {0}
+abbrev pub IsScriptError : {T : Type 0} → Result T Fault → ScriptError → Type 0
+IsScriptError parsed (errors.Fault fault) = parsed ≡ Err fault
+IsScriptError parsed errors.OutOfMemory = Unit {0}
