@@ -10,7 +10,7 @@ use Rattle.codespan_documents.specs.declared.text.Run.{Run}
 use Rattle.codespan_documents.specs.declared.text.StyledText.{StyledText}
 
 -- a style, and the bytes of a text in it
-pub record StyledRun : Type 0 where
+pub record RunView : Type 0 where
   pub style : Style
   pub text : List ℕ
 
@@ -31,7 +31,7 @@ style_after Reset = Kinds.Plain
 
 -- the runs of a stream that continues a run of this style, with this text so far: a byte belongs to
 -- the run, a style mark ends it and starts the next one
-abbrev pub runs_from : Style → List ℕ → Stream → List StyledRun
+abbrev pub runs_from : Style → List ℕ → Stream → List RunView
 runs_from style text [] = record { style = style; text = text } ∷ []
 runs_from style text (Byte b ∷ s) = runs_from style (text ++ b ∷ []) s
 runs_from style text (Mark m ∷ s) =
@@ -39,27 +39,27 @@ runs_from style text (Mark m ∷ s) =
 runs_from style text (Slot k ∷ s) = runs_from style text s
 
 -- the runs of a stream; the first one is plain
-abbrev pub runs_of : Stream → List StyledRun
+abbrev pub runs_of : Stream → List RunView
 runs_of s = runs_from Kinds.Plain [] s
 
 -- the texts of runs, one after another
-abbrev pub joined : List StyledRun → List ℕ
-joined runs = flat_map (λ (run : StyledRun). run.text) runs
+abbrev pub joined : List RunView → List ℕ
+joined runs = flat_map (λ (run : RunView). run.text) runs
 
 -- the characters of the runs
-abbrev pub run_characters : List StyledRun → List ℕ
-run_characters runs = flat_map (λ (run : StyledRun). chars run.text) runs
+abbrev pub run_characters : List RunView → List ℕ
+run_characters runs = flat_map (λ (run : RunView). chars run.text) runs
 
 -- the text of each run is UTF-8
-abbrev pub AreTexts : List StyledRun → Type 0
-AreTexts runs = AllByRecursion (λ (run : StyledRun). IsUtf8 run.text) runs
+abbrev pub AreTexts : List RunView → Type 0
+AreTexts runs = AllByRecursion (λ (run : RunView). IsUtf8 run.text) runs
 
 -- ---- the runs of a styled text
 
 -- a run, its text as bytes
-abbrev pub run_view : Run → StyledRun
+abbrev pub run_view : Run → RunView
 run_view run = record { style = run.style; text = string_bytes run.text }
 
 -- the runs of a styled text
-abbrev pub styled_runs : StyledText → List StyledRun
+abbrev pub styled_runs : StyledText → List RunView
 styled_runs text = map run_view text.runs.items

@@ -8,7 +8,7 @@ use Rattle.codespan_documents.specs.declared.svg.position.CellPosition.{CellPosi
 use Rattle.codespan_documents.specs.declared.svg.Pen.{Pen}
 use Rattle.codespan_documents.specs.Glyphs.{after_glyph, cells_of, extent_from, follows, is_newline_glyph, joins, start}
 use Rattle.codespan_documents.specs.HtmlReading.{Token, Tag, TextByte}
-use Rattle.codespan_documents.specs.Runs.{StyledRun, run_characters}
+use Rattle.codespan_documents.specs.Runs.{RunView, run_characters}
 use Rattle.codespan_documents.specs.Svg.{first_pen, background_tag_content, is_forbidden_in_xml, next_pen, svg_tag_content, text_tag_content}
 
 -- ---- characters
@@ -30,7 +30,7 @@ abbrev pub shown_glyphs : List Glyph → List ℕ
 shown_glyphs glyphs = flat_map (λ (glyph : Glyph). shown_in_svg glyph.character) glyphs
 
 -- the text of a document of runs: theirs, after two line ends of its head and before one
-abbrev pub svg_text : List StyledRun → List ℕ
+abbrev pub svg_text : List RunView → List ℕ
 svg_text runs = 10 ∷ 10 ∷ flat_map shown_in_svg (run_characters runs) ++ 10 ∷ []
 
 -- ---- pieces
