@@ -5,7 +5,7 @@ use Rattle.std.specs.Str.{IsUtf8, chars}
 use Rattle.codespan_base.specs.Streams.{Stream, StyleMark, Byte, Mark, Slot}
 use Rattle.codespan_base.specs.Streams.{Header, HeaderMessage, LineNumber, NoteBullet, SourceBorder, LabelStyleMark, Reset}
 use Rattle.codespan_documents.specs.declared.style.Style.{Style}
-use Rattle.codespan_documents.specs.declared.style.Style.TheVariants as Kinds
+use Rattle.codespan_documents.specs.declared.style.Style.TheVariants as run_styles
 use Rattle.codespan_documents.specs.declared.text.Run.{Run}
 use Rattle.codespan_documents.specs.declared.text.StyledText.{StyledText}
 
@@ -16,18 +16,18 @@ pub record RunView : Type 0 where
 
 -- the style is that of plain text
 abbrev pub is_plain : Style → Bool
-is_plain Kinds.Plain = true
+is_plain run_styles.Plain = true
 is_plain _ = false
 
 -- the style that a style mark starts; a reset starts plain text
 abbrev pub style_after : StyleMark → Style
-style_after (Header severity) = Kinds.Header severity
-style_after HeaderMessage = Kinds.HeaderMessage
-style_after LineNumber = Kinds.LineNumber
-style_after NoteBullet = Kinds.NoteBullet
-style_after SourceBorder = Kinds.SourceBorder
-style_after (LabelStyleMark severity style) = Kinds.Label severity style
-style_after Reset = Kinds.Plain
+style_after (Header severity) = run_styles.Header severity
+style_after HeaderMessage = run_styles.HeaderMessage
+style_after LineNumber = run_styles.LineNumber
+style_after NoteBullet = run_styles.NoteBullet
+style_after SourceBorder = run_styles.SourceBorder
+style_after (LabelStyleMark severity style) = run_styles.Label severity style
+style_after Reset = run_styles.Plain
 
 -- the runs of a stream that continues a run of this style, with this text so far: a byte belongs to
 -- the run, a style mark ends it and starts the next one
@@ -40,7 +40,7 @@ runs_from style text (Slot k ∷ s) = runs_from style text s
 
 -- the runs of a stream; the first one is plain
 abbrev pub runs_of : Stream → List RunView
-runs_of s = runs_from Kinds.Plain [] s
+runs_of s = runs_from run_styles.Plain [] s
 
 -- the texts of runs, one after another
 abbrev pub joined : List RunView → List ℕ

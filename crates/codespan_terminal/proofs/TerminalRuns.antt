@@ -19,7 +19,7 @@ use Rattle.codespan_base.specs.Streams.{StyleMark, Header, HeaderMessage, LineNu
 use Rattle.codespan_documents.specs.declared.text.Run.{Run}
 use Rattle.codespan_documents.specs.Runs.{AreTexts, RunView, run_characters, run_view}
 use Rattle.codespan_documents.specs.declared.style.Style.{Style}
-use Rattle.codespan_documents.specs.declared.style.Style.TheVariants as Kinds
+use Rattle.codespan_documents.specs.declared.style.Style.TheVariants as run_styles
 use Rattle.codespan_base.specs.StyleTables.{ansi_spelling}
 use Rattle.codespan_terminal.specs.Terminal.{columns, is_safe, style_mark_of, first_sequences, state_after, run_bytes, runs_bytes, safe_characters, safe_text, visible, terminal_text, ShowsSafe, Text, Parameters}
 use Rattle.codespan_terminal.proofs.UnsafeCells.{columns_stay}
@@ -128,13 +128,13 @@ ReadsText-mark styles Reset = ReadsText-reset
 
 ReadsText-first_sequences : (styles : Styles) (style : Style)
     → ReadsText (first_sequences styles style) []
-ReadsText-first_sequences styles Kinds.Plain = ReadsText-nil
-ReadsText-first_sequences styles (Kinds.Header severity) = ReadsText-mark styles (Header severity)
-ReadsText-first_sequences styles Kinds.HeaderMessage = ReadsText-mark styles HeaderMessage
-ReadsText-first_sequences styles Kinds.LineNumber = ReadsText-mark styles LineNumber
-ReadsText-first_sequences styles Kinds.NoteBullet = ReadsText-mark styles NoteBullet
-ReadsText-first_sequences styles Kinds.SourceBorder = ReadsText-mark styles SourceBorder
-ReadsText-first_sequences styles (Kinds.Label severity style) =
+ReadsText-first_sequences styles run_styles.Plain = ReadsText-nil
+ReadsText-first_sequences styles (run_styles.Header severity) = ReadsText-mark styles (Header severity)
+ReadsText-first_sequences styles run_styles.HeaderMessage = ReadsText-mark styles HeaderMessage
+ReadsText-first_sequences styles run_styles.LineNumber = ReadsText-mark styles LineNumber
+ReadsText-first_sequences styles run_styles.NoteBullet = ReadsText-mark styles NoteBullet
+ReadsText-first_sequences styles run_styles.SourceBorder = ReadsText-mark styles SourceBorder
+ReadsText-first_sequences styles (run_styles.Label severity style) =
     ReadsText-mark styles (LabelStyleMark severity style)
 
 -- the safe characters of a run and of those after it

@@ -10,7 +10,7 @@ use Rattle.codespan_base.specs.declared.term.config.styles.Styles.{Styles}
 use Rattle.codespan_picture.specs.CharMetrics.{width_at}
 use Rattle.codespan_documents.specs.Runs.{RunView, run_characters}
 use Rattle.codespan_documents.specs.declared.style.Style.{Style}
-use Rattle.codespan_documents.specs.declared.style.Style.TheVariants as Kinds
+use Rattle.codespan_documents.specs.declared.style.Style.TheVariants as run_styles
 
 -- ---- safe characters
 
@@ -30,13 +30,13 @@ safe_text text = encode_utf8_all (safe_characters (chars text))
 
 -- the style mark that starts a run of this style
 abbrev pub style_mark_of : Style → StyleMark
-style_mark_of Kinds.Plain = Reset
-style_mark_of (Kinds.Header severity) = Header severity
-style_mark_of Kinds.HeaderMessage = HeaderMessage
-style_mark_of Kinds.LineNumber = LineNumber
-style_mark_of Kinds.NoteBullet = NoteBullet
-style_mark_of Kinds.SourceBorder = SourceBorder
-style_mark_of (Kinds.Label severity style) = LabelStyleMark severity style
+style_mark_of run_styles.Plain = Reset
+style_mark_of (run_styles.Header severity) = Header severity
+style_mark_of run_styles.HeaderMessage = HeaderMessage
+style_mark_of run_styles.LineNumber = LineNumber
+style_mark_of run_styles.NoteBullet = NoteBullet
+style_mark_of run_styles.SourceBorder = SourceBorder
+style_mark_of (run_styles.Label severity style) = LabelStyleMark severity style
 
 -- a run: the escape sequences of its style, and its safe text
 abbrev pub run_bytes : Styles → RunView → List ℕ
@@ -48,7 +48,7 @@ runs_bytes styles runs = flat_map (run_bytes styles) runs
 
 -- the sequences before the first run: a terminal is in the style of plain text already
 abbrev pub first_sequences : Styles → Style → List ℕ
-first_sequences styles Kinds.Plain = []
+first_sequences styles run_styles.Plain = []
 first_sequences styles style = ansi_spelling styles (style_mark_of style)
 
 -- the text for a terminal
