@@ -81,26 +81,26 @@ svg_tokens glyphs =
 -- ---- cells
 
 -- a character, its ink, and the position of its cell
-pub record InCell : Type 0 where
+pub record CharacterInCell : Type 0 where
   pub character : ℕ
   pub ink : Ink
   pub position : CellPosition
 
 -- the characters of a text in one ink, the first one at this position
-abbrev pub text_characters : Ink → CellPosition → List Glyph → List InCell
+abbrev pub text_characters : Ink → CellPosition → List Glyph → List CharacterInCell
 text_characters ink position [] = []
 text_characters ink position (glyph ∷ glyphs) =
     record { character = glyph.character; ink = ink; position = position }
     ∷ text_characters ink (after_glyph position glyph) glyphs
 
 -- the characters of a piece
-abbrev pub piece_characters : Piece → List InCell
+abbrev pub piece_characters : Piece → List CharacterInCell
 piece_characters RowEnd = []
 piece_characters (Text position first others) = text_characters first.ink position (first ∷ others)
 
 -- the characters of glyphs from a position on but newlines, each in its ink and in the cell that it
 -- has among all of them
-abbrev pub characters_from : CellPosition → List Glyph → List InCell
+abbrev pub characters_from : CellPosition → List Glyph → List CharacterInCell
 characters_from position [] = []
 characters_from position (glyph ∷ glyphs) =
     let rest = characters_from (after_glyph position glyph) glyphs in
