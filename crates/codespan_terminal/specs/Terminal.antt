@@ -92,21 +92,21 @@ visible state (c ∷ cs) = visible (next_state state c) cs
 -- ---- columns
 
 -- a character, and the column where its cells begin
-abbrev pub InColumn : Type 0
-InColumn = ℕ × ℕ
+abbrev pub CharacterInColumn : Type 0
+CharacterInColumn = ℕ × ℕ
 
 -- the column after a character: a newline ends the row
 abbrev pub column_after : ℕ → ℕ → ℕ → ℕ
 column_after tab column c = if c == 10 then 0 else column + width_at tab column c
 
 -- the characters with their columns, the first one at this column
-abbrev pub columns : ℕ → ℕ → List ℕ → List InColumn
+abbrev pub columns : ℕ → ℕ → List ℕ → List CharacterInColumn
 columns tab column [] = []
 columns tab column (c ∷ cs) = (c, column) ∷ columns tab (column_after tab column c) cs
 
 -- the safe ones of these
-abbrev pub safe_columns : ℕ → ℕ → List ℕ → List InColumn
-safe_columns tab column cs = filter (λ (p : InColumn). is_safe p.0) (columns tab column cs)
+abbrev pub safe_columns : ℕ → ℕ → List ℕ → List CharacterInColumn
+safe_columns tab column cs = filter (λ (p : CharacterInColumn). is_safe p.0) (columns tab column cs)
 
 -- ---- the whole
 
