@@ -56,9 +56,9 @@ pub struct FailureAt {
 
 /// An error that ends the program.
 #[derive(Drop)]
-pub enum StreamError {
+pub enum FatalError {
     /// Reading the input failed, or it is not UTF-8.
-    NoText(InputError),
+    Input(InputError),
     /// The line of this number, from 1, has an error.
     Line(usize, LineError),
     /// Writing the output failed.
@@ -66,27 +66,27 @@ pub enum StreamError {
 }
 
 /// Converts an error of reading the input.
-impl From<InputError> for StreamError {
-    fn from(error: InputError) -> StreamError {
-        StreamError::NoText(error)
+impl From<InputError> for FatalError {
+    fn from(error: InputError) -> FatalError {
+        FatalError::Input(error)
     }
 }
 
 /// Converts an error of writing the output.
-impl From<io::Error> for StreamError {
-    fn from(_error: io::Error) -> StreamError {
-        StreamError::CannotWriteOutput
+impl From<io::Error> for FatalError {
+    fn from(_error: io::Error) -> FatalError {
+        FatalError::CannotWriteOutput
     }
 }
 
 /// Writes a few words.
-impl fmt::Display for StreamError {
+impl fmt::Display for FatalError {
     fn fmt<W: Write>(&self, f: &mut fmt::Formatter<W>) -> fmt::Result {
         match self {
-            StreamError::NoText(InputError::Unreadable) => f.write_str("cannot read input"),
-            StreamError::NoText(InputError::NotUtf8) => f.write_str("input is not UTF-8"),
-            StreamError::Line(number, line_error) => write!(f, "line {number}: {line_error}"),
-            StreamError::CannotWriteOutput => f.write_str("cannot write output"),
+            FatalError::Input(InputError::Unreadable) => f.write_str("cannot read input"),
+            FatalError::Input(InputError::NotUtf8) => f.write_str("input is not UTF-8"),
+            FatalError::Line(number, line_error) => write!(f, "line {number}: {line_error}"),
+            FatalError::CannotWriteOutput => f.write_str("cannot write output"),
         }
     }
 }

@@ -3,7 +3,7 @@
 ghost use Rattle.std.specs.Prelude.{◌≤◌};
 
 use crate::direct::rows::{DirectRow, rows};
-use crate::failure::{FailureAt, StreamError};
+use crate::failure::{FailureAt, FatalError};
 use crate::judging::{STYLES, judge_direct, judge_output};
 use crate::rendering::CALLS;
 use crate::stops::WRITERS;
@@ -82,7 +82,7 @@ fn judge_all<R: Read, W: Write>(
     alloc: Global,
     stdin: &mut R,
     stdout: &mut W,
-) -> Result<Sum, StreamError> {
+) -> Result<Sum, FatalError> {
     let mut sum = Sum::default();
     let text = read_text(alloc, stdin)?;
     judge_text(alloc, text.as_str(), stdout, &mut sum)?;
@@ -99,7 +99,7 @@ fn judge_text<W: Write>(
     text: &str,
     stdout: &mut W,
     sum: &mut Sum,
-) -> Result<(), StreamError> {
+) -> Result<(), FatalError> {
     let worked_outputs = parse_outputs(alloc, text)?;
     judge_outputs(alloc, worked_outputs.as_slice(), stdout, sum)
 }
@@ -110,7 +110,7 @@ fn judge_outputs<W: Write>(
     worked_outputs: &[WorkedOutput<'_>],
     stdout: &mut W,
     sum: &mut Sum,
-) -> Result<(), StreamError> {
+) -> Result<(), FatalError> {
     let (styles, calls) = (STYLES.len(), CALLS.len());
     for worked in worked_outputs {
         let judged = judge_output(alloc, worked);
@@ -127,7 +127,7 @@ fn judge_direct_rows<W: Write>(
     rows: &[DirectRow<'_>],
     stdout: &mut W,
     sum: &mut Sum,
-) -> Result<(), StreamError> {
+) -> Result<(), FatalError> {
     for row in rows {
         let (name, judged) = (row.name, judge_direct(alloc, row));
         sum.report(stdout, format_args!("row {name}"), judged, row.call)?;
