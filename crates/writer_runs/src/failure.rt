@@ -10,9 +10,9 @@ use std::fmt::Write;
 use std::{fmt, io};
 use test_writers::stopping::Stop;
 
-/// How a writer stops.
+/// A kind of writer of bytes, by how it stops.
 #[derive(Clone, Copy)]
-pub enum Ending {
+pub enum WriterKind {
     /// Never: it accepts one byte at a time.
     Slow,
     /// In this way, at a write.
@@ -40,7 +40,7 @@ pub enum Failure {
     /// By way of a writer of styles, with a writer that stops in this way after this many writes or
     /// style marks: the result is not the expected one (`Io` if the writer stopped, and else `Ok`),
     /// the writer does not hold exactly what it accepted, or it was called again or flushed.
-    Stopped(StyleWriterKind, Ending, usize),
+    Stopped(StyleWriterKind, WriterKind, usize),
 }
 
 /// An error, with the style and the call in which it occurred.
@@ -99,15 +99,15 @@ impl From<Error> for Failure {
 }
 
 /// Writes a few words.
-impl fmt::Display for Ending {
+impl fmt::Display for WriterKind {
     fn fmt<W: Write>(&self, f: &mut fmt::Formatter<W>) -> fmt::Result {
         f.write_str(match self {
-            Ending::Slow => "takes one byte at a time",
-            Ending::AtWrite(Stop::Fails) => "fails at a write",
-            Ending::AtWrite(Stop::TakesNothing) => "takes nothing of a write",
-            Ending::AtWrite(Stop::IsInterrupted) => "is interrupted",
-            Ending::AtWrite(Stop::TakesOneByte) => "takes one byte and then fails",
-            Ending::AtStyleMark => "fails at a style mark",
+            WriterKind::Slow => "takes one byte at a time",
+            WriterKind::AtWrite(Stop::Fails) => "fails at a write",
+            WriterKind::AtWrite(Stop::TakesNothing) => "takes nothing of a write",
+            WriterKind::AtWrite(Stop::IsInterrupted) => "is interrupted",
+            WriterKind::AtWrite(Stop::TakesOneByte) => "takes one byte and then fails",
+            WriterKind::AtStyleMark => "fails at a style mark",
         })
     }
 }
@@ -122,10 +122,10 @@ impl fmt::Display for Failure {
             Failure::OtherText(style_writer) => write!(f, "by {style_writer}: another text"),
             Failure::OtherColors => f.write_str("other colors than expected"),
             Failure::NoFirstWrite(style_writer) => write!(f, "by {style_writer}: no first write"),
-            Failure::Stopped(style_writer, ending, after) => {
+            Failure::Stopped(style_writer, writer, after) => {
                 write!(
                     f,
-                    "by {style_writer}: wrong where a writer {ending}, after {after}"
+                    "by {style_writer}: wrong where a writer {writer}, after {after}"
                 )
             }
         }

@@ -1,7 +1,7 @@
 //! Runs into writers that stop.
 
 use crate::failing_writer::FailingWriter;
-use crate::failure::{Ending, Failure};
+use crate::failure::{Failure, WriterKind};
 use crate::recording::Recording;
 use crate::rendering::Render;
 use crate::style_writers::StyleWriterKind;
@@ -36,7 +36,7 @@ pub fn judge_stops<D: Render>(
     let whole = recording.text();
     let slow = Recording::stopping(alloc, 1, usize::MAX, Stop::Fails);
     if !stops_at(style_writer, output, slow, whole, whole.len()) {
-        return Err(Failure::Stopped(style_writer, Ending::Slow, 0));
+        return Err(Failure::Stopped(style_writer, WriterKind::Slow, 0));
     }
     if recording.starts.first() != Some(&0) {
         return Err(Failure::NoFirstWrite(style_writer));
@@ -47,14 +47,14 @@ pub fn judge_stops<D: Render>(
             let stopping = Recording::stopping(alloc, usize::MAX, writes, stop);
             let length = written_length(stop, *start, whole.len());
             if !stops_at(style_writer, output, stopping, whole, length) {
-                return Err(Failure::Stopped(style_writer, Ending::AtWrite(stop), writes));
+                return Err(Failure::Stopped(style_writer, WriterKind::AtWrite(stop), writes));
             }
             runs = runs.saturating_add(1);
         }
         let stopping = Recording::stopping(alloc, usize::MAX, recording.starts.len(), stop);
         if !stops_at(style_writer, output, stopping, whole, whole.len()) {
             let writes = recording.starts.len();
-            return Err(Failure::Stopped(style_writer, Ending::AtWrite(stop), writes));
+            return Err(Failure::Stopped(style_writer, WriterKind::AtWrite(stop), writes));
         }
         runs = runs.saturating_add(1);
     }
@@ -117,7 +117,7 @@ pub fn judge_style_marks<D: Render>(
 
 /// Returns the error of a run with a writer that fails at the style mark after this many.
 fn stopped_at_style_mark(marks: usize) -> Failure {
-    Failure::Stopped(StyleWriterKind::Custom, Ending::AtStyleMark, marks)
+    Failure::Stopped(StyleWriterKind::Custom, WriterKind::AtStyleMark, marks)
 }
 
 /// Renders to this program's writer of styles, which fails at the style mark after this many, and
