@@ -99,25 +99,25 @@ pub fn judge_style_marks<D: Render>(
     output: &D,
     whole: &[u8],
 ) -> Result<usize, Failure> {
-    let mut marks = 0usize;
+    let mut style_marks = 0usize;
     for (position, byte) in whole.iter().enumerate() {
         if *byte == b'\x1b' {
             let (written, _rest) = whole.split_at(position.saturating_add(1).min(whole.len()));
-            if !stops_at_style_mark(alloc, output, marks, written, true) {
-                return Err(stopped_at_style_mark(marks));
+            if !stops_at_style_mark(alloc, output, style_marks, written, true) {
+                return Err(stopped_at_style_mark(style_marks));
             }
-            marks = marks.saturating_add(1);
+            style_marks = style_marks.saturating_add(1);
         }
     }
-    if !stops_at_style_mark(alloc, output, marks, whole, false) {
-        return Err(stopped_at_style_mark(marks));
+    if !stops_at_style_mark(alloc, output, style_marks, whole, false) {
+        return Err(stopped_at_style_mark(style_marks));
     }
-    Ok(marks.saturating_add(1))
+    Ok(style_marks.saturating_add(1))
 }
 
 /// Returns the error of a run with a writer that fails at the style mark after this many.
-fn stopped_at_style_mark(marks: usize) -> Failure {
-    Failure::Stopped(StyleWriterKind::Custom, WriterKind::AtStyleMark, marks)
+fn stopped_at_style_mark(style_marks: usize) -> Failure {
+    Failure::Stopped(StyleWriterKind::Custom, WriterKind::AtStyleMark, style_marks)
 }
 
 /// Renders to this program's writer of styles, which fails at the style mark after this many, and
@@ -126,12 +126,12 @@ fn stopped_at_style_mark(marks: usize) -> Failure {
 fn stops_at_style_mark<D: Render>(
     alloc: Global,
     output: &D,
-    marks: usize,
+    style_marks: usize,
     written: &[u8],
     is_stopped: bool,
 ) -> bool {
     let mut recording = Recording::new(alloc);
-    fails_at_style_mark(output, &mut recording, marks, is_stopped)
+    fails_at_style_mark(output, &mut recording, style_marks, is_stopped)
         && recording.inner.flushes == 0
         && recording.text() == written
 }
@@ -141,10 +141,10 @@ fn stops_at_style_mark<D: Render>(
 fn fails_at_style_mark<D: Render>(
     output: &D,
     recording: &mut Recording,
-    marks: usize,
+    style_marks: usize,
     is_stopped: bool,
 ) -> bool {
-    let mut writer = FailingWriter::new(recording, marks);
+    let mut writer = FailingWriter::new(recording, style_marks);
     let returned = output.render(&mut writer);
     is_as_expected(&returned, is_stopped)
         && writer.has_failed() == is_stopped
