@@ -123,10 +123,10 @@ fn first_and_last_of_each_range(rt: HostRuntime) {
 }
 
 /// The parts of a styled text, by what is tested, and the output.
-type Output<'text> = (&'text str, &'text [(Style, &'text str)], &'text str);
+type WorkedOutput<'text> = (&'text str, &'text [(Style, &'text str)], &'text str);
 
 /// A header with sequences of its own, an `a` in a style of each kind, and no text.
-static OUTPUTS: [Output<'static>; 10] = [
+static OUTPUTS: [WorkedOutput<'static>; 10] = [
     (
         "header_has_its_sequences_alone",
         &[
