@@ -164,7 +164,9 @@ fn judge_results(alloc: Global, needed: &Prepared<'_>) -> Outcome {
 
 /// Returns whether the vectors hold what is expected.
 fn are_written(recordings: &Recordings) -> bool {
-    recordings.rows.holds(ROWS) && recordings.colored.holds(COLORED) && recordings.bug.holds("bug: \n\n")
+    recordings.rows.holds(ROWS)
+        && recordings.colored.holds(COLORED)
+        && recordings.bug.holds("bug: \n\n")
 }
 
 /// Returns whether the lookups of the file databases return what is expected.

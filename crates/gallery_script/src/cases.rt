@@ -23,8 +23,8 @@ use std::alloc::Global;
 ///
 /// # Errors
 ///
-/// - `Program` with [`GalleryError::Line`]: the number, from 1, of the first line that has an error,
-///   and that error, or a failed allocation for the line.
+/// - `Program` with [`GalleryError::Line`]: the number, from 1, of the first line that has an
+///   error, and that error, or a failed allocation for the line.
 /// - `OutOfMemory`: an allocation for the list of lines fails.
 pub fn parse_cases(alloc: Global, input: &str) -> Result<Vec<Case<'_>>, RunError<GalleryError>>
     ensures cases { IfOk result (λ cases. AppliesLines (lines input.now) [] cases.items) }
