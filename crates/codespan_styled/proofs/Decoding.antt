@@ -8,7 +8,7 @@ use Rattle.codespan_base.specs.declared.diagnostic.Severity.TheVariants.{Bug, Er
 use Rattle.codespan_base.specs.Streams.{Stream, Byte, Mark, Slot, spelled, text_of}
 use Rattle.codespan_documents.specs.declared.style.Style.{Style}
 use Rattle.codespan_documents.specs.declared.style.Style.TheVariants.{Plain, Header, HeaderMessage, LineNumber, NoteBullet, SourceBorder, Label}
-use Rattle.codespan_styled.specs.Private.Recorded.{AllBytes, AreBytes, recorded_runs, style_number, style_spelling}
+use Rattle.codespan_styled.specs.Private.Recorded.{TextsAreBytes, AreBytes, recorded_runs, style_number, style_spelling}
 use Rattle.codespan_documents.specs.Runs.{RunView, joined, runs_from, runs_of, style_after}
 
 -- a run
@@ -96,7 +96,7 @@ bytes-decoded style text (b ∷ bs) rest small =
     ∙ ap (λ t. decoded style t rest) (append_assoc text (b ∷ []) bs)
 
 -- runs that are recorded read back
-contents-decoded : (style : Style) (text : List ℕ) (runs : List RunView) → AllBytes runs
+contents-decoded : (style : Style) (text : List ℕ) (runs : List RunView) → TextsAreBytes runs
     → decoded style text (recorded_runs runs) ≡ run_of style text ∷ runs
 contents-decoded style text [] small = refl
 contents-decoded style text (run ∷ runs) small =
@@ -110,7 +110,7 @@ rest_of [] = []
 rest_of (run ∷ runs) = runs
 
 -- runs that are recorded as a stream is, after the number of plain text, are those of the stream
-pub runs_of_recorded : (runs : List RunView) (s : Stream) → AllBytes runs → AreBytes (text_of s)
+pub runs_of_recorded : (runs : List RunView) (s : Stream) → TextsAreBytes runs → AreBytes (text_of s)
     → recorded_runs runs ≡ style_number Plain ∷ spelled style_spelling s → runs ≡ runs_of s
 unfolding rest_of
 runs_of_recorded runs s small bytes contents =

@@ -20,8 +20,8 @@ abbrev pub AreBytes : List ℕ → Type 0
 AreBytes bs = AllByRecursion (λ b. b < 256) bs
 
 -- the texts of the runs are bytes
-abbrev pub AllBytes : List RunView → Type 0
-AllBytes runs = AllByRecursion (λ (run : RunView). AreBytes run.text) runs
+abbrev pub TextsAreBytes : List RunView → Type 0
+TextsAreBytes runs = AllByRecursion (λ (run : RunView). AreBytes run.text) runs
 
 -- ---- numbers of styles
 
