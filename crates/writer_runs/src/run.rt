@@ -27,7 +27,7 @@ pub fn run<R: Read, W: Write, E: Write>(
     ensures { result ≤ 1 }
 {
     match judge_all(alloc, stdin, stdout) {
-        Ok(sum) => u8::from(sum.is_wrong),
+        Ok(counts) => u8::from(counts.is_wrong),
         Err(error) => {
             let _ = writeln!(stderr, "writer_runs: {error}");
             1
@@ -37,13 +37,13 @@ pub fn run<R: Read, W: Write, E: Write>(
 
 /// How many worked outputs and rows were judged, by how many runs, and whether one was wrong.
 #[derive(Clone, Copy, Default)]
-struct Sum {
+struct Counts {
     outputs_and_rows: usize,
     runs: usize,
     is_wrong: bool,
 }
 
-impl Sum {
+impl Counts {
     /// Counts a worked output or a row, and its runs, and writes its line: by which calls it was
     /// rendered, or the error.
     fn report<W: Write, T: Display + Drop, D: Display + Drop>(
@@ -82,15 +82,15 @@ fn judge_all<R: Read, W: Write>(
     alloc: Global,
     stdin: &mut R,
     stdout: &mut W,
-) -> Result<Sum, FatalError> {
-    let mut sum = Sum::default();
+) -> Result<Counts, FatalError> {
+    let mut counts = Counts::default();
     let text = read_text(alloc, stdin)?;
-    judge_text(alloc, text.as_str(), stdout, &mut sum)?;
+    judge_text(alloc, text.as_str(), stdout, &mut counts)?;
     for rows in &rows() {
-        judge_direct_rows(alloc, rows, stdout, &mut sum)?;
+        judge_direct_rows(alloc, rows, stdout, &mut counts)?;
     }
-    sum.write_counts(stdout)?;
-    Ok(sum)
+    counts.write_counts(stdout)?;
+    Ok(counts)
 }
 
 /// Makes the runs of the worked outputs of an input.
@@ -98,10 +98,10 @@ fn judge_text<W: Write>(
     alloc: Global,
     text: &str,
     stdout: &mut W,
-    sum: &mut Sum,
+    counts: &mut Counts,
 ) -> Result<(), FatalError> {
     let worked_outputs = parse_outputs(alloc, text)?;
-    judge_outputs(alloc, worked_outputs.as_slice(), stdout, sum)
+    judge_outputs(alloc, worked_outputs.as_slice(), stdout, counts)
 }
 
 /// Makes the runs of worked outputs, and writes a line for each.
@@ -109,14 +109,14 @@ fn judge_outputs<W: Write>(
     alloc: Global,
     worked_outputs: &[WorkedOutput<'_>],
     stdout: &mut W,
-    sum: &mut Sum,
+    counts: &mut Counts,
 ) -> Result<(), FatalError> {
     let (styles, calls) = (STYLES.len(), CALLS.len());
     for worked in worked_outputs {
         let judged = judge_output(alloc, worked);
         let calls = format_args!("{calls} calls in {styles} styles");
         let name = worked.case.name;
-        sum.report(stdout, format_args!("output {name}"), judged, calls)?;
+        counts.report(stdout, format_args!("output {name}"), judged, calls)?;
     }
     Ok(())
 }
@@ -126,11 +126,11 @@ fn judge_direct_rows<W: Write>(
     alloc: Global,
     rows: &[DirectRow<'_>],
     stdout: &mut W,
-    sum: &mut Sum,
+    counts: &mut Counts,
 ) -> Result<(), FatalError> {
     for row in rows {
         let (name, judged) = (row.name, judge_direct(alloc, row));
-        sum.report(stdout, format_args!("row {name}"), judged, row.call)?;
+        counts.report(stdout, format_args!("row {name}"), judged, row.call)?;
     }
     Ok(())
 }
