@@ -55,6 +55,6 @@ pub data Unescapes : List ℕ → Option (List ℕ) → Type 0 where
   whole : (text : List ℕ) → LacksBackslash text → Unescapes text (Some text)
   broken : (plain escape : List ℕ) → LacksBackslash plain → ParsesEscape escape None
       → Unescapes (plain ++ 92 ∷ escape) None
-  escaped : (plain escape left : List ℕ) (c : ℕ) (unescaped : Option (List ℕ)) → LacksBackslash plain
-      → ParsesEscape escape (Some (c, left)) → Unescapes left unescaped
+  escaped : (plain escape left : List ℕ) (c : ℕ) (unescaped : Option (List ℕ))
+      → LacksBackslash plain → ParsesEscape escape (Some (c, left)) → Unescapes left unescaped
       → Unescapes (plain ++ 92 ∷ escape) (with_prefix (plain ++ encode_utf8 c) unescaped)
