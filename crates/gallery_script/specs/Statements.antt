@@ -1,4 +1,4 @@
--- What a line describes.
+-- What a line states.
 use Rattle.std.specs.Prelude.{◌≡◌, ◌≢◌, ◌⊎◌, ℕ, true, false, List, Option, Some, None, IsSomeAnd, codes, string_bytes}
 use Rattle.codespan_base.specs.declared.diagnostic.Label.{Label}
 use Rattle.codespan_base.specs.declared.diagnostic.LabelStyle.{LabelStyle}
@@ -19,7 +19,7 @@ use Rattle.gallery_script.specs.Numbers.{IsNumber, IsBadNumber}
 use Rattle.gallery_script.specs.Words.{characters_named, colors_named, database_kind_named}
 use Rattle.gallery_script.specs.Words.{layout_named, case_word_named}
 
--- ---- what a line describes
+-- ---- what a line states
 
 -- what follows the second space of a text, or nothing
 abbrev pub past_two_spaces : List ℕ → List ℕ
@@ -53,7 +53,7 @@ pub record IsLabel (rest : List ℕ) (label : Label ℕ) : Type 0 where
   pub end : IsNumber (field_of (past_two_spaces rest)) label.range.end
   pub message : UnescapesTo (past_three_spaces rest) (string_bytes label.message)
 
--- what a line describes, by its word and its rest
+-- what a line states, by its word and its rest
 abbrev pub States : Option Word → List ℕ → Statement → Type 0
 States word rest (statements.Database kind) =
     (word ≡ Some Database) × (database_kind_named rest ≡ Some kind)

@@ -2,7 +2,7 @@
 //!
 //! The input is a text of lines. A line begins with a word, which ends at the first space; its rest
 //! is what follows that space. Lines that are empty or begin with `#` are ignored. A line
-//! `case NAME` begins a case, and the lines after it describe it ([`Statement`] lists their words);
+//! `case NAME` begins a case, and the lines after it state it ([`Statement`] lists their words);
 //! texts in these are escaped ([`unescape`] lists the escapes).
 //!
 //! [`Statement`]: crate::statement::Statement
@@ -53,7 +53,7 @@ fn apply_lines<'input>(
     Ok(cases)
 }
 
-/// Applies a line: it begins a case, describes the last one, or is ignored.
+/// Applies a line: it begins a case, states something of the last one, or is ignored.
 fn apply_line<'input>(
     alloc: Global,
     cases: &mut Vec<Case<'input>>,

@@ -26,11 +26,11 @@ pub enum Line<'input> {
     Ignored,
     /// `case NAME`: the beginning of a case with this name.
     NewCase(&'input str),
-    /// A line that describes the last case.
+    /// A line that states something of the last case.
     OfLastCase(Statement),
 }
 
-/// A part of the description of a case.
+/// What a line states of a case.
 #[derive(Drop)]
 pub enum Statement {
     /// `database KIND`: the kind of its file database.

@@ -7,7 +7,7 @@ ghost use Rattle.gallery_script.specs.Words.{layout_named, case_word_named};
 use crate::case::{CharacterSet, ColorChoice, DatabaseKind};
 use codespan_base::term::Layout;
 
-/// The first word of a line that describes a case.
+/// The first word of a line that states something of a case.
 #[derive(Clone, Copy)]
 pub enum Word {
     /// The kind of the file database.

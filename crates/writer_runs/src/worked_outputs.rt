@@ -40,7 +40,7 @@ pub fn parse_outputs(alloc: Global, input: &str) -> Result<Vec<WorkedOutput<'_>>
     Ok(outputs)
 }
 
-/// Applies a line: it begins a worked output, describes the last one, or is ignored.
+/// Applies a line: it begins a worked output, states something of the last one, or is ignored.
 fn apply_line<'input>(
     alloc: Global,
     outputs: &mut Vec<WorkedOutput<'input>>,
