@@ -117,7 +117,11 @@ pub fn judge_style_marks<D: Render>(
 
 /// Returns the error of a run with a writer that fails at the style mark after this many.
 fn stopped_at_style_mark(style_marks: usize) -> Failure {
-    Failure::Stopped(StyleWriterKind::Custom, WriterKind::AtStyleMark, style_marks)
+    Failure::Stopped(
+        StyleWriterKind::Custom,
+        WriterKind::AtStyleMark,
+        style_marks,
+    )
 }
 
 /// Renders to this program's writer of styles, which fails at the style mark after this many, and
