@@ -125,9 +125,9 @@ impl<'input> Case<'input> {
             Statement::Database(kind) => self.database_kind = kind,
             Statement::File(name) => self.add_file(name)?,
             Statement::Source(text) => self.continue_source(text.as_str())?,
-            Statement::Number { line, number } => {
-                self.set_numbers.push(SetNumber { line, number })?
-            }
+            Statement::Number { line, number } => self
+                .set_numbers
+                .push(SetNumber { line, number })?,
             Statement::Style(style) => self.config.display_style = style,
             Statement::Layout(layout) => self.config.layout = layout,
             Statement::Tab(width) => self.config.tab_width = width,
