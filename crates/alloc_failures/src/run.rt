@@ -11,11 +11,11 @@ use std::io::Write;
 
 /// Judges the subject that the arguments name, or all subjects if there are none, writes the
 /// outcome, and returns the program's status: 1 if writing fails.
-pub fn run<W: Write>(alloc: Global, args: &[String], output: &mut W) -> u8
+pub fn run<W: Write>(alloc: Global, args: &[String], stdout: &mut W) -> u8
     ensures { result ≤ 2 }
 {
     if args.is_empty() {
-        return match judge_all(alloc, output) {
+        return match judge_all(alloc, stdout) {
             Ok(true) => 0,
             Ok(false) | Err(_) => 1,
         };
@@ -24,27 +24,27 @@ pub fn run<W: Write>(alloc: Global, args: &[String], output: &mut W) -> u8
         Some(subject) => subject.judge(alloc),
         None => Outcome::Unknown,
     };
-    conclude(outcome, output)
+    conclude(outcome, stdout)
 }
 
 /// Writes an outcome as one line, and returns the program's status: 1 if writing fails.
-pub fn conclude<W: Write>(outcome: Outcome, output: &mut W) -> u8
+pub fn conclude<W: Write>(outcome: Outcome, stdout: &mut W) -> u8
     ensures { result ≤ 2 }
 {
-    match writeln!(output, "{outcome}") {
+    match writeln!(stdout, "{outcome}") {
         Ok(()) => outcome.status(),
         Err(_) => 1,
     }
 }
 
 /// Judges all subjects, writes a line for each, and returns whether all are done.
-fn judge_all<W: Write>(alloc: Global, output: &mut W) -> io::Result<bool> {
+fn judge_all<W: Write>(alloc: Global, stdout: &mut W) -> io::Result<bool> {
     let mut are_done = true;
     for calls in &calls() {
-        are_done &= judge_calls(alloc, calls, output)?;
+        are_done &= judge_calls(alloc, calls, stdout)?;
     }
     for (name, call) in render_calls() {
-        are_done &= judge_cases(alloc, name, *call, output)?;
+        are_done &= judge_cases(alloc, name, *call, stdout)?;
     }
     Ok(are_done)
 }
@@ -53,12 +53,12 @@ fn judge_all<W: Write>(alloc: Global, output: &mut W) -> io::Result<bool> {
 fn judge_calls<W: Write>(
     alloc: Global,
     calls: &[NamedSubject],
-    output: &mut W,
+    stdout: &mut W,
 ) -> io::Result<bool> {
     let mut are_done = true;
     for (name, subject) in calls {
         let outcome = subject.judge(alloc);
-        writeln!(output, "{name}: {outcome}")?;
+        writeln!(stdout, "{name}: {outcome}")?;
         are_done &= outcome == Outcome::Done;
     }
     Ok(are_done)
@@ -70,12 +70,12 @@ fn judge_cases<W: Write>(
     alloc: Global,
     call_name: &str,
     call: RenderCall,
-    output: &mut W,
+    stdout: &mut W,
 ) -> io::Result<bool> {
     let mut are_done = true;
     for (name, case) in cases() {
         let outcome = Subject::Rendering(call, *case).judge(alloc);
-        writeln!(output, "{call_name} {name}: {outcome}")?;
+        writeln!(stdout, "{call_name} {name}: {outcome}")?;
         are_done &= outcome == Outcome::Done;
     }
     Ok(are_done)

@@ -37,7 +37,7 @@ const TEXT: &str = "foo\nbär\nbaz";
 #[derive(Drop)]
 struct Prepared<'text> {
     /// What the calls write to.
-    outputs: Outputs,
+    recordings: Recordings,
     /// The locus of the snippet's start.
     start: Locus,
     /// The locus of the header.
@@ -48,7 +48,7 @@ struct Prepared<'text> {
 
 /// What the calls write to. Each vector has the capacity for all that is written to it.
 #[derive(Drop)]
-struct Outputs {
+struct Recordings {
     /// The rows, in plain text.
     rows: Recording,
     /// A source line with a label, in colors.
@@ -84,7 +84,7 @@ pub fn judge_without_alloc(alloc: Global, extent: Extent) -> Result<Outcome, Err
 /// Prepares what the calls need.
 fn prepare<'text>(alloc: Global) -> Result<Prepared<'text>, Error> {
     Ok(Prepared {
-        outputs: prepare_outputs(alloc)?,
+        recordings: prepare_recordings(alloc)?,
         start: locus_of(alloc, "f", 1, 1)?,
         row_locus: locus_of(alloc, "Test.fun", 4, 11)?,
         databases: prepare_databases(alloc)?,
@@ -92,8 +92,8 @@ fn prepare<'text>(alloc: Global) -> Result<Prepared<'text>, Error> {
 }
 
 /// Prepares what the calls write to.
-fn prepare_outputs(alloc: Global) -> Result<Outputs, Error> {
-    Ok(Outputs {
+fn prepare_recordings(alloc: Global) -> Result<Recordings, Error> {
+    Ok(Recordings {
         rows: Recording::with_capacity(alloc, 1024)?,
         colored: Recording::with_capacity(alloc, 1024)?,
         bug: Recording::with_capacity(alloc, 1024)?,
@@ -143,16 +143,16 @@ fn judge_calls(alloc: Global, needed: &mut Prepared<'_>) -> Outcome {
 ///
 /// The error of the first call that fails, and `FormatError` if lanes are not in order.
 fn render_all(alloc: Global, needed: &mut Prepared<'_>) -> Result<(), Error> {
-    let outputs = &mut needed.outputs;
-    render_rows(&mut outputs.rows, &needed.start, &needed.row_locus)?;
-    render_colored(&mut outputs.colored)?;
-    render_bug(alloc, &mut outputs.bug, &needed.databases.files)
+    let recordings = &mut needed.recordings;
+    render_rows(&mut recordings.rows, &needed.start, &needed.row_locus)?;
+    render_colored(&mut recordings.colored)?;
+    render_bug(alloc, &mut recordings.bug, &needed.databases.files)
 }
 
 /// Judges what was written, makes the other calls, and judges what they return.
 fn judge_results(alloc: Global, needed: &Prepared<'_>) -> Outcome {
     judge_success(
-        are_written(&needed.outputs)
+        are_written(&needed.recordings)
             && are_looked_up(&needed.databases)
             && are_styles(&Styles::default())
             && are_starts()
@@ -163,8 +163,10 @@ fn judge_results(alloc: Global, needed: &Prepared<'_>) -> Outcome {
 }
 
 /// Returns whether the vectors hold what is expected.
-fn are_written(outputs: &Outputs) -> bool {
-    outputs.rows.holds(ROWS) && outputs.colored.holds(COLORED) && outputs.bug.holds("bug: \n\n")
+fn are_written(recordings: &Recordings) -> bool {
+    recordings.rows.holds(ROWS)
+        && recordings.colored.holds(COLORED)
+        && recordings.bug.holds("bug: \n\n")
 }
 
 /// Returns whether the lookups of the file databases return what is expected.
@@ -259,8 +261,8 @@ fn are_starts() -> bool {
 /// Those of `emit`.
 fn render_bug(
     alloc: Global,
-    output: &mut Recording,
+    writer: &mut Recording,
     files: &SimpleFiles<&str, &str>,
 ) -> Result<(), Error> {
-    emit(output, &Config::default(), files, &Diagnostic::bug(alloc))
+    emit(writer, &Config::default(), files, &Diagnostic::bug(alloc))
 }

@@ -5,7 +5,7 @@ use Rattle.std.specs.Prelude.{OnOk, is_ok, if◌then◌else◌}
 use Rattle.std.specs.List.{flat_map}
 use Rattle.std.proofs.lemmas.List.{drop_all, drop_more}
 use Rattle.codespan_documents.specs.declared.text.Run.{Run}
-use Rattle.codespan_documents.specs.Runs.{StyledRun, run_view}
+use Rattle.codespan_documents.specs.Runs.{RunView, run_view}
 
 -- a text that a call appends where it succeeds
 pub pushed : {E : Type 0} (r : Result (Unit {0}) E) (old new text written : List ℕ)
@@ -13,7 +13,7 @@ pub pushed : {E : Type 0} (r : Result (Unit {0}) E) (old new text written : List
 pushed (Ok done) old new text written is same = is ∙ ap (λ t. old ++ t) same
 pushed (Err error) old new text written is same = tt
 
-module _ (text : StyledRun → List ℕ) (runs : List Run) (i : ℕ) where
+module _ (text : RunView → List ℕ) (runs : List Run) (i : ℕ) where
   -- a run of those that are left
   pub run-more : (run : Run) (front next whole : List ℕ) → i < length runs → run ≡ get_or runs i run
       → next ≡ front ++ text (run_view run)

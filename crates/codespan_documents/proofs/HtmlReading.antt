@@ -17,7 +17,7 @@ use Rattle.codespan_documents.specs.declared.style.Style.TheVariants.{Plain, Hea
 use Rattle.codespan_documents.specs.declared.text.Run.{Run}
 use Rattle.codespan_documents.specs.Html.{html_character, html_element, html_run, html_text, is_forbidden_control, is_noncharacter, replaced_character, shown_text, span_tag_content}
 use Rattle.codespan_documents.specs.HtmlReading.{InEntity, InTag, InText, Token, Tag, TextByte, element_tokens, html_tokens, tokens_from, run_tokens, text_of_html, text_of_tokens, text_tokens, without_newline}
-use Rattle.codespan_documents.specs.Runs.{StyledRun, is_plain, joined, run_view}
+use Rattle.codespan_documents.specs.Runs.{RunView, is_plain, joined, run_view}
 
 -- ---- bytes of text
 
@@ -175,7 +175,7 @@ run-read-at (Label severity Secondary) text rest =
     ap (λ (tokens : List Token). Tag (span_tag_content (Label severity Secondary)) ∷ tokens)
     (ended-read text rest)
 
-runs-read : (runs : List StyledRun) (rest : List ℕ)
+runs-read : (runs : List RunView) (rest : List ℕ)
     → tokens_from InText (flat_map html_run runs ++ rest) ≡ flat_map run_tokens runs ++ tokens_from
     InText rest
 runs-read [] rest = refl
@@ -186,7 +186,7 @@ runs-read (run ∷ runs) rest =
     ∙ sym (append_assoc (run_tokens run) (flat_map run_tokens runs) (tokens_from InText rest))
 
 -- the element of runs reads back
-pub element-read : (runs : List StyledRun) → html_tokens (html_element runs) ≡ element_tokens runs
+pub element-read : (runs : List RunView) → html_tokens (html_element runs) ≡ element_tokens runs
 element-read runs =
     ap (λ (tokens : List Token). Tag (codes "pre class=\"diagnostic\"") ∷ TextByte 10 ∷ tokens)
     (runs-read runs (codes "</pre>"))
@@ -204,7 +204,7 @@ text_of-bytes [] = refl
 text_of-bytes (b ∷ bs) = ap (λ xs. b ∷ xs) (text_of-bytes bs)
 
 -- the text of a run
-run-text : (run : StyledRun) → text_of_tokens (run_tokens run) ≡ shown_text run.text
+run-text : (run : RunView) → text_of_tokens (run_tokens run) ≡ shown_text run.text
 run-text run =
     cond_both (is_plain run.style) _ _
     (λ (tokens : List Token). text_of_tokens tokens ≡ shown_text run.text)

@@ -11,7 +11,7 @@ use Rattle.codespan_documents.specs.declared.svg.Pen.{Pen}
 use Rattle.codespan_documents.specs.Glyphs.{follows, is_narrow, is_newline_glyph, joins, start}
 use Rattle.codespan_documents.specs.Inks.{optional_color_number, same_ink}
 use Rattle.codespan_documents.specs.Svg.{first_pen, next_pen}
-use Rattle.codespan_documents.specs.SvgReading.{InCell, Piece, RowEnd, Text, text_characters, piece_characters, joined_glyphs, pieces_from, characters_from}
+use Rattle.codespan_documents.specs.SvgReading.{CharacterInCell, Piece, RowEnd, Text, text_characters, piece_characters, joined_glyphs, pieces_from, characters_from}
 use Rattle.codespan_documents.proofs.HtmlReading.{and_true, is_code}
 use Rattle.codespan_documents.proofs.SvgPieces.{two_ifs, newline_joins, follows_newline}
 
@@ -65,7 +65,7 @@ joined_inks glyph next e =
 -- ---- cells
 
 -- the cells of the text that goes on, if one does
-abbrev cells_left : Option Glyph → CellPosition → List Glyph → List InCell
+abbrev cells_left : Option Glyph → CellPosition → List Glyph → List CharacterInCell
 cells_left before position [] = []
 cells_left before position (glyph ∷ glyphs) =
     if follows before glyph then text_characters glyph.ink position
@@ -98,13 +98,13 @@ cells_by_pieces pen (glyph ∷ glyphs) = all (cells_by_pieces (next_pen pen glyp
     rest : List Piece
     rest = pieces_from next glyphs
 
-    cells : List InCell
+    cells : List CharacterInCell
     cells = flat_map piece_characters rest
 
-    own : List InCell
+    own : List CharacterInCell
     own = text_characters glyph.ink pen.position (glyph ∷ joined_glyphs glyph glyphs)
 
-    first : InCell
+    first : CharacterInCell
     first = record { character = glyph.character; ink = glyph.ink; position = pen.position }
 
     piece : Piece
@@ -116,8 +116,8 @@ cells_by_pieces pen (glyph ∷ glyphs) = all (cells_by_pieces (next_pen pen glyp
 
     whole : Rest → first ∷ characters_from next.position glyphs ≡ own ++ cells
     whole is =
-        ap (λ (cs : List InCell). first ∷ cs)
-        (is ∙ ap (λ (cs : List InCell). cs ++ cells) (left_in glyph next.position glyphs))
+        ap (λ (cs : List CharacterInCell). first ∷ cs)
+        (is ∙ ap (λ (cs : List CharacterInCell). cs ++ cells) (left_in glyph next.position glyphs))
 
     character : Rest
         → first ∷ characters_from next.position
@@ -125,7 +125,7 @@ cells_by_pieces pen (glyph ∷ glyphs) = all (cells_by_pieces (next_pen pen glyp
         ++ flat_map piece_characters (if follows pen.before glyph then rest else piece ∷ rest)
     character is =
         two_ifs (follows pen.before glyph) own [] rest (piece ∷ rest)
-        (λ (left : List InCell) (pieces : List Piece). first
+        (λ (left : List CharacterInCell) (pieces : List Piece). first
         ∷ characters_from next.position glyphs ≡ left ++ flat_map piece_characters pieces)
         (λ _. whole is) (λ _. whole is)
 
@@ -142,7 +142,7 @@ cells_by_pieces pen (glyph ∷ glyphs) = all (cells_by_pieces (next_pen pen glyp
         → characters_from next.position
         glyphs ≡ (if follows pen.before glyph then own else []) ++ cells
     newline is e =
-        is ∙ ap (λ (cs : List InCell). cs ++ cells) (none_left glyphs e)
+        is ∙ ap (λ (cs : List CharacterInCell). cs ++ cells) (none_left glyphs e)
         ∙ ap (λ t. (if t then own else []) ++ cells) (sym (follows_newline pen.before glyph e))
 
     all : Rest
@@ -152,7 +152,7 @@ cells_by_pieces pen (glyph ∷ glyphs) = all (cells_by_pieces (next_pen pen glyp
         two_ifs (is_newline_glyph glyph) (characters_from next.position glyphs)
         (first ∷ characters_from next.position glyphs)
         (RowEnd ∷ rest) (if follows pen.before glyph then rest else piece ∷ rest)
-        (λ (cs : List InCell) (pieces : List Piece). cs
+        (λ (cs : List CharacterInCell) (pieces : List Piece). cs
         ≡ (if follows pen.before glyph then own else []) ++ flat_map piece_characters pieces)
         (newline is) (λ _. character is)
 
@@ -164,4 +164,4 @@ no_cells_before (glyph ∷ glyphs) = refl
 pub cells_of_pieces : (glyphs : List Glyph)
     → flat_map piece_characters (pieces_from first_pen glyphs) ≡ characters_from start glyphs
 cells_of_pieces glyphs =
-    sym (cells_by_pieces first_pen glyphs ∙ ap (λ (cs : List InCell). cs ++ flat_map piece_characters (pieces_from first_pen glyphs)) (no_cells_before glyphs))
+    sym (cells_by_pieces first_pen glyphs ∙ ap (λ (cs : List CharacterInCell). cs ++ flat_map piece_characters (pieces_from first_pen glyphs)) (no_cells_before glyphs))

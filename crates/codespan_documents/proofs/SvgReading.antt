@@ -11,7 +11,7 @@ use Rattle.codespan_documents.specs.declared.svg.ink.Ink.{Ink}
 use Rattle.codespan_documents.specs.declared.svg.Pen.{Pen}
 use Rattle.codespan_documents.specs.Glyphs.{cells_of, extent_from, follows, glyphs_of, glyphs_of_run, joins_next, is_newline_glyph, joined_cells, start}
 use Rattle.codespan_documents.specs.HtmlReading.{InText, Token, Tag, TextByte, html_tokens, tokens_from, text_of_tokens}
-use Rattle.codespan_documents.specs.Runs.{StyledRun, run_characters}
+use Rattle.codespan_documents.specs.Runs.{RunView, run_characters}
 use Rattle.codespan_documents.specs.Svg.{first_pen, glyph_text, background_tag_content, next_pen, svg_document, svg_tag_content, text_tag_content, text_tag, texts_from, xml_character}
 use Rattle.codespan_documents.specs.SvgReading.{piece_tokens, pieces_from, svg_tokens, shown_in_svg, svg_text}
 use Rattle.codespan_documents.proofs.HtmlReading.{text_of-append, text_of-bytes}
@@ -182,7 +182,7 @@ run-characters : (ink : Ink) (cs : List ℕ)
 run-characters ink [] = refl
 run-characters ink (c ∷ cs) = ap (λ ds. c ∷ ds) (run-characters ink cs)
 
-characters-are : (styles : Styles) (runs : List StyledRun)
+characters-are : (styles : Styles) (runs : List RunView)
     → map (λ (glyph : Glyph). glyph.character) (glyphs_of styles runs) ≡ run_characters runs
 characters-are styles [] = refl
 characters-are styles (run ∷ runs) =
@@ -193,7 +193,7 @@ characters-are styles (run ∷ runs) =
     ∙ ap (λ cs. chars run.text ++ cs) (characters-are styles runs)
 
 -- the text of a document is that of its runs
-pub svg-text : (styles : Styles) (runs : List StyledRun)
+pub svg-text : (styles : Styles) (runs : List RunView)
     → text_of_tokens (html_tokens (svg_document (glyphs_of styles runs))) ≡ svg_text runs
 svg-text styles runs =
     let glyphs = glyphs_of styles runs in

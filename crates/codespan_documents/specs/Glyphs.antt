@@ -7,19 +7,19 @@ use Rattle.codespan_base.specs.declared.term.config.styles.Styles.{Styles}
 use Rattle.codespan_documents.specs.declared.svg.glyph.Glyph.{Glyph}
 use Rattle.codespan_documents.specs.declared.svg.position.CellPosition.{CellPosition}
 use Rattle.codespan_documents.specs.Inks.{ink_of, same_ink}
-use Rattle.codespan_documents.specs.Runs.{StyledRun}
+use Rattle.codespan_documents.specs.Runs.{RunView}
 use Rattle.codespan_documents.specs.StyleSheet.{color_spec_of_style}
 
 -- ---- glyphs
 
 -- the characters of a run, each in the ink of its run's style
-abbrev pub glyphs_of_run : Styles → StyledRun → List Glyph
+abbrev pub glyphs_of_run : Styles → RunView → List Glyph
 glyphs_of_run styles run =
     map (λ c. record { character = c; ink = ink_of (color_spec_of_style styles run.style) })
     (chars run.text)
 
 -- the characters of runs
-abbrev pub glyphs_of : Styles → List StyledRun → List Glyph
+abbrev pub glyphs_of : Styles → List RunView → List Glyph
 glyphs_of styles runs = flat_map (glyphs_of_run styles) runs
 
 -- the number of cells that a glyph occupies: the width that `unicode_width` returns for its

@@ -7,7 +7,7 @@ use Rattle.codespan_base.specs.declared.diagnostic.Severity.{Severity}
 use Rattle.codespan_base.specs.declared.diagnostic.Severity.TheVariants.{Bug, Error, Warning, Note, Help}
 use Rattle.codespan_documents.specs.declared.style.Style.{Style}
 use Rattle.codespan_documents.specs.declared.style.Style.TheVariants.{Plain, Header, HeaderMessage, LineNumber, NoteBullet, SourceBorder, Label}
-use Rattle.codespan_documents.specs.Runs.{StyledRun, is_plain}
+use Rattle.codespan_documents.specs.Runs.{RunView, is_plain}
 
 -- ---- characters
 
@@ -72,13 +72,13 @@ abbrev pub span_tag_content : Style → List ℕ
 span_tag_content style = codes "span class=\"" ++ style_class style ++ codes "\""
 
 -- a run: a plain one as its text, any other between two tags
-abbrev pub html_run : StyledRun → List ℕ
+abbrev pub html_run : RunView → List ℕ
 html_run run =
     if is_plain run.style then html_text run.text
     else codes "<" ++ span_tag_content run.style ++ codes ">" ++ html_text run.text
     ++ codes "</span>"
 
 -- the element of runs; HTML does not show the newline after the first tag
-abbrev pub html_element : List StyledRun → List ℕ
+abbrev pub html_element : List RunView → List ℕ
 html_element runs =
     codes "<pre class=\"diagnostic\">\n" ++ flat_map html_run runs ++ codes "</pre>"

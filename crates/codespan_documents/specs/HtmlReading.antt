@@ -3,7 +3,7 @@ use Rattle.std.specs.Prelude.{ℕ, ◌==◌, List, [], ◌∷◌, ◌++◌, map,
 use Rattle.std.specs.List.{flat_map}
 use Rattle.std.specs.Str.{bytes_eq}
 use Rattle.codespan_documents.specs.Html.{shown_text, span_tag_content}
-use Rattle.codespan_documents.specs.Runs.{StyledRun, is_plain}
+use Rattle.codespan_documents.specs.Runs.{RunView, is_plain}
 
 -- a token of an element: a byte of text, or what is between `<` and `>`
 pub data Token : Type 0 where
@@ -66,13 +66,13 @@ abbrev pub text_tokens : List ℕ → List Token
 text_tokens text = map TextByte (shown_text text)
 
 -- a run: a plain one is its text, any other has a tag before it and one after it
-abbrev pub run_tokens : StyledRun → List Token
+abbrev pub run_tokens : RunView → List Token
 run_tokens run =
     if is_plain run.style then text_tokens run.text
     else Tag (span_tag_content run.style) ∷ text_tokens run.text ++ Tag (codes "/span") ∷ []
 
 -- all of an element: no other tag, and no other text
-abbrev pub element_tokens : List StyledRun → List Token
+abbrev pub element_tokens : List RunView → List Token
 element_tokens runs =
     Tag (codes "pre class=\"diagnostic\"") ∷ TextByte 10 ∷ flat_map run_tokens runs
     ++ Tag (codes "/pre") ∷ []

@@ -8,7 +8,7 @@ use Rattle.codespan_documents.specs.declared.svg.position.CellPosition.{CellPosi
 use Rattle.codespan_documents.specs.declared.svg.Pen.{Pen}
 use Rattle.codespan_documents.specs.Glyphs.{after_glyph, cells_of, extent_from, follows, is_newline_glyph, joins, start}
 use Rattle.codespan_documents.specs.HtmlReading.{Token, Tag, TextByte}
-use Rattle.codespan_documents.specs.Runs.{StyledRun, run_characters}
+use Rattle.codespan_documents.specs.Runs.{RunView, run_characters}
 use Rattle.codespan_documents.specs.Svg.{first_pen, background_tag_content, is_forbidden_in_xml, next_pen, svg_tag_content, text_tag_content}
 
 -- ---- characters
@@ -30,7 +30,7 @@ abbrev pub shown_glyphs : List Glyph → List ℕ
 shown_glyphs glyphs = flat_map (λ (glyph : Glyph). shown_in_svg glyph.character) glyphs
 
 -- the text of a document of runs: theirs, after two line ends of its head and before one
-abbrev pub svg_text : List StyledRun → List ℕ
+abbrev pub svg_text : List RunView → List ℕ
 svg_text runs = 10 ∷ 10 ∷ flat_map shown_in_svg (run_characters runs) ++ 10 ∷ []
 
 -- ---- pieces
@@ -81,26 +81,26 @@ svg_tokens glyphs =
 -- ---- cells
 
 -- a character, its ink, and the position of its cell
-pub record InCell : Type 0 where
+pub record CharacterInCell : Type 0 where
   pub character : ℕ
   pub ink : Ink
   pub position : CellPosition
 
 -- the characters of a text in one ink, the first one at this position
-abbrev pub text_characters : Ink → CellPosition → List Glyph → List InCell
+abbrev pub text_characters : Ink → CellPosition → List Glyph → List CharacterInCell
 text_characters ink position [] = []
 text_characters ink position (glyph ∷ glyphs) =
     record { character = glyph.character; ink = ink; position = position }
     ∷ text_characters ink (after_glyph position glyph) glyphs
 
 -- the characters of a piece
-abbrev pub piece_characters : Piece → List InCell
+abbrev pub piece_characters : Piece → List CharacterInCell
 piece_characters RowEnd = []
 piece_characters (Text position first others) = text_characters first.ink position (first ∷ others)
 
 -- the characters of glyphs from a position on but newlines, each in its ink and in the cell that it
 -- has among all of them
-abbrev pub characters_from : CellPosition → List Glyph → List InCell
+abbrev pub characters_from : CellPosition → List Glyph → List CharacterInCell
 characters_from position [] = []
 characters_from position (glyph ∷ glyphs) =
     let rest = characters_from (after_glyph position glyph) glyphs in

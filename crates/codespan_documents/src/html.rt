@@ -70,7 +70,7 @@ fn push_run(html: &mut String, run: &Run) -> Result<(), AllocError>
         return push_text(html, run.text.as_str());
     }
     html.push_str("<span class=\"")?;
-    html.push_str(class_of(run.style))?;
+    html.push_str(style_class(run.style))?;
     html.push_str("\">")?;
     push_text(html, run.text.as_str())?;
     html.push_str("</span>")?;
@@ -128,7 +128,7 @@ fn is_noncharacter(c: char) -> bool
 }
 
 /// Returns the class of a style; plain text has none.
-pub(crate) fn class_of(style: Style) -> &'static str
+pub(crate) fn style_class(style: Style) -> &'static str
     ensures { result.now ≡ style_class style }
 {
     match style {

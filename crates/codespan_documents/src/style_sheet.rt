@@ -3,7 +3,7 @@
 ghost use Rattle.std.specs.Prelude.{◌≡◌, ◌++◌, IfErr, IfOk, OnOk, flat_map, if◌then◌else◌, string_bytes};
 ghost use Rattle.codespan_documents.specs.StyleSheet.{bright_color, color_declaration, declarations, normal_color, rule, color_spec_of_style, style_sheet, weight_declaration};
 
-use crate::html::class_of;
+use crate::html::style_class;
 use crate::style::Style;
 use codespan_base::diagnostic::{LabelStyle, Severity};
 use codespan_base::files::Error;
@@ -69,7 +69,7 @@ fn push_rule(css: &mut String, styles: &Styles, style: Style) -> Result<(), Allo
     ensures { OnOk result (string_bytes css.new ≡ string_bytes css.old ++ rule styles.now style) }
 {
     css.push_str(".diagnostic .")?;
-    css.push_str(class_of(style))?;
+    css.push_str(style_class(style))?;
     css.push_str(" { ")?;
     push_declarations(css, color_spec_of_style(styles, style))?;
     css.push_str("}\n")?;

@@ -146,7 +146,7 @@ fn push_glyph(
     ensures { OnOk result (string_bytes document.new ≡ string_bytes document.old
         ++ glyph_text pen glyph others.now) }
 {
-    if glyph.ends_row() {
+    if glyph.is_newline() {
         document.push_str("\n")?;
         return Ok(());
     }

@@ -36,11 +36,11 @@ newline_text name source first_line = record {
 
 -- a text of stated lines
 abbrev pub stated_text : List ℕ → List ℕ → ℕ → List RawLine → SourceTextView
-stated_text name source first lines = record {
+stated_text name source first_byte lines = record {
   name = name;
   source = source;
-  starts = starts_of first lines;
-  ends = ends_of first lines;
+  starts = starts_of first_byte lines;
+  ends = ends_of first_byte lines;
   number = λ i. slice_index (numbers_of lines) i;
 }
 

@@ -44,8 +44,8 @@ pub record IsColorSpec (s : RawColorSpec) : Type 0 where
 
 -- lines of a text, or none
 abbrev pub AreValidLines : List ℕ → ℕ → List RawLine → Type 0
-AreValidLines text first [] = Unit {0}
-AreValidLines text first (l ∷ ls) = are_lines text first (l ∷ ls) ≡ true
+AreValidLines text first_byte [] = Unit {0}
+AreValidLines text first_byte (l ∷ ls) = are_lines text first_byte (l ∷ ls) ≡ true
 
 -- facts of a file, of a label and of a note
 abbrev pub HasTextName : RawFile → Type 0

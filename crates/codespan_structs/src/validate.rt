@@ -19,7 +19,7 @@ use crate::validate::values::is_utf8;
 
 /// An invalid argument.
 #[derive(Drop)]
-pub struct Invalid {
+pub struct InvalidArgument {
     /// Which one it is.
     pub argument: Argument,
     /// The index, from 0, of the character, style, file, label or note; 0 where there is only one
@@ -56,14 +56,14 @@ pub fn first_invalid(
     files: &[RawFile<'_>],
     diagnostic: &RawDiagnostic<'_>,
     config: &RawConfig<'_>,
-) -> Option<Invalid>
+) -> Option<InvalidArgument>
     ensures none { IfNone result (AreValid files.now diagnostic.now config.now) }
     ensures some { IfSome result (λ found.
         IsFirstInvalid files.now diagnostic.now config.now found.argument found.index) }
 {
     for argument in ARGUMENTS {
         if let Some(index) = invalid_index(argument, files, diagnostic, config) {
-            return Some(Invalid { argument, index });
+            return Some(InvalidArgument { argument, index });
         }
     }
     None

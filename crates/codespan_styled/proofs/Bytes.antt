@@ -9,7 +9,7 @@ use Rattle.std.proofs.lemmas.Bool.{cond_both}
 use Rattle.std.proofs.lemmas.Bool.Decides.{nat_tests}
 use Rattle.std.proofs.lemmas.Str.{IsUtf8-string_bytes}
 use Rattle.codespan_documents.specs.declared.text.Run.{Run}
-use Rattle.codespan_styled.specs.Private.Recorded.{AllBytes, AreBytes}
+use Rattle.codespan_styled.specs.Private.Recorded.{TextsAreBytes, AreBytes}
 use Rattle.codespan_documents.specs.Runs.{run_view}
 
 -- bytes, one list after another
@@ -56,7 +56,7 @@ pub utf8-bytes : (bs : List ℕ) → IsUtf8 bs → AreBytes bs
 utf8-bytes bs u = subst AreBytes u.1.1 (characters-bytes u.0 u.1.0)
 
 -- the texts of runs
-pub runs-bytes : (runs : List Run) → AllBytes (map run_view runs)
+pub runs-bytes : (runs : List Run) → TextsAreBytes (map run_view runs)
 runs-bytes [] = tt
 runs-bytes (run ∷ runs) =
     (utf8-bytes (string_bytes run.text) (IsUtf8-string_bytes run.text), runs-bytes runs)

@@ -8,11 +8,11 @@ use Rattle.codespan_base.specs.declared.diagnostic.Severity.TheVariants.{Bug, Er
 use Rattle.codespan_base.specs.Streams.{Stream, Byte, Mark, Slot, spelled, text_of}
 use Rattle.codespan_documents.specs.declared.style.Style.{Style}
 use Rattle.codespan_documents.specs.declared.style.Style.TheVariants.{Plain, Header, HeaderMessage, LineNumber, NoteBullet, SourceBorder, Label}
-use Rattle.codespan_styled.specs.Private.Recorded.{AllBytes, AreBytes, recorded_runs, style_number, style_spelling}
-use Rattle.codespan_documents.specs.Runs.{StyledRun, joined, runs_from, runs_of, style_after}
+use Rattle.codespan_styled.specs.Private.Recorded.{TextsAreBytes, AreBytes, recorded_runs, style_number, style_spelling}
+use Rattle.codespan_documents.specs.Runs.{RunView, joined, runs_from, runs_of, style_after}
 
 -- a run
-abbrev run_of : Style → List ℕ → StyledRun
+abbrev run_of : Style → List ℕ → RunView
 run_of style text = record { style = style; text = text }
 
 -- ---- the style of a number
@@ -33,7 +33,7 @@ style_at n = get_or styles (n - 256) Plain
 -- ---- reading
 
 -- the runs that numbers hold, of which the first continues a run
-abbrev decoded : Style → List ℕ → List ℕ → List StyledRun
+abbrev decoded : Style → List ℕ → List ℕ → List RunView
 decoded style text [] = run_of style text ∷ []
 decoded style text (n ∷ ns) =
     if nat_lt n 256 then decoded style (text ++ n ∷ []) ns
@@ -81,7 +81,7 @@ spelled-decoded style text (Byte b ∷ s) small =
     ∙ spelled-decoded style (text ++ b ∷ []) s small.1
 spelled-decoded style text (Mark m ∷ s) small =
     style-step style text (style_after m) (spelled style_spelling s)
-    ∙ ap (λ (runs : List StyledRun). run_of style text ∷ runs)
+    ∙ ap (λ (runs : List RunView). run_of style text ∷ runs)
     (spelled-decoded (style_after m) [] s small)
 spelled-decoded style text (Slot k ∷ s) small = spelled-decoded style text s small
 
@@ -96,27 +96,27 @@ bytes-decoded style text (b ∷ bs) rest small =
     ∙ ap (λ t. decoded style t rest) (append_assoc text (b ∷ []) bs)
 
 -- runs that are recorded read back
-contents-decoded : (style : Style) (text : List ℕ) (runs : List StyledRun) → AllBytes runs
+contents-decoded : (style : Style) (text : List ℕ) (runs : List RunView) → TextsAreBytes runs
     → decoded style text (recorded_runs runs) ≡ run_of style text ∷ runs
 contents-decoded style text [] small = refl
 contents-decoded style text (run ∷ runs) small =
     style-step style text run.style (run.text ++ recorded_runs runs)
-    ∙ ap (λ (rs : List StyledRun). run_of style text ∷ rs)
+    ∙ ap (λ (rs : List RunView). run_of style text ∷ rs)
     (bytes-decoded run.style [] run.text (recorded_runs runs) small.0
     ∙ contents-decoded run.style run.text runs small.1)
 
-rest_of : List StyledRun → List StyledRun
+rest_of : List RunView → List RunView
 rest_of [] = []
 rest_of (run ∷ runs) = runs
 
 -- runs that are recorded as a stream is, after the number of plain text, are those of the stream
-pub runs_of_recorded : (runs : List StyledRun) (s : Stream) → AllBytes runs → AreBytes (text_of s)
+pub runs_of_recorded : (runs : List RunView) (s : Stream) → TextsAreBytes runs → AreBytes (text_of s)
     → recorded_runs runs ≡ style_number Plain ∷ spelled style_spelling s → runs ≡ runs_of s
 unfolding rest_of
 runs_of_recorded runs s small bytes contents =
     ap rest_of (sym (contents-decoded Plain [] runs small) ∙ ap (decoded Plain []) contents
     ∙ style-step Plain [] Plain (spelled style_spelling s)
-    ∙ ap (λ (rs : List StyledRun). run_of Plain [] ∷ rs) (spelled-decoded Plain [] s bytes))
+    ∙ ap (λ (rs : List RunView). run_of Plain [] ∷ rs) (spelled-decoded Plain [] s bytes))
 
 -- ---- their texts
 

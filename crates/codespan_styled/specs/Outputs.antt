@@ -9,7 +9,7 @@ use Rattle.codespan_picture.specs.Utf8Laws.{CharsAreScalars}
 use Rattle.codespan_picture.specs.OutputStreams.{AreLoci, NamesAreUtf8, output}
 use Rattle.codespan_picture.specs.Rows.{Locus}
 use Rattle.codespan_views.specs.Output.{IsEmitError, Succeeds}
-use Rattle.codespan_documents.specs.Runs.{AreTexts, StyledRun, joined, runs_of}
+use Rattle.codespan_documents.specs.Runs.{AreTexts, RunView, joined, runs_of}
 
 module _ {Id : Type 0} (config : Config) (files : FileDatabase Id) (d : Diagnostic Id) where
   -- the output with these loci, in the configuration's style
@@ -18,7 +18,7 @@ module _ {Id : Type 0} (config : Config) (files : FileDatabase Id) (d : Diagnost
 
   -- the runs are those of the output with some loci; their texts, one after another, are its plain
   -- text, and in rich style the output means the labels
-  pub record AreRuns (runs : List StyledRun) : Type 0 where
+  pub record AreRuns (runs : List RunView) : Type 0 where
     pub loci : List Locus
     pub are_loci : AreLoci files d config.display_style loci
     pub runs_are : runs ≡ runs_of (output_at loci)
@@ -34,5 +34,5 @@ module _ {Id : Type 0} (config : Config) (files : FileDatabase Id) (d : Diagnost
       → (loci : List Locus) → NamesAreUtf8 loci → AreTexts (runs_of (output_at loci))
 
   -- the call returns the runs of the output, or fails as `emit_into_string` does
-  abbrev pub EmitsRuns : {T : Type 0} → (T → List StyledRun) → Result T Error → Type 0
+  abbrev pub EmitsRuns : {T : Type 0} → (T → List RunView) → Result T Error → Type 0
   EmitsRuns runs r = MatchResult r (λ t. AreRuns (runs t)) (IsEmitError config files d)

@@ -4,7 +4,7 @@ use Rattle.std.proofs.Common.{◌≡◌, ℕ, List, [], ◌∷◌, ◌++◌, ref
 use Rattle.codespan_base.specs.declared.term.config.styles.Styles.{Styles}
 use Rattle.codespan_base.specs.Streams.{Stream, StyleMark, Byte, Mark, Slot, Header, HeaderMessage, LineNumber, NoteBullet, SourceBorder, LabelStyleMark, Reset, spelled}
 use Rattle.codespan_documents.specs.declared.style.Style.{Style}
-use Rattle.codespan_documents.specs.declared.style.Style.TheVariants as Kinds
+use Rattle.codespan_documents.specs.declared.style.Style.TheVariants as run_styles
 use Rattle.codespan_documents.specs.Runs.{runs_from, runs_of, style_after}
 use Rattle.codespan_base.specs.StyleTables.{ansi_spelling}
 use Rattle.codespan_terminal.specs.Terminal.{AreSafe, style_mark_of, runs_bytes, terminal_text}
@@ -45,8 +45,8 @@ from_runs styles style text (Mark m ∷ s) h =
     ∙ ap (ansi_spelling styles) (style_mark_of-style_after m)))
 
 -- the same where the first run is plain, and has no sequence
-from_plain : (styles : Styles) (text : List ℕ) (s : Stream) → AreSafe (runs_from Kinds.Plain text s)
-    → terminal_text styles (runs_from Kinds.Plain text s) ≡ text ++ spelled (ansi_spelling styles) s
+from_plain : (styles : Styles) (text : List ℕ) (s : Stream) → AreSafe (runs_from run_styles.Plain text s)
+    → terminal_text styles (runs_from run_styles.Plain text s) ≡ text ++ spelled (ansi_spelling styles) s
 from_plain styles text [] h = ap (λ (t : List ℕ). t ++ []) h.0
 from_plain styles text (Byte b ∷ s) h =
     from_plain styles (text ++ b ∷ []) s h

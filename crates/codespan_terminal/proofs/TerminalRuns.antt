@@ -17,9 +17,9 @@ use Rattle.codespan_base.specs.Ansi.{ansi_bold, ansi_color, ansi_reset, ansi_sty
 use Rattle.codespan_base.specs.StyleTables.{header_color_spec, label_color_spec}
 use Rattle.codespan_base.specs.Streams.{StyleMark, Header, HeaderMessage, LineNumber, NoteBullet, SourceBorder, LabelStyleMark, Reset}
 use Rattle.codespan_documents.specs.declared.text.Run.{Run}
-use Rattle.codespan_documents.specs.Runs.{AreTexts, StyledRun, run_characters, run_view}
+use Rattle.codespan_documents.specs.Runs.{AreTexts, RunView, run_characters, run_view}
 use Rattle.codespan_documents.specs.declared.style.Style.{Style}
-use Rattle.codespan_documents.specs.declared.style.Style.TheVariants as Kinds
+use Rattle.codespan_documents.specs.declared.style.Style.TheVariants as run_styles
 use Rattle.codespan_base.specs.StyleTables.{ansi_spelling}
 use Rattle.codespan_terminal.specs.Terminal.{columns, is_safe, style_mark_of, first_sequences, state_after, run_bytes, runs_bytes, safe_characters, safe_text, visible, terminal_text, ShowsSafe, Text, Parameters}
 use Rattle.codespan_terminal.proofs.UnsafeCells.{columns_stay}
@@ -128,22 +128,22 @@ ReadsText-mark styles Reset = ReadsText-reset
 
 ReadsText-first_sequences : (styles : Styles) (style : Style)
     → ReadsText (first_sequences styles style) []
-ReadsText-first_sequences styles Kinds.Plain = ReadsText-nil
-ReadsText-first_sequences styles (Kinds.Header severity) = ReadsText-mark styles (Header severity)
-ReadsText-first_sequences styles Kinds.HeaderMessage = ReadsText-mark styles HeaderMessage
-ReadsText-first_sequences styles Kinds.LineNumber = ReadsText-mark styles LineNumber
-ReadsText-first_sequences styles Kinds.NoteBullet = ReadsText-mark styles NoteBullet
-ReadsText-first_sequences styles Kinds.SourceBorder = ReadsText-mark styles SourceBorder
-ReadsText-first_sequences styles (Kinds.Label severity style) =
+ReadsText-first_sequences styles run_styles.Plain = ReadsText-nil
+ReadsText-first_sequences styles (run_styles.Header severity) = ReadsText-mark styles (Header severity)
+ReadsText-first_sequences styles run_styles.HeaderMessage = ReadsText-mark styles HeaderMessage
+ReadsText-first_sequences styles run_styles.LineNumber = ReadsText-mark styles LineNumber
+ReadsText-first_sequences styles run_styles.NoteBullet = ReadsText-mark styles NoteBullet
+ReadsText-first_sequences styles run_styles.SourceBorder = ReadsText-mark styles SourceBorder
+ReadsText-first_sequences styles (run_styles.Label severity style) =
     ReadsText-mark styles (LabelStyleMark severity style)
 
 -- the safe characters of a run and of those after it
-safe_split : (text : List ℕ) (runs : List StyledRun)
+safe_split : (text : List ℕ) (runs : List RunView)
     → safe_characters (chars text) ++ safe_characters (run_characters runs) ≡ safe_characters
     (chars text ++ run_characters runs)
 safe_split text runs = sym (filter-append is_safe (chars text) (run_characters runs))
 
-ReadsText-runs : (styles : Styles) (runs : List StyledRun) → AreTexts runs
+ReadsText-runs : (styles : Styles) (runs : List RunView) → AreTexts runs
     → ReadsText (runs_bytes styles runs) (safe_characters (run_characters runs))
 ReadsText-runs styles [] texts = ReadsText-nil
 ReadsText-runs styles (run ∷ runs) texts =
@@ -156,7 +156,7 @@ ReadsText-runs styles (run ∷ runs) texts =
     (ReadsText-mark styles (style_mark_of run.style)) (ReadsText-safe run.text texts.0))
     (ReadsText-runs styles runs texts.1))
 
-ReadsText-terminal : (styles : Styles) (runs : List StyledRun) → AreTexts runs
+ReadsText-terminal : (styles : Styles) (runs : List RunView) → AreTexts runs
     → ReadsText (terminal_text styles runs) (safe_characters (run_characters runs))
 ReadsText-terminal styles [] texts = ReadsText-nil
 ReadsText-terminal styles (first ∷ rest) texts =
@@ -169,7 +169,7 @@ ReadsText-terminal styles (first ∷ rest) texts =
     (ReadsText-runs styles rest texts.1))
 
 -- a text for a terminal shows the safe characters of its runs, each in its column
-pub shows_safe : (styles : Styles) (runs : List StyledRun) → AreTexts runs
+pub shows_safe : (styles : Styles) (runs : List RunView) → AreTexts runs
     → ShowsSafe (terminal_text styles runs) runs
 shows_safe styles runs texts =
     let read = (ReadsText-terminal styles runs texts).reads in

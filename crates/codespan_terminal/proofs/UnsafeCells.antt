@@ -10,7 +10,7 @@ use Rattle.ucd_props.specs.Binary.{is_bidi_control}
 use Rattle.ucd_props.specs.Ranges.{bidi_control_ranges}
 use Rattle.unicode_width.specs.Width.{char_width}
 use Rattle.unicode_width.proofs.Computing.{unicode_width}
-use Rattle.codespan_terminal.specs.Terminal.{is_safe, safe_characters, column_after, columns, safe_columns, InColumn}
+use Rattle.codespan_terminal.specs.Terminal.{is_safe, safe_characters, column_after, columns, safe_columns, CharacterInColumn}
 
 -- the cells of a character that is no tab
 abbrev cells_of : ℕ → ℕ
@@ -124,7 +124,7 @@ columns_step : (tab column c : ℕ) (cs : List ℕ) (b : Bool) → is_safe c ≡
     ≡ cond b ((c, column) ∷ safe_columns tab (column_after tab column c) cs)
     (safe_columns tab (column_after tab column c) cs)
 columns_step tab column c cs true h rest =
-    ap (λ (l : List InColumn). (c, column) ∷ l) (rest (column_after tab column c))
+    ap (λ (l : List CharacterInColumn). (c, column) ∷ l) (rest (column_after tab column c))
 columns_step tab column c cs false h rest =
     rest column ∙ ap (λ at. safe_columns tab at cs) (sym (unsafe_column tab column c h))
 

@@ -8,9 +8,9 @@ use Rattle.codespan_base.specs.StyleTables.{ansi_spelling}
 use Rattle.codespan_base.specs.Streams.{StyleMark, Header, HeaderMessage, LineNumber, NoteBullet, SourceBorder, LabelStyleMark, Reset}
 use Rattle.codespan_base.specs.declared.term.config.styles.Styles.{Styles}
 use Rattle.codespan_picture.specs.CharMetrics.{width_at}
-use Rattle.codespan_documents.specs.Runs.{StyledRun, run_characters}
+use Rattle.codespan_documents.specs.Runs.{RunView, run_characters}
 use Rattle.codespan_documents.specs.declared.style.Style.{Style}
-use Rattle.codespan_documents.specs.declared.style.Style.TheVariants as Kinds
+use Rattle.codespan_documents.specs.declared.style.Style.TheVariants as run_styles
 
 -- ---- safe characters
 
@@ -30,29 +30,29 @@ safe_text text = encode_utf8_all (safe_characters (chars text))
 
 -- the style mark that starts a run of this style
 abbrev pub style_mark_of : Style → StyleMark
-style_mark_of Kinds.Plain = Reset
-style_mark_of (Kinds.Header severity) = Header severity
-style_mark_of Kinds.HeaderMessage = HeaderMessage
-style_mark_of Kinds.LineNumber = LineNumber
-style_mark_of Kinds.NoteBullet = NoteBullet
-style_mark_of Kinds.SourceBorder = SourceBorder
-style_mark_of (Kinds.Label severity style) = LabelStyleMark severity style
+style_mark_of run_styles.Plain = Reset
+style_mark_of (run_styles.Header severity) = Header severity
+style_mark_of run_styles.HeaderMessage = HeaderMessage
+style_mark_of run_styles.LineNumber = LineNumber
+style_mark_of run_styles.NoteBullet = NoteBullet
+style_mark_of run_styles.SourceBorder = SourceBorder
+style_mark_of (run_styles.Label severity style) = LabelStyleMark severity style
 
 -- a run: the escape sequences of its style, and its safe text
-abbrev pub run_bytes : Styles → StyledRun → List ℕ
+abbrev pub run_bytes : Styles → RunView → List ℕ
 run_bytes styles run = ansi_spelling styles (style_mark_of run.style) ++ safe_text run.text
 
 -- the runs, one after another
-abbrev pub runs_bytes : Styles → List StyledRun → List ℕ
+abbrev pub runs_bytes : Styles → List RunView → List ℕ
 runs_bytes styles runs = flat_map (run_bytes styles) runs
 
 -- the sequences before the first run: a terminal is in the style of plain text already
 abbrev pub first_sequences : Styles → Style → List ℕ
-first_sequences styles Kinds.Plain = []
+first_sequences styles run_styles.Plain = []
 first_sequences styles style = ansi_spelling styles (style_mark_of style)
 
 -- the text for a terminal
-abbrev pub terminal_text : Styles → List StyledRun → List ℕ
+abbrev pub terminal_text : Styles → List RunView → List ℕ
 terminal_text styles [] = []
 terminal_text styles (first ∷ rest) =
     first_sequences styles first.style ++ safe_text first.text ++ runs_bytes styles rest
@@ -92,26 +92,26 @@ visible state (c ∷ cs) = visible (next_state state c) cs
 -- ---- columns
 
 -- a character, and the column where its cells begin
-abbrev pub InColumn : Type 0
-InColumn = ℕ × ℕ
+abbrev pub CharacterInColumn : Type 0
+CharacterInColumn = ℕ × ℕ
 
 -- the column after a character: a newline ends the row
 abbrev pub column_after : ℕ → ℕ → ℕ → ℕ
 column_after tab column c = if c == 10 then 0 else column + width_at tab column c
 
 -- the characters with their columns, the first one at this column
-abbrev pub columns : ℕ → ℕ → List ℕ → List InColumn
+abbrev pub columns : ℕ → ℕ → List ℕ → List CharacterInColumn
 columns tab column [] = []
 columns tab column (c ∷ cs) = (c, column) ∷ columns tab (column_after tab column c) cs
 
 -- the safe ones of these
-abbrev pub safe_columns : ℕ → ℕ → List ℕ → List InColumn
-safe_columns tab column cs = filter (λ (p : InColumn). is_safe p.0) (columns tab column cs)
+abbrev pub safe_columns : ℕ → ℕ → List ℕ → List CharacterInColumn
+safe_columns tab column cs = filter (λ (p : CharacterInColumn). is_safe p.0) (columns tab column cs)
 
 -- ---- the whole
 
 -- how a terminal shows a text for these runs
-pub record ShowsSafe (text : List ℕ) (runs : List StyledRun) : Type 0 where
+pub record ShowsSafe (text : List ℕ) (runs : List RunView) : Type 0 where
   -- no sequence but those of styles, no other control character but tab and newline, and no
   -- directional control: after any of them a reader would not be in text again
   pub ends_in_text : state_after Text (chars text) ≡ Text
@@ -122,5 +122,5 @@ pub record ShowsSafe (text : List ℕ) (runs : List StyledRun) : Type 0 where
       → columns tab 0 (visible Text (chars text)) ≡ safe_columns tab 0 (run_characters runs)
 
 -- each character of the runs is safe
-abbrev pub AreSafe : List StyledRun → Type 0
-AreSafe runs = AllByRecursion (λ (run : StyledRun). safe_text run.text ≡ run.text) runs
+abbrev pub AreSafe : List RunView → Type 0
+AreSafe runs = AllByRecursion (λ (run : RunView). safe_text run.text ≡ run.text) runs

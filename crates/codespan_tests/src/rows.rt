@@ -15,16 +15,17 @@ use test_writers::counting::CountingWriter;
 use test_writers::stopping::{Stop, StoppingWriter};
 use test_writers::style_marks::set_styles;
 
-/// A lane mark: the lane, 0-based, the style of the label and its part on the line.
+/// A lane mark: the lane, 0-based, the style of the label and what the label does on the
+/// line.
 type LaneMark = (usize, LabelStyle, MultiLabel<'static>);
 
-/// The mark of a label that goes through the line, in the first lane.
+/// The lane mark of a label that goes through the line, in the first lane.
 const FIRST: LaneMark = (0, LabelStyle::Primary, MultiLabel::Left);
 
-/// Such a mark in the second lane.
+/// Such a lane mark in the second lane.
 const SECOND: LaneMark = (1, LabelStyle::Primary, MultiLabel::Left);
 
-/// Such a mark in the third lane.
+/// Such a lane mark in the third lane.
 const THIRD: LaneMark = (2, LabelStyle::Primary, MultiLabel::Left);
 
 /// The number of lanes of a file, some lane marks, and whether these are in order.
@@ -69,7 +70,7 @@ fn endless_padding(rt: HostRuntime) {
 }
 
 /// Writes a style mark of each kind and some text, and then flushes once.
-pub fn write_marks<W: WriteStyle>(rt: &impl Abort, w: &mut W) {
+pub fn write_style_marks<W: WriteStyle>(rt: &impl Abort, w: &mut W) {
     set_styles(w).expect(rt, "the style marks");
     w.write_all(b"text").expect(rt, "the text");
     w.put(b"\n").expect(rt, "the newline");
@@ -77,20 +78,20 @@ pub fn write_marks<W: WriteStyle>(rt: &impl Abort, w: &mut W) {
 }
 
 /// Renders a header, and writes the style marks and the text through the renderer as a writer.
-fn render_header_and_marks<W: WriteStyle>(rt: &impl Abort, w: &mut W) {
+fn render_header_and_style_marks<W: WriteStyle>(rt: &impl Abort, w: &mut W) {
     let config = Config::default();
     let mut renderer = Renderer::new(w, &config);
     renderer
         .render_header(None, Severity::Error, None, "m")
         .expect(rt, "the header");
-    write_marks(rt, &mut renderer);
+    write_style_marks(rt, &mut renderer);
 }
 
 /// Renders a header and the style marks over a writer of colors, and returns that writer.
 fn render_colored<C: WriteColor + Drop>(rt: &impl Abort, colors: C) -> C {
     let styles = Styles::default();
     let mut colored = StylesWriter::new(colors, &styles);
-    render_header_and_marks(rt, &mut colored);
+    render_header_and_style_marks(rt, &mut colored);
     colored.into_inner()
 }
 
@@ -115,14 +116,14 @@ fn first_locus(rt: &impl Abort, alloc: Global) -> Locus {
     }
 }
 
-/// The mark of a line with a lane.
-static MARKS: [LaneMark; 1] = [FIRST];
+/// The lane mark of a line with a lane.
+static LANE_MARKS: [LaneMark; 1] = [FIRST];
 
 /// Renders a line with one lane, after asserting that its lanes are in order, as the call requires.
 fn render_line<W: WriteStyle>(rt: &impl Abort, renderer: &mut Renderer<'_, '_, W>) {
-    assert!(rt; lanes_in_order(1, &MARKS));
+    assert!(rt; lanes_in_order(1, &LANE_MARKS));
     renderer
-        .render_snippet_source(1, 1, "ab", Severity::Error, &[], 1, &MARKS)
+        .render_snippet_source(1, 1, "ab", Severity::Error, &[], 1, &LANE_MARKS)
         .expect(rt, "the line");
 }
 
@@ -157,7 +158,7 @@ fn render_rows<W: WriteStyle>(rt: &impl Abort, w: &mut W, locus: &Locus) {
     render_above(rt, &mut renderer, locus);
     render_line(rt, &mut renderer);
     render_below(rt, &mut renderer);
-    write_marks(rt, &mut renderer);
+    write_style_marks(rt, &mut renderer);
 }
 
 /// A renderer passes on a flush, and no other call flushes.

@@ -2,7 +2,7 @@
 
 use codespan_reporting::files::{Error, SimpleFile};
 use codespan_reporting::term::{Config, emit_to_io_write};
-use examples_library::config::{Setting, Word, lex, parse, word_text};
+use examples_library::config::{Setting, Token, lex, parse, token_text};
 
 /// Settings, with an error of each kind.
 const SETTINGS: &str = "\
@@ -26,9 +26,9 @@ pub fn run(rt: &HostRuntime) -> Result<(), Error> {
     let file = SimpleFile::new(alloc, "server.conf", SETTINGS)?;
     let mut settings = Vec::new(alloc);
     let mut line = Vec::new(alloc);
-    for word in &lex(alloc, SETTINGS)? {
-        if word_text(SETTINGS, *word) != "\n" {
-            line.push(*word)?;
+    for token in &lex(alloc, SETTINGS)? {
+        if token_text(SETTINGS, *token) != "\n" {
+            line.push(*token)?;
             continue;
         }
         read_line(rt, &file, &line, &mut settings)?;
@@ -43,7 +43,7 @@ pub fn run(rt: &HostRuntime) -> Result<(), Error> {
 fn read_line(
     rt: &HostRuntime,
     file: &SimpleFile<&str, &str>,
-    line: &[Word],
+    line: &[Token],
     settings: &mut Vec<Setting>,
 ) -> Result<(), Error> {
     match parse(SETTINGS, settings, line) {

@@ -1,8 +1,8 @@
--- The bytes of a word.
+-- The bytes of a token.
 use Rattle.std.specs.Prelude.{ℕ}
 use Rattle.std.specs.declared.ops.Range.{Range}
-use Rattle.examples_library.specs.declared.config.Word.{Word}
+use Rattle.examples_library.specs.declared.config.Token.{Token}
 
--- the range of a word
-abbrev pub byte_range : Word → Range ℕ
+-- the range of a token
+abbrev pub byte_range : Token → Range ℕ
 byte_range w = record { start = w.start; end = w.end }

@@ -1,4 +1,4 @@
--- the bytes of a word
+-- the bytes of a token
 pub mod Bytes
 -- several outputs, one after another
 pub mod Outputs

@@ -7,7 +7,7 @@ use Rattle.gallery_script.specs.declared.case.Case.{Case}
 use Rattle.gallery_script.specs.declared.case.DatabaseKind.TheVariants.{One, Several, Mapped}
 use Rattle.gallery_script.specs.Cases.{file_view}
 use Rattle.gallery_cases.specs.CaseOutputs.{HoldsOfCase, HoldsOfOnlyFile, HoldsOfAllFiles, Property, mapped_database, several_database, simple_database}
-use Rattle.gallery_script.specs.Database.{BorrowedFile, IsOnlyFile, borrowed_view, with_numbers}
+use Rattle.gallery_script.specs.Database.{BorrowedFile, IsOnlyFile, borrowed_view, with_set_numbers}
 
 -- it holds over all files of a case
 pub over_several : (case : Case) (files : List BorrowedFile) (Holds : Property)
@@ -43,14 +43,14 @@ module _ (case : Case) (name source : List ℕ) (diagnostic : Diagnostic (Unit {
       subst (λ k. HoldsOfCase k case Holds) (sym kind) (over_one_file simple_database holds)
 
   -- it holds over a file whose line numbers are set
-  pub over_mapped : case.database_kind ≡ Mapped → (numbers : List (ℕ × ℕ))
-      → numbers ≡ with_numbers [] case.numbers.items
-      → Holds (Unit {0}) (mapped_database numbers name source) diagnostic
+  pub over_mapped : case.database_kind ≡ Mapped → (set_numbers : List (ℕ × ℕ))
+      → set_numbers ≡ with_set_numbers [] case.set_numbers.items
+      → Holds (Unit {0}) (mapped_database set_numbers name source) diagnostic
       → HoldsOfCase case.database_kind case Holds
-  over_mapped kind numbers set holds =
+  over_mapped kind set_numbers set holds =
       subst (λ k. HoldsOfCase k case Holds) (sym kind)
       (subst (λ ns. HoldsOfOnlyFile (mapped_database ns) case Holds) set
-      (over_one_file (mapped_database numbers) holds))
+      (over_one_file (mapped_database set_numbers) holds))
 
 -- what follows from a fact of what a call returns
 pub ok_follows : {T E : Type 0} {P Q : T → Type 0} (r : Result T E) → ((x : T) → P x → Q x)

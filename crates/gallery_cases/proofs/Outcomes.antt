@@ -8,8 +8,8 @@ use Rattle.gallery_script.specs.declared.errors.GalleryError.TheVariants.{Line, 
 use Rattle.gallery_script.specs.Cases.{AppliesLines}
 use Rattle.gallery_script.specs.Requests.{GalleryRequestView}
 use Rattle.program_io.specs.declared.run_error.RunError.{RunError}
-use Rattle.program_io.specs.declared.run_error.RunError.TheVariants.{WrongArguments, CannotReadInput, NotUtf8, OutOfMemory, CannotWriteOutput, Failed}
-use Rattle.gallery_cases.specs.Requests.{IsResponse, IsResponseOf, GalleryErrorMeans, IsFailureOf}
+use Rattle.program_io.specs.declared.run_error.RunError.TheVariants.{WrongArguments, CannotReadInput, NotUtf8, OutOfMemory, CannotWriteOutput, Program}
+use Rattle.gallery_cases.specs.Requests.{IsResponse, IsResponseOf, IsRunError, IsResponseError}
 
 -- with wrong arguments the output is unchanged
 pub unchanged_at_error : (outcome : Result (Unit {0}) (RunError GalleryError)) {X : Type 0}
@@ -64,17 +64,17 @@ pub failed : (expected : Option GalleryRequestView) (left : Option (List ℕ))
     (request : GalleryRequestView) (text : List ℕ) (cases : List Case)
     (error : RunError GalleryError)
     → expected ≡ Some request → IfSome left (λ input. text ≡ input)
-    → AppliesLines (lines text) [] cases → IsFailureOf request cases error
-    → IfSome left (GalleryErrorMeans expected error)
+    → AppliesLines (lines text) [] cases → IsResponseError request cases error
+    → IfSome left (IsRunError expected error)
 failed expected None request text cases error is_requested read applied_lines fails = tt
-failed expected (Some input) request text cases (Failed (UnknownCase name)) is_requested read
+failed expected (Some input) request text cases (Program (UnknownCase name)) is_requested read
     applied_lines fails = (
       fails.0,
       is_requested
           ∙ ap Some fails.1,
       (cases, subst (λ t. AppliesLines (lines t) [] cases) read applied_lines, fails.2),
     )
-failed expected (Some input) request text cases (Failed (CannotRender error)) is_requested read
+failed expected (Some input) request text cases (Program (CannotRender error)) is_requested read
     applied_lines fails =
     tt
 failed expected (Some input) request text cases OutOfMemory is_requested read applied_lines
@@ -87,7 +87,7 @@ failed expected (Some input) request text cases CannotReadInput is_requested rea
     absurd fails
 failed expected (Some input) request text cases NotUtf8 is_requested read applied_lines fails =
     absurd fails
-failed expected (Some input) request text cases (Failed (Line number line_error)) is_requested read
+failed expected (Some input) request text cases (Program (Line number line_error)) is_requested read
     applied_lines fails =
     absurd fails
 failed expected (Some input) request text cases CannotWriteOutput is_requested read applied_lines

@@ -14,13 +14,13 @@ use Rattle.codespan_picture.specs.Snippets.{LabelInFile}
 use Rattle.codespan_picture.specs.StatedNames.{NamesAreStated}
 use Rattle.codespan_picture.proofs.StatedNames.{output_stated}
 use Rattle.codespan_styled.specs.Outputs.{EmitsRuns}
-use Rattle.codespan_styled.specs.Runs.{StyledRun, runs_of}
+use Rattle.codespan_styled.specs.Runs.{RunView, runs_of}
 use Rattle.gallery_cases.specs.Documents.{AreRunsOver}
 use Rattle.gallery_script.specs.Database.{BorrowedFile}
 
 module _ {Id : Type 0} (config : Config) (files : FileDatabase Id) (d : Diagnostic Id) where
   -- where names are stated, the runs of an output with some loci are those of the output
-  pub stated_runs : {T : Type 0} (runs : T → List StyledRun) (r : Result T Error)
+  pub stated_runs : {T : Type 0} (runs : T → List RunView) (r : Result T Error)
       → EmitsRuns config files d runs r → NamesAreStated files d
       → IfOk r (λ t. AreRunsOver config files d (runs t))
   stated_runs runs (Ok t) emits stated = record {

@@ -11,7 +11,7 @@ use Rattle.gallery_script.specs.declared.case.Case.{Case}
 use Rattle.gallery_script.specs.declared.case.DatabaseKind.{DatabaseKind}
 use Rattle.gallery_script.specs.declared.case.DatabaseKind.TheVariants.{One, Several, Mapped}
 use Rattle.gallery_script.specs.Cases.{file_view}
-use Rattle.gallery_script.specs.Database.{BorrowedFile, borrowed_view, with_numbers, with_unit_ids}
+use Rattle.gallery_script.specs.Database.{BorrowedFile, borrowed_view, with_set_numbers, with_unit_ids}
 
 -- ---- file databases
 
@@ -27,8 +27,9 @@ simple_database name source =
 
 -- a simple file with these set line numbers
 abbrev pub mapped_database : List (ℕ × ℕ) → List ℕ → List ℕ → FileDatabase (Unit {0})
-mapped_database numbers name source =
-    one_file_database (mapped_file (Some name) source numbers) (mapped_failure source numbers)
+mapped_database set_numbers name source =
+    one_file_database (mapped_file (Some name) source set_numbers)
+    (mapped_failure source set_numbers)
 
 -- several files, whose ids are their indices
 abbrev pub several_database : List BorrowedFile → FileDatabase ℕ
@@ -63,7 +64,7 @@ abbrev pub HoldsOfCase : DatabaseKind → Case → Property → Type 0
 HoldsOfCase One case Holds = HoldsOfOnlyFile simple_database case Holds
 HoldsOfCase Several case Holds = HoldsOfAllFiles case Holds
 HoldsOfCase Mapped case Holds =
-    HoldsOfOnlyFile (mapped_database (with_numbers [] case.numbers.items)) case Holds
+    HoldsOfOnlyFile (mapped_database (with_set_numbers [] case.set_numbers.items)) case Holds
 
 -- the text is the output of a case in plain text
 abbrev pub IsOutput : Case → List ℕ → Type 0

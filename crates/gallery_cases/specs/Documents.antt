@@ -8,7 +8,7 @@ use Rattle.codespan_picture.specs.Lookups.{AllSucceed, lookups_in}
 use Rattle.codespan_picture.specs.Picture.{picture}
 use Rattle.codespan_styled.specs.Glyphs.{glyphs_of}
 use Rattle.codespan_styled.specs.Html.{html_element}
-use Rattle.codespan_styled.specs.Runs.{StyledRun, runs_of}
+use Rattle.codespan_styled.specs.Runs.{RunView, runs_of}
 use Rattle.codespan_styled.specs.Svg.{svg_document}
 use Rattle.codespan_styled.specs.Terminal.{terminal_text}
 use Rattle.gallery_script.specs.declared.case.Case.{Case}
@@ -18,25 +18,25 @@ use Rattle.gallery_cases.specs.CaseOutputs.{HoldsOfCase}
 
 -- the runs are those of an output; no lookup fails
 pub record AreRunsOver {Id : Type 0} (config : Config) (files : FileDatabase Id)
-    (d : Diagnostic Id) (runs : List StyledRun) : Type 0 where
+    (d : Diagnostic Id) (runs : List RunView) : Type 0 where
   pub lookups_succeed : AllSucceed files.failure (lookups_in config.display_style config files d)
   pub are : runs ≡ runs_of (picture config.display_style config config files d)
 
 -- the runs are those of the output of a case
-abbrev pub AreRunsOf : Case → List StyledRun → Type 0
+abbrev pub AreRunsOf : Case → List RunView → Type 0
 AreRunsOf case runs =
     HoldsOfCase case.database_kind case (λ Id database diagnostic.
     AreRunsOver case.config database diagnostic runs)
 
 -- a document of runs, in the default styles
-abbrev pub document_of : Format → List StyledRun → List ℕ
+abbrev pub document_of : Format → List RunView → List ℕ
 document_of Svg runs = svg_document (glyphs_of default_styles runs)
 document_of Html runs = html_element runs
 document_of Terminal runs = terminal_text default_styles runs
 
 -- the document shows the output of a case
 pub record IsDocument (format : Format) (case : Case) (document : List ℕ) : Type 0 where
-  pub runs : List StyledRun
+  pub runs : List RunView
   pub are_runs : AreRunsOf case runs
   pub is : document ≡ document_of format runs
 

@@ -4,7 +4,7 @@ use Rattle.std.specs.List.{flat_map}
 use Rattle.codespan_base.specs.declared.files.Error.{Error}
 use Rattle.codespan_base.specs.ErrorText.{error_text}
 use Rattle.gallery_script.specs.declared.case.Case.{Case}
-use Rattle.gallery_script.specs.declared.case.Colors.TheVariants.{Plain, Svg}
+use Rattle.gallery_script.specs.declared.case.ColorChoice.TheVariants.{Plain, Svg}
 use Rattle.gallery_cases.specs.CaseOutputs.{IsOutput}
 use Rattle.gallery_cases.specs.Documents.{IsSvg}
 
@@ -27,9 +27,9 @@ abbrev pub with_escapes : List ℕ → List ℕ
 with_escapes output = flat_map escaped_byte output
 
 -- the line of a case that failed: nothing if it did not, else a line with the error's text
-abbrev pub IsFailureLine : Result (Unit {0}) Error → List ℕ → Type 0
-IsFailureLine (Ok done) error_line = error_line ≡ []
-IsFailureLine (Err error) error_line =
+abbrev pub IsErrorLine : Result (Unit {0}) Error → List ℕ → Type 0
+IsErrorLine (Ok done) error_line = error_line ≡ []
+IsErrorLine (Err error) error_line =
     IfSome (error_text error) (λ text. error_line ≡ codes "failed: " ++ text ++ 10 ∷ [])
 
 -- the section of a case after its heading: the output, escaped, and, if rendering failed, a line
@@ -40,7 +40,7 @@ pub record IsSection (case : Case) (text : List ℕ) : Type 0 where
   pub output : List ℕ
   pub error_line : List ℕ
   pub is : text ≡ with_escapes output ++ error_line
-  pub failure : IsFailureLine rendered error_line
+  pub is_error_line : IsErrorLine rendered error_line
   pub plain : case.colors ≡ Plain → OnOk rendered (IsOutput case output)
   pub document : case.colors ≡ Svg → OnOk rendered (IsSvg case output)
 

@@ -13,7 +13,7 @@ use Rattle.gallery_script.specs.Requests.GalleryRequestView.{All, Styles, Docume
 use Rattle.gallery_cases.specs.Galleries.{IsGallery}
 use Rattle.gallery_cases.specs.Documents.{IsDocument}
 use Rattle.program_io.specs.declared.run_error.RunError.{RunError}
-use Rattle.program_io.specs.declared.run_error.RunError.TheVariants.{Failed, OutOfMemory}
+use Rattle.program_io.specs.declared.run_error.RunError.TheVariants.{Program, OutOfMemory}
 
 -- the bytes are what is requested of cases
 abbrev pub IsResponseOf : GalleryRequestView → List Case → List ℕ → Type 0
@@ -28,21 +28,21 @@ IsResponse request input bytes =
     (cases : List Case) × AppliesLines (lines input) [] cases × IsResponseOf request cases bytes
 
 -- why a request of cases fails: no case has the name, rendering failed, or an allocation failed
-abbrev pub IsFailureOf : GalleryRequestView → List Case → RunError GalleryError → Type 0
-IsFailureOf request cases (Failed (UnknownCase name)) =
+abbrev pub IsResponseError : GalleryRequestView → List Case → RunError GalleryError → Type 0
+IsResponseError request cases (Program (UnknownCase name)) =
     (format : Format) × (request ≡ Document format (string_bytes name))
     × (case_named (string_bytes name) cases ≡ None)
-IsFailureOf request cases (Failed (CannotRender error)) = Unit {0}
-IsFailureOf request cases OutOfMemory = Unit {0}
-IsFailureOf request cases _ = ⊥
+IsResponseError request cases (Program (CannotRender error)) = Unit {0}
+IsResponseError request cases OutOfMemory = Unit {0}
+IsResponseError request cases _ = ⊥
 
 -- what an error says of the input: a line's is the first of the input, and no case has an unknown
 -- name
-abbrev pub GalleryErrorMeans : Option GalleryRequestView → RunError GalleryError → List ℕ → Type 0
-GalleryErrorMeans request (Failed (Line number line_error)) input =
-    IsFirstLineError (lines input) (Failed (Line number line_error))
-GalleryErrorMeans request (Failed (UnknownCase name)) input =
+abbrev pub IsRunError : Option GalleryRequestView → RunError GalleryError → List ℕ → Type 0
+IsRunError request (Program (Line number line_error)) input =
+    IsFirstLineError (lines input) (Program (Line number line_error))
+IsRunError request (Program (UnknownCase name)) input =
     (format : Format) × (request ≡ Some (Document format (string_bytes name)))
     × ((cases : List Case) × AppliesLines (lines input) [] cases
     × (case_named (string_bytes name) cases ≡ None))
-GalleryErrorMeans request _ input = Unit {0}
+IsRunError request _ input = Unit {0}

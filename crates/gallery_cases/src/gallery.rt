@@ -1,15 +1,15 @@
 //! The output of every case, each under its name.
 
 ghost use Rattle.std.specs.Prelude.{◌≡◌, ℕ, List, ◌++◌, IfOk, OnOk};
-ghost use Rattle.gallery_script.specs.declared.case.Colors.TheVariants.{Plain, Svg};
+ghost use Rattle.gallery_script.specs.declared.case.ColorChoice.TheVariants.{Plain, Svg};
 ghost use Rattle.gallery_cases.specs.CaseOutputs.{AppendsOutput};
 ghost use Rattle.gallery_cases.specs.Documents.{AppendsSvg};
-ghost use Rattle.gallery_cases.specs.Galleries.{heading, with_escapes, IsSection, IsGallery, IsFailureLine};
+ghost use Rattle.gallery_cases.specs.Galleries.{heading, with_escapes, IsSection, IsGallery, IsErrorLine};
 
 use crate::document::document;
 use crate::rendering::render;
 use codespan_base::files::Error;
-use gallery_script::case::{Case, Colors};
+use gallery_script::case::{Case, ColorChoice};
 use gallery_script::request::Format;
 use std::alloc::{AllocError, Global};
 
@@ -47,7 +47,7 @@ fn add_output(alloc: Global, gallery: &mut Vec<u8>, case: &Case<'_>) -> Result<(
     let mut output = Vec::new(alloc);
     let rendered = render_as_stated(alloc, case, &mut output);
     add_with_escapes(gallery, output.as_slice())?;
-    add_failure(alloc, gallery, rendered)
+    add_error_line(alloc, gallery, rendered)
 }
 
 /// Renders a case as it states: as text, or as an SVG document.
@@ -62,8 +62,8 @@ fn render_as_stated(alloc: Global, case: &Case<'_>, output: &mut Vec<u8>) -> Res
         → OnOk result (AppendsSvg case.now output.old.items output.new.items) }
 {
     match case.colors {
-        Colors::Plain | Colors::Ansi => render(alloc, case, output),
-        Colors::Svg => {
+        ColorChoice::Plain | ColorChoice::Ansi => render(alloc, case, output),
+        ColorChoice::Svg => {
             let document = document(alloc, case, Format::Svg)?;
             output.extend_from_slice(document.as_bytes())?;
             Ok(())
@@ -72,14 +72,14 @@ fn render_as_stated(alloc: Global, case: &Case<'_>, output: &mut Vec<u8>) -> Res
 }
 
 /// Appends a line with the error, if rendering a case failed.
-fn add_failure(
+fn add_error_line(
     alloc: Global,
     gallery: &mut Vec<u8>,
     rendered: Result<(), Error>,
 ) -> Result<(), AllocError>
     ensures { OnOk result ((error_line : List ℕ)
         × (gallery.new.items ≡ gallery.old.items ++ error_line)
-        × IsFailureLine rendered error_line) }
+        × IsErrorLine rendered error_line) }
 {
     match rendered {
         Ok(()) => Ok(()),

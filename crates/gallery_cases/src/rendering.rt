@@ -1,7 +1,7 @@
 //! The output of a case, by the calls of the library.
 
 ghost use Rattle.std.specs.Prelude.{◌≡◌, IfOk, OnOk};
-ghost use Rattle.gallery_script.specs.declared.case.Colors.TheVariants.{Plain};
+ghost use Rattle.gallery_script.specs.declared.case.ColorChoice.TheVariants.{Plain};
 ghost use Rattle.codespan_views.specs.Output.{IsAppended};
 ghost use Rattle.codespan_picture.specs.StatedNames.{NamesAreStated};
 ghost use Rattle.codespan_styled.specs.Runs.{styled_runs};
@@ -13,7 +13,7 @@ use codespan_base::files::{Error, Files};
 use codespan_base::term::{Ansi, Styles, StylesWriter, WriteColor};
 use codespan_styled::{StyledText, styled_text};
 use codespan_views::emitting::{emit_into_string, emit_to_write_style};
-use gallery_script::case::{Case, Colors};
+use gallery_script::case::{Case, ColorChoice};
 use gallery_script::database::{Database, database_of};
 use std::alloc::Global;
 
@@ -45,7 +45,7 @@ fn render_over<'files, F: Files<'files>>(
         → OnOk result (IsAppended case.now.config (F.database files.now) diagnostic.now
         output.old.items output.new.items) }
 {
-    if case.colors == Colors::Plain {
+    if case.colors == ColorChoice::Plain {
         let text = emit_into_string(&case.config, files, diagnostic)?;
         output.extend_from_slice(text.as_bytes())?;
         Ok(())

@@ -7,7 +7,7 @@ use Rattle.std.specs.Option.{option_map}
 use Rattle.std.proofs.lemmas.Bool.Decides.{nat_tests}
 use Rattle.std.proofs.lemmas.Str.{char_from_byte}
 use Rattle.std.proofs.lemmas.Str.Pattern.{IsSplitOnceResult, split_after, split_parts}
-use Rattle.gallery_script.specs.Escapes.{IsPlain, IsBraced, IsHexCharacter, ParsesUnicodeEscape, ParsesEscape, Unescapes, letter_character, with_prefix}
+use Rattle.gallery_script.specs.Escapes.{LacksBackslash, IsBraced, IsHexCharacter, ParsesUnicodeEscape, ParsesEscape, Unescapes, letter_character, with_prefix}
 use Rattle.gallery_script.specs.Escapes.Unescapes.{whole, broken, escaped}
 
 -- ---- letters
@@ -146,7 +146,7 @@ one_more text unescaped new rest left c x before split read is outcome h =
 pub all_unescaped : (text unescaped rest new : List ℕ) → ContinuesUnescaped text unescaped rest
     → IsSplitOnceResult 92 rest None → new ≡ unescaped ++ rest → Unescapes text (Some new)
 all_unescaped text unescaped rest new before split is =
-    let plain : IsPlain rest = split_parts 92 rest None split (omega arith) in
+    let plain : LacksBackslash rest = split_parts 92 rest None split (omega arith) in
     subst (λ bytes. Unescapes text (Some bytes)) (sym is) (before (Some rest) (whole rest plain))
 
 -- a backslash that does not begin an escape

@@ -8,7 +8,7 @@ use Rattle.gallery_script.specs.declared.case.Case.{Case}
 use Rattle.gallery_script.specs.declared.errors.GalleryError.TheVariants.{Line}
 use Rattle.gallery_script.specs.declared.errors.LineError.{LineError}
 use Rattle.gallery_script.specs.Cases.{AppliesLine, AppliesLines, IsLineError, IsFirstLineError}
-use Rattle.program_io.specs.declared.run_error.RunError.TheVariants.{Failed}
+use Rattle.program_io.specs.declared.run_error.RunError.TheVariants.{Program}
 
 -- the cases after one more line
 pub AppliesLines-more : (lines : List (List ℕ)) (line : List ℕ) (before between after : List Case)
@@ -45,7 +45,7 @@ module _ (lines : List (Bor (List ℕ))) (i : ℕ) (d : Bor (List ℕ)) where
   pub first_line_error : (between : List Case) (line_error : LineError) → i < length lines
       → AppliesLines (texts (take i lines)) [] between
       → IsLineError (get_or lines i d).now between line_error
-      → IsFirstLineError (texts lines) (Failed (Line (i + 1) line_error))
+      → IsFirstLineError (texts lines) (Program (Line (i + 1) line_error))
   first_line_error between line_error inside applied_lines wrong =
       let line_at : slice_get (texts lines) i ≡ Some (get_or lines i d).now =
       slice_get-map (λ (line : Bor (List ℕ)). line.now) lines i

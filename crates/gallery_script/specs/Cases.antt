@@ -6,7 +6,7 @@ use Rattle.codespan_base.specs.Defaults.{default_config}
 use Rattle.codespan_base.specs.Diagnostics.{diagnostic_view}
 use Rattle.codespan_base.specs.ConfigEquality.{IsEqualChars, IsEqualConfig}
 use Rattle.gallery_script.specs.declared.case.Case.{Case}
-use Rattle.gallery_script.specs.declared.case.Colors.TheVariants.{Plain}
+use Rattle.gallery_script.specs.declared.case.ColorChoice.TheVariants.{Plain}
 use Rattle.gallery_script.specs.declared.case.File.{File}
 use Rattle.gallery_script.specs.declared.case.DatabaseKind.TheVariants.{Several}
 use Rattle.gallery_script.specs.declared.errors.GalleryError.{GalleryError}
@@ -14,7 +14,7 @@ use Rattle.gallery_script.specs.declared.errors.GalleryError.TheVariants as gall
 use Rattle.gallery_script.specs.declared.errors.LineError.{LineError}
 use Rattle.gallery_script.specs.declared.errors.LineError.TheVariants.{NoCase, NoFile, OutOfMemory}
 use Rattle.gallery_script.specs.declared.statement.Line.{Line}
-use Rattle.gallery_script.specs.declared.statement.Line.TheVariants.{Ignored, NewCase, Description}
+use Rattle.gallery_script.specs.declared.statement.Line.TheVariants.{Ignored, NewCase, OfLastCase}
 use Rattle.gallery_script.specs.declared.statement.Statement.{Statement}
 use Rattle.gallery_script.specs.declared.statement.Statement.TheVariants as statements
 use Rattle.gallery_script.specs.Statements.{ParsesTo, IsWrongLine}
@@ -33,7 +33,7 @@ pub record IsNew (name : List ℕ) (case : Case) : Type 0 where
   pub named : case.name.now ≡ name
   pub database_kind : case.database_kind ≡ Several
   pub files : case.files.items ≡ []
-  pub numbers : case.numbers.items ≡ []
+  pub set_numbers : case.set_numbers.items ≡ []
   pub config : IsEqualConfig default_config case.config
   pub colors : case.colors ≡ Plain
   pub diagnostic : diagnostic_view case.diagnostic
@@ -59,8 +59,9 @@ Applies (statements.Source text) old new =
     × ContinuesSource (string_bytes text) (map file_view old.files.items)
     (map file_view new.files.items)
 Applies (statements.Number line number) old new =
-    (new ≡ record old { numbers = new.numbers })
-    × (new.numbers.items ≡ old.numbers.items ++ record { line = line; number = number } ∷ [])
+    (new ≡ record old { set_numbers = new.set_numbers })
+    × (new.set_numbers.items
+    ≡ old.set_numbers.items ++ record { line = line; number = number } ∷ [])
 Applies (statements.Style style) old new =
     new ≡ record old { config = record old.config { display_style = style } }
 Applies (statements.Layout layout) old new =
@@ -118,7 +119,7 @@ pub record AddsCase (name : List ℕ) (before after : List Case) : Type 0 where
 abbrev pub AppliesParsedLine : Line → List Case → List Case → Type 0
 AppliesParsedLine Ignored before after = after ≡ before
 AppliesParsedLine (NewCase name) before after = AddsCase name.now before after
-AppliesParsedLine (Description statement) before after = AppliesToLast statement before after
+AppliesParsedLine (OfLastCase statement) before after = AppliesToLast statement before after
 
 -- the cases after a line are those before it, with the line applied
 pub record AppliesLine (line : List ℕ) (before after : List Case) : Type 0 where
@@ -147,13 +148,13 @@ abbrev pub IsLineError : List ℕ → List Case → LineError → Type 0
 IsLineError line before line_error =
     (line_error ≡ OutOfMemory)
     ⊎ (IsWrongLine line line_error
-    ⊎ ((statement : Statement) × ParsesTo line (Description statement)
+    ⊎ ((statement : Statement) × ParsesTo line (OfLastCase statement)
     × FailsAtLast statement before line_error))
 
 -- the error has the number, from 1, of the first line that is wrong, and what is wrong with it; or
 -- an allocation failed
 abbrev pub IsFirstLineError : List (List ℕ) → RunError GalleryError → Type 0
-IsFirstLineError lines (run_errors.Failed (gallery_errors.Line number line_error)) =
+IsFirstLineError lines (run_errors.Program (gallery_errors.Line number line_error)) =
     (k : ℕ) × (line : List ℕ) × (before : List Case) × (number ≡ k + 1)
     × (slice_get lines k ≡ Some line) × AppliesLines (take k lines) [] before
     × IsLineError line before line_error

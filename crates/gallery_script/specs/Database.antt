@@ -31,10 +31,10 @@ with_unit_ids diagnostic =
     }
 
 -- the line numbers that are set after those of a list are set too, one after another
-abbrev pub with_numbers : List (ℕ × ℕ) → List SetNumber → List (ℕ × ℕ)
-with_numbers settings [] = settings
-with_numbers settings (setting ∷ more) =
-    with_numbers (with_set_number setting.line setting.number settings) more
+abbrev pub with_set_numbers : List (ℕ × ℕ) → List SetNumber → List (ℕ × ℕ)
+with_set_numbers set_numbers [] = set_numbers
+with_set_numbers set_numbers (set_number ∷ more) =
+    with_set_numbers (with_set_number set_number.line set_number.number set_numbers) more
 
 -- a borrowed name and source
 abbrev pub BorrowedFile : Type 0
@@ -62,4 +62,4 @@ IsDatabaseOf case (Several files) =
 IsDatabaseOf case (Mapped file diagnostic) =
     (case.database_kind ≡ kinds.Mapped) × IsOnlyFile case (mapped_name_of file).now
     (mapped_source_of file).now diagnostic
-    × (set_numbers_of file ≡ with_numbers [] case.numbers.items)
+    × (set_numbers_of file ≡ with_set_numbers [] case.set_numbers.items)

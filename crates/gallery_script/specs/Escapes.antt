@@ -43,8 +43,8 @@ ParsesEscape (letter ∷ left) parsed =
     × (letter ≢ 117 → parsed ≡ option_map (λ c. (c, left)) (letter_character letter))
 
 -- the text has no backslash
-abbrev pub IsPlain : List ℕ → Type 0
-IsPlain text = Lacks 92 text
+abbrev pub LacksBackslash : List ℕ → Type 0
+LacksBackslash text = Lacks 92 text
 
 -- an unescaped text, with these bytes before it
 abbrev pub with_prefix : List ℕ → Option (List ℕ) → Option (List ℕ)
@@ -52,9 +52,9 @@ with_prefix prefix unescaped = option_map (λ bytes. prefix ++ bytes) unescaped
 
 -- the text that an escaped text stands for; none if a backslash does not begin an escape
 pub data Unescapes : List ℕ → Option (List ℕ) → Type 0 where
-  whole : (text : List ℕ) → IsPlain text → Unescapes text (Some text)
-  broken : (plain escape : List ℕ) → IsPlain plain → ParsesEscape escape None
+  whole : (text : List ℕ) → LacksBackslash text → Unescapes text (Some text)
+  broken : (plain escape : List ℕ) → LacksBackslash plain → ParsesEscape escape None
       → Unescapes (plain ++ 92 ∷ escape) None
-  escaped : (plain escape left : List ℕ) (c : ℕ) (unescaped : Option (List ℕ)) → IsPlain plain
-      → ParsesEscape escape (Some (c, left)) → Unescapes left unescaped
+  escaped : (plain escape left : List ℕ) (c : ℕ) (unescaped : Option (List ℕ))
+      → LacksBackslash plain → ParsesEscape escape (Some (c, left)) → Unescapes left unescaped
       → Unescapes (plain ++ 92 ∷ escape) (with_prefix (plain ++ encode_utf8 c) unescaped)

@@ -3,7 +3,7 @@ pub mod Numbers
 pub mod Words
 -- texts with escapes
 pub mod Escapes
--- what a line describes, and what it does to the cases before it
+-- what a line states, and what it does to the cases before it
 pub mod Statements
 pub mod Cases
 -- the file database of a case

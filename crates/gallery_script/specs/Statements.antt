@@ -1,4 +1,4 @@
--- What a line describes.
+-- What a line states.
 use Rattle.std.specs.Prelude.{◌≡◌, ◌≢◌, ◌⊎◌, ℕ, true, false, List, Option, Some, None, IsSomeAnd, codes, string_bytes}
 use Rattle.codespan_base.specs.declared.diagnostic.Label.{Label}
 use Rattle.codespan_base.specs.declared.diagnostic.LabelStyle.{LabelStyle}
@@ -7,7 +7,7 @@ use Rattle.gallery_script.specs.declared.errors.LineError.{LineError}
 use Rattle.gallery_script.specs.declared.errors.LineError.TheVariants.{UnknownWord, UnknownName, BadNumber, BadEscape, NoCase, NoFile, OutOfMemory}
 use Rattle.gallery_script.specs.declared.statement.ContextLines as context_lines
 use Rattle.gallery_script.specs.declared.statement.Line.{Line}
-use Rattle.gallery_script.specs.declared.statement.Line.TheVariants.{Ignored, NewCase, Description}
+use Rattle.gallery_script.specs.declared.statement.Line.TheVariants.{Ignored, NewCase, OfLastCase}
 use Rattle.gallery_script.specs.declared.statement.Statement.{Statement}
 use Rattle.gallery_script.specs.declared.statement.Statement.TheVariants as statements
 use Rattle.gallery_script.specs.declared.words.Word.{Word}
@@ -19,7 +19,7 @@ use Rattle.gallery_script.specs.Numbers.{IsNumber, IsBadNumber}
 use Rattle.gallery_script.specs.Words.{characters_named, colors_named, database_kind_named}
 use Rattle.gallery_script.specs.Words.{layout_named, case_word_named}
 
--- ---- what a line describes
+-- ---- what a line states
 
 -- what follows the second space of a text, or nothing
 abbrev pub past_two_spaces : List ℕ → List ℕ
@@ -53,36 +53,36 @@ pub record IsLabel (rest : List ℕ) (label : Label ℕ) : Type 0 where
   pub end : IsNumber (field_of (past_two_spaces rest)) label.range.end
   pub message : UnescapesTo (past_three_spaces rest) (string_bytes label.message)
 
--- what a line describes, by its word and its rest
-abbrev pub Describes : Option Word → List ℕ → Statement → Type 0
-Describes word rest (statements.Database kind) =
+-- what a line states, by its word and its rest
+abbrev pub States : Option Word → List ℕ → Statement → Type 0
+States word rest (statements.Database kind) =
     (word ≡ Some Database) × (database_kind_named rest ≡ Some kind)
-Describes word rest (statements.File name) =
+States word rest (statements.File name) =
     (word ≡ Some File) × UnescapesTo rest (string_bytes name)
-Describes word rest (statements.Source text) =
+States word rest (statements.Source text) =
     (word ≡ Some Source) × UnescapesTo rest (string_bytes text)
-Describes word rest (statements.Number line number) =
+States word rest (statements.Number line number) =
     (word ≡ Some Number) × IsNumber (field_of rest) line × IsNumber (past_space rest) number
-Describes word rest (statements.Style style) =
+States word rest (statements.Style style) =
     (word ≡ Some Style) × (display_style_named rest ≡ Some style)
-Describes word rest (statements.Layout layout) =
+States word rest (statements.Layout layout) =
     (word ≡ Some Layout) × (layout_named rest ≡ Some layout)
-Describes word rest (statements.Tab width) = (word ≡ Some Tab) × IsNumber rest width
-Describes word rest (statements.Context context) =
+States word rest (statements.Tab width) = (word ≡ Some Tab) × IsNumber rest width
+States word rest (statements.Context context) =
     (word ≡ Some Context) × AreContextLines rest context
-Describes word rest (statements.Characters set) =
+States word rest (statements.Characters set) =
     (word ≡ Some Characters) × (characters_named rest ≡ Some set)
-Describes word rest (statements.Colors colors) =
+States word rest (statements.Colors colors) =
     (word ≡ Some Colors) × (colors_named rest ≡ Some colors)
-Describes word rest (statements.Severity severity) =
+States word rest (statements.Severity severity) =
     (word ≡ Some Severity) × (severity_named rest ≡ Some severity)
-Describes word rest (statements.Code code) =
+States word rest (statements.Code code) =
     (word ≡ Some Code) × UnescapesTo rest (string_bytes code)
-Describes word rest (statements.Message message) =
+States word rest (statements.Message message) =
     (word ≡ Some Message) × UnescapesTo rest (string_bytes message)
-Describes word rest (statements.Label label) =
+States word rest (statements.Label label) =
     (word ≡ Some (label_style_word label.style)) × IsLabel rest label
-Describes word rest (statements.Note note) =
+States word rest (statements.Note note) =
     (word ≡ Some Note) × UnescapesTo rest (string_bytes note)
 
 -- what a line is: ignored, the first of a case of this name, or a statement of the last case
@@ -90,9 +90,9 @@ abbrev pub ParsesTo : List ℕ → Line → Type 0
 ParsesTo line Ignored = is_ignored_text line ≡ true
 ParsesTo line (NewCase name) =
     (is_ignored_text line ≡ false) × (field_of line ≡ codes "case") × (name.now ≡ past_space line)
-ParsesTo line (Description statement) =
+ParsesTo line (OfLastCase statement) =
     (is_ignored_text line ≡ false)
-    × Describes (case_word_named (field_of line)) (past_space line) statement
+    × States (case_word_named (field_of line)) (past_space line) statement
 
 -- ---- what is wrong with a line
 

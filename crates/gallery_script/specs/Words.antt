@@ -7,8 +7,8 @@ use Rattle.codespan_base.specs.declared.term.config.chars.Chars.{Chars}
 use Rattle.codespan_base.specs.Characters.{box_drawing, ascii}
 use Rattle.gallery_script.specs.declared.case.DatabaseKind.{DatabaseKind}
 use Rattle.gallery_script.specs.declared.case.DatabaseKind.TheVariants.{One, Several, Mapped}
-use Rattle.gallery_script.specs.declared.case.Colors as colors
-use Rattle.gallery_script.specs.declared.case.Colors.TheVariants.{Plain, Ansi, Svg}
+use Rattle.gallery_script.specs.declared.case.ColorChoice as colors
+use Rattle.gallery_script.specs.declared.case.ColorChoice.TheVariants.{Plain, Ansi, Svg}
 use Rattle.gallery_script.specs.declared.case.CharacterSet.{CharacterSet}
 use Rattle.gallery_script.specs.declared.case.CharacterSet.TheVariants as sets
 use Rattle.gallery_script.specs.declared.words.Word.{Word}
@@ -58,7 +58,7 @@ characters_named text =
     else None
 
 -- the way to write colors with this name
-unfoldable pub colors_named : List ℕ → Option colors.Colors
+unfoldable pub colors_named : List ℕ → Option colors.ColorChoice
 colors_named text =
     if bytes_eq text (codes "none") then Some Plain
     else if bytes_eq text (codes "ansi") then Some Ansi

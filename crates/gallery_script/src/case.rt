@@ -46,7 +46,7 @@ impl CharacterSet {
 
 /// Whether an output has colors, and how these are written.
 #[derive(Clone, Copy, PartialEq, Eq)]
-pub enum Colors {
+pub enum ColorChoice {
     /// Plain text, without colors.
     Plain,
     /// Colors as ANSI escape sequences.
@@ -83,11 +83,11 @@ pub struct Case<'input> {
     /// The files in their order.
     pub files: Vec<File>,
     /// The set line numbers. Only a `MappedFile` uses them.
-    pub numbers: Vec<SetNumber>,
+    pub set_numbers: Vec<SetNumber>,
     /// The configuration.
     pub config: Config<'input>,
     /// Whether the output has colors, and how these are written.
-    pub colors: Colors,
+    pub colors: ColorChoice,
     /// The diagnostic.
     pub diagnostic: Diagnostic<usize>,
 }
@@ -102,9 +102,9 @@ impl<'input> Case<'input> {
             name,
             database_kind: DatabaseKind::Several,
             files: Vec::new(alloc),
-            numbers: Vec::new(alloc),
+            set_numbers: Vec::new(alloc),
             config: Config::default(),
-            colors: Colors::Plain,
+            colors: ColorChoice::Plain,
             diagnostic: Diagnostic::error(alloc),
         }
     }
@@ -125,7 +125,9 @@ impl<'input> Case<'input> {
             Statement::Database(kind) => self.database_kind = kind,
             Statement::File(name) => self.add_file(name)?,
             Statement::Source(text) => self.continue_source(text.as_str())?,
-            Statement::Number { line, number } => self.numbers.push(SetNumber { line, number })?,
+            Statement::Number { line, number } => self
+                .set_numbers
+                .push(SetNumber { line, number })?,
             Statement::Style(style) => self.config.display_style = style,
             Statement::Layout(layout) => self.config.layout = layout,
             Statement::Tab(width) => self.config.tab_width = width,

@@ -2,7 +2,7 @@
 //!
 //! The input is a text of lines. A line begins with a word, which ends at the first space; its rest
 //! is what follows that space. Lines that are empty or begin with `#` are ignored. A line
-//! `case NAME` begins a case, and the lines after it describe it ([`Statement`] lists their words);
+//! `case NAME` begins a case, and the lines after it state it ([`Statement`] lists their words);
 //! texts in these are escaped ([`unescape`] lists the escapes).
 //!
 //! [`Statement`]: crate::statement::Statement
@@ -23,8 +23,8 @@ use std::alloc::Global;
 ///
 /// # Errors
 ///
-/// - `Failed` with [`GalleryError::Line`]: the number, from 1, of the first line that has an error,
-///   and that error, or a failed allocation for the line.
+/// - `Program` with [`GalleryError::Line`]: the number, from 1, of the first line that has an
+///   error, and that error, or a failed allocation for the line.
 /// - `OutOfMemory`: an allocation for the list of lines fails.
 pub fn parse_cases(alloc: Global, input: &str) -> Result<Vec<Case<'_>>, RunError<GalleryError>>
     ensures cases { IfOk result (λ cases. AppliesLines (lines input.now) [] cases.items) }
@@ -47,13 +47,13 @@ fn apply_lines<'input>(
     for (index, line) in lines.iter().enumerate() {
         if let Err(error) = apply_line(alloc, &mut cases, line) {
             let number = index + 1;
-            return Err(RunError::Failed(GalleryError::Line { number, error }));
+            return Err(RunError::Program(GalleryError::Line { number, error }));
         }
     }
     Ok(cases)
 }
 
-/// Applies a line: it begins a case, describes the last one, or is ignored.
+/// Applies a line: it begins a case, states something of the last one, or is ignored.
 fn apply_line<'input>(
     alloc: Global,
     cases: &mut Vec<Case<'input>>,
@@ -65,7 +65,7 @@ fn apply_line<'input>(
     match parse_line(alloc, line)? {
         Line::Ignored => {}
         Line::NewCase(name) => cases.push(Case::new(alloc, name))?,
-        Line::Description(statement) => apply_to_last(cases, statement)?,
+        Line::OfLastCase(statement) => apply_to_last(cases, statement)?,
     }
     Ok(())
 }

@@ -5,7 +5,7 @@ ghost use Rattle.codespan_base.specs.Diagnostics.{diagnostic_view, label_view};
 ghost use Rattle.codespan_base.specs.MappedFileViews.{mapped_name_of, mapped_source_of, set_numbers_of};
 ghost use Rattle.codespan_base.specs.SimpleFilesViews.{entries};
 ghost use Rattle.gallery_script.specs.Cases.{file_view};
-ghost use Rattle.gallery_script.specs.Database.{IsDatabaseOf, with_unit_ids, label_with_unit_id, borrowed_view, with_numbers};
+ghost use Rattle.gallery_script.specs.Database.{IsDatabaseOf, with_unit_ids, label_with_unit_id, borrowed_view, with_set_numbers};
 
 use crate::case::{Case, DatabaseKind, File, SetNumber};
 use codespan_base::diagnostic::{Diagnostic, Label};
@@ -46,7 +46,7 @@ pub fn database_of<'case>(alloc: Global, case: &'case Case<'_>) -> Result<Databa
         }
         DatabaseKind::Mapped => {
             let file = only_file(case.files.as_slice())?;
-            let files = mapped_file(alloc, file, case.numbers.as_slice())?;
+            let files = mapped_file(alloc, file, case.set_numbers.as_slice())?;
             Ok(Database::Mapped(files, with_unit_ids(alloc, &case.diagnostic)?))
         }
     }
@@ -78,14 +78,15 @@ fn several_files(alloc: Global, files: &[File]) -> Result<SimpleFiles<&str, &str
 fn mapped_file<'case>(
     alloc: Global,
     file: &'case File,
-    numbers: &[SetNumber],
+    set_numbers: &[SetNumber],
 ) -> Result<MappedFile<&'case str, &'case str>, Error>
     ensures file { IfOk result (λ mapped.
         ((mapped_name_of mapped).now, (mapped_source_of mapped).now) ≡ file_view file.now) }
-    ensures numbers { IfOk result (λ mapped. set_numbers_of mapped ≡ with_numbers [] numbers.now) }
+    ensures set_numbers { IfOk result (λ mapped.
+        set_numbers_of mapped ≡ with_set_numbers [] set_numbers.now) }
 {
     let mut mapped = MappedFile::new(alloc, file.name.as_str(), file.source.as_str())?;
-    for SetNumber { line, number } in numbers {
+    for SetNumber { line, number } in set_numbers {
         mapped.set_line(*line, *number)?;
     }
     Ok(mapped)

@@ -19,7 +19,7 @@ pub enum LineError {
     BadNumber,
     /// A backslash in its text does not begin an escape.
     BadEscape,
-    /// The line describes a case, and no case precedes it.
+    /// The line states something of a case, and no case precedes it.
     NoCase,
     /// The line continues a source, and its case has no file yet.
     NoFile,

@@ -1,4 +1,5 @@
-//! What `gallery` is requested to render: its arguments, and the cases of its input.
+//! What `gallery` is requested to render: its arguments, and the cases of its input. A case is a
+//! diagnostic, its files and a configuration, stated by lines of a text.
 //!
 //! [`cases`] documents the input.
 #![tactic(auto)]

@@ -2,11 +2,11 @@
 
 ghost use Rattle.std.specs.Prelude.{◌≡◌, Some, IfOk, IfErr};
 ghost use Rattle.std.specs.Option.{ok_or};
-ghost use Rattle.gallery_script.specs.Statements.{ParsesTo, Describes, IsWrong, IsWrongLine, label_style_word};
+ghost use Rattle.gallery_script.specs.Statements.{ParsesTo, States, IsWrong, IsWrongLine, label_style_word};
 ghost use Rattle.gallery_script.specs.declared.errors.LineError.TheVariants.{UnknownName};
 ghost use Rattle.gallery_script.specs.declared.words.Word.TheVariants as words;
 
-use crate::case::{CharacterSet, Colors, DatabaseKind};
+use crate::case::{CharacterSet, ColorChoice, DatabaseKind};
 use crate::errors::LineError;
 use crate::escape::unescape;
 use crate::numbers::{parse_number, split_number};
@@ -26,11 +26,11 @@ pub enum Line<'input> {
     Ignored,
     /// `case NAME`: the beginning of a case with this name.
     NewCase(&'input str),
-    /// A line that describes the last case.
-    Description(Statement),
+    /// A line that states something of the last case.
+    OfLastCase(Statement),
 }
 
-/// A part of the description of a case.
+/// What a line states of a case.
 #[derive(Drop)]
 pub enum Statement {
     /// `database KIND`: the kind of its file database.
@@ -58,7 +58,7 @@ pub enum Statement {
     /// `characters NAME`: the characters of borders, carets and lanes.
     Characters(CharacterSet),
     /// `colors NAME`: whether the output has colors, and how these are written.
-    Colors(Colors),
+    Colors(ColorChoice),
     /// `severity NAME`: the severity.
     Severity(Severity),
     /// `code TEXT`: the code.
@@ -105,19 +105,19 @@ pub fn parse_line<'input>(alloc: Global, line: &'input str) -> Result<Line<'inpu
         return Ok(Line::NewCase(rest));
     }
     let word = parse_word(word).ok_or(LineError::UnknownWord)?;
-    Ok(Line::Description(parse_statement(alloc, word, rest)?))
+    Ok(Line::OfLastCase(parse_statement(alloc, word, rest)?))
 }
 
 /// Parses the rest of a line that begins with the word.
 fn parse_statement(alloc: Global, word: Word, rest: &str) -> Result<Statement, LineError>
-    ensures parsed { IfOk result (Describes (Some word) rest.now) }
+    ensures parsed { IfOk result (States (Some word) rest.now) }
     ensures wrong { IfErr result (IsWrong (Some word) rest.now) }
 {
     match word {
         Word::Database => Ok(Statement::Database(or_unknown_name(parse_database_kind(rest))?)),
         Word::File => Ok(Statement::File(unescape(alloc, rest)?)),
         Word::Source => Ok(Statement::Source(unescape(alloc, rest)?)),
-        Word::Number => parse_line_number(rest),
+        Word::Number => parse_set_number(rest),
         Word::Style => Ok(Statement::Style(or_unknown_name(parse_display_style(rest))?)),
         Word::Layout => Ok(Statement::Layout(or_unknown_name(parse_layout(rest))?)),
         Word::Tab => Ok(Statement::Tab(parse_number(rest)?)),
@@ -141,8 +141,8 @@ fn or_unknown_name<T: Drop>(named: Option<T>) -> Result<T, LineError>
 }
 
 /// Parses the rest of a `number` line.
-fn parse_line_number(rest: &str) -> Result<Statement, LineError>
-    ensures parsed { IfOk result (Describes (Some words.Number) rest.now) }
+fn parse_set_number(rest: &str) -> Result<Statement, LineError>
+    ensures parsed { IfOk result (States (Some words.Number) rest.now) }
     ensures wrong { IfErr result (IsWrong (Some words.Number) rest.now) }
 {
     let (line, left) = split_number(rest)?;
@@ -152,7 +152,7 @@ fn parse_line_number(rest: &str) -> Result<Statement, LineError>
 
 /// Parses the rest of a `context` line.
 fn parse_context(rest: &str) -> Result<Statement, LineError>
-    ensures parsed { IfOk result (Describes (Some words.Context) rest.now) }
+    ensures parsed { IfOk result (States (Some words.Context) rest.now) }
     ensures wrong { IfErr result (IsWrong (Some words.Context) rest.now) }
 {
     let (start, left) = split_number(rest)?;
@@ -168,7 +168,7 @@ fn parse_context(rest: &str) -> Result<Statement, LineError>
 
 /// Parses the rest of a line of a label in this style.
 fn parse_label(alloc: Global, style: LabelStyle, rest: &str) -> Result<Statement, LineError>
-    ensures parsed { IfOk result (Describes (Some (label_style_word style)) rest.now) }
+    ensures parsed { IfOk result (States (Some (label_style_word style)) rest.now) }
     ensures wrong { IfErr result (IsWrong (Some (label_style_word style)) rest.now) }
 {
     let (file_id, left) = split_number(rest)?;

@@ -4,10 +4,10 @@ ghost use Rattle.std.specs.Prelude.{◌≡◌};
 ghost use Rattle.gallery_script.specs.Words.{characters_named, colors_named, database_kind_named};
 ghost use Rattle.gallery_script.specs.Words.{layout_named, case_word_named};
 
-use crate::case::{CharacterSet, Colors, DatabaseKind};
+use crate::case::{CharacterSet, ColorChoice, DatabaseKind};
 use codespan_base::term::Layout;
 
-/// The first word of a line that describes a case.
+/// The first word of a line that states something of a case.
 #[derive(Clone, Copy)]
 pub enum Word {
     /// The kind of the file database.
@@ -109,13 +109,13 @@ pub fn parse_characters(text: &str) -> Option<CharacterSet>
 
 /// Parses the name of a way to write colors. Returns `None` for any other text.
 #[tactic(auto, unfolding(crate::specs::Words::colors_named))]
-pub fn parse_colors(text: &str) -> Option<Colors>
+pub fn parse_colors(text: &str) -> Option<ColorChoice>
     ensures { result ≡ colors_named text.now }
 {
     match text {
-        "none" => Some(Colors::Plain),
-        "ansi" => Some(Colors::Ansi),
-        "svg" => Some(Colors::Svg),
+        "none" => Some(ColorChoice::Plain),
+        "ansi" => Some(ColorChoice::Ansi),
+        "svg" => Some(ColorChoice::Svg),
         _ => None,
     }
 }

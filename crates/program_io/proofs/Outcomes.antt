@@ -1,7 +1,7 @@
 -- For the clauses of the runs of programs: what a status says of an outcome.
 use Rattle.std.proofs.Common.{◌≡◌, ◌≢◌, ◌≤◌, ◌⊎◌, inl, inr, ℕ, Result, Ok, Err, IsErrOf, OnOk, refl, subst, arith}
 use Rattle.program_io.specs.declared.run_error.RunError.{RunError}
-use Rattle.program_io.specs.declared.run_error.RunError.TheVariants.{WrongArguments, CannotReadInput, NotUtf8, OutOfMemory, CannotWriteOutput, Failed}
+use Rattle.program_io.specs.declared.run_error.RunError.TheVariants.{WrongArguments, CannotReadInput, NotUtf8, OutOfMemory, CannotWriteOutput, Program}
 use Rattle.program_io.specs.RunErrors.{IsStatusOf}
 
 -- the status is one of three
@@ -13,7 +13,7 @@ status_at_most (Err CannotReadInput) status is = omega arith
 status_at_most (Err NotUtf8) status is = omega arith
 status_at_most (Err OutOfMemory) status is = omega arith
 status_at_most (Err CannotWriteOutput) status is = omega arith
-status_at_most (Err (Failed error)) status is = omega arith
+status_at_most (Err (Program error)) status is = omega arith
 
 -- the status 2 is that of wrong arguments
 pub wrong_by_status : {E : Type 0} (outcome : Result (Unit {0}) (RunError E)) (status : ℕ)
@@ -24,7 +24,7 @@ wrong_by_status (Err CannotReadInput) status is two = absurd (omega arith)
 wrong_by_status (Err NotUtf8) status is two = absurd (omega arith)
 wrong_by_status (Err OutOfMemory) status is two = absurd (omega arith)
 wrong_by_status (Err CannotWriteOutput) status is two = absurd (omega arith)
-wrong_by_status (Err (Failed error)) status is two = absurd (omega arith)
+wrong_by_status (Err (Program error)) status is two = absurd (omega arith)
 
 -- wrong arguments have the status 2
 pub status_of_wrong : {E : Type 0} (outcome : Result (Unit {0}) (RunError E)) (status : ℕ)
@@ -41,7 +41,7 @@ status_of_error CannotReadInput status is right = is
 status_of_error NotUtf8 status is right = is
 status_of_error OutOfMemory status is right = is
 status_of_error CannotWriteOutput status is right = is
-status_of_error (Failed error) status is right = is
+status_of_error (Program error) status is right = is
 
 -- the status 0 is that of success
 pub success_by_status : {E X : Type 0} (outcome : Result (Unit {0}) (RunError E)) (status : ℕ)
@@ -52,7 +52,7 @@ success_by_status (Err CannotReadInput) status is zero contents = absurd (omega 
 success_by_status (Err NotUtf8) status is zero contents = absurd (omega arith)
 success_by_status (Err OutOfMemory) status is zero contents = absurd (omega arith)
 success_by_status (Err CannotWriteOutput) status is zero contents = absurd (omega arith)
-success_by_status (Err (Failed error)) status is zero contents = absurd (omega arith)
+success_by_status (Err (Program error)) status is zero contents = absurd (omega arith)
 
 -- an error is that of a failed output, or another one
 pub failed_output_or_other : {E : Type 0} (error : RunError E)
@@ -62,4 +62,4 @@ failed_output_or_other CannotReadInput = inr (λ output. cc output)
 failed_output_or_other NotUtf8 = inr (λ output. cc output)
 failed_output_or_other OutOfMemory = inr (λ output. cc output)
 failed_output_or_other CannotWriteOutput = inl refl
-failed_output_or_other (Failed error) = inr (λ output. cc output)
+failed_output_or_other (Program error) = inr (λ output. cc output)

@@ -5,7 +5,7 @@ use Rattle.program_io.specs.declared.arguments.ArgumentsError.TheVariants as arg
 use Rattle.program_io.specs.declared.input.InputError.{InputError}
 use Rattle.program_io.specs.declared.input.InputError.TheVariants as input
 use Rattle.program_io.specs.declared.run_error.RunError.{RunError}
-use Rattle.program_io.specs.declared.run_error.RunError.TheVariants.{WrongArguments, CannotReadInput, NotUtf8, OutOfMemory, CannotWriteOutput, Failed}
+use Rattle.program_io.specs.declared.run_error.RunError.TheVariants.{WrongArguments, CannotReadInput, NotUtf8, OutOfMemory, CannotWriteOutput, Program}
 
 -- the status of an outcome: 0 without an error, 2 for wrong arguments, 1 for any other error
 abbrev pub IsStatusOf : {E : Type 0} → Result (Unit {0}) (RunError E) → ℕ → Type 0
@@ -23,7 +23,7 @@ displayed_error program usage own NotUtf8 = Some (program ++ codes ": input is n
 displayed_error program usage own OutOfMemory = Some (program ++ codes ": out of memory")
 displayed_error program usage own CannotWriteOutput =
     Some (program ++ codes ": cannot write output")
-displayed_error program usage own (Failed error) = own error
+displayed_error program usage own (Program error) = own error
 
 -- the line of a failed output, with its newline
 abbrev pub failed_output_line : List ℕ → List ℕ

@@ -22,16 +22,16 @@ pub enum InputError {
 ///
 /// - `Unreadable`: a read fails, or an allocation for what is read.
 /// - `NotUtf8`: the input is not UTF-8.
-pub fn read_text<R: Read>(alloc: Global, input: &mut R) -> Result<String, InputError>
+pub fn read_text<R: Read>(alloc: Global, reader: &mut R) -> Result<String, InputError>
     ensures bytes { IfOk result (λ text.
-        IfSome (R.remaining input.old) (λ bytes. string_bytes text ≡ bytes)) }
+        IfSome (R.remaining reader.old) (λ bytes. string_bytes text ≡ bytes)) }
     ensures text { IfOk result (λ text. IsUtf8 (string_bytes text)) }
-    ensures end { OnOk result (IsAtEnd (R.remaining input.new)) }
+    ensures end { OnOk result (IsAtEnd (R.remaining reader.new)) }
     ensures not_utf8 { IsErrOf result InputError.NotUtf8
-        → IfSome (R.remaining input.old) (λ bytes. ¬ (IsUtf8 bytes)) }
+        → IfSome (R.remaining reader.old) (λ bytes. ¬ (IsUtf8 bytes)) }
 {
     let mut bytes = Vec::new(alloc);
-    if input.read_to_end(&mut bytes).is_err() {
+    if reader.read_to_end(&mut bytes).is_err() {
         return Err(InputError::Unreadable);
     }
     match String::from_utf8(bytes) {

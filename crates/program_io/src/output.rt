@@ -13,13 +13,13 @@ use std::io::{ErrorKind, Write};
 ///
 /// Those of [`write_all`], and that of the flush. A prefix of the bytes, or all of them, has then
 /// been written.
-pub fn write_and_flush<W: Write>(output: &mut W, bytes: &[u8]) -> io::Result<()>
-    ensures written { OnOk result (Appends (W.contents output.old)
-        (W.contents output.new) bytes.now) }
-    ensures prefix { AppendsPrefix (W.contents output.old) (W.contents output.new) bytes.now }
+pub fn write_and_flush<W: Write>(writer: &mut W, bytes: &[u8]) -> io::Result<()>
+    ensures written { OnOk result (Appends (W.contents writer.old)
+        (W.contents writer.new) bytes.now) }
+    ensures prefix { AppendsPrefix (W.contents writer.old) (W.contents writer.new) bytes.now }
 {
-    write_all(output, bytes)?;
-    output.flush()
+    write_all(writer, bytes)?;
+    writer.flush()
 }
 
 /// Writes all the bytes. An interrupted write is tried again.

@@ -29,7 +29,7 @@ pub enum RunError<E> {
     /// Writing or flushing the output failed.
     CannotWriteOutput,
     /// An error that only this program has.
-    Failed(E),
+    Program(E),
 }
 
 /// An error that only one program has. Its type also has the name and the usage of that program,
@@ -57,41 +57,41 @@ impl<E: ProgramError> RunError<E> {
     ///
     /// An [`io::Error`] if a write fails. Of the line of a failed output a prefix has then been
     /// written; what has been written of another error is unspecified.
-    pub fn write_line<W: Write>(&self, error_output: &mut W) -> io::Result<()>
+    pub fn write_line<W: Write>(&self, stderr: &mut W) -> io::Result<()>
         ensures written { OnOk result
             (IfSome (with_newline (displayed_error E.program_name E.usage_line E.output self.now))
-            (Appends (W.contents error_output.old) (W.contents error_output.new))) }
+            (Appends (W.contents stderr.old) (W.contents stderr.new))) }
         ensures prefix { self.now ≡ run_errors.CannotWriteOutput
-            → AppendsPrefix (W.contents error_output.old) (W.contents error_output.new)
+            → AppendsPrefix (W.contents stderr.old) (W.contents stderr.new)
             (failed_output_line E.program_name) }
     {
         match self {
             // The contract of `writeln!` leaves open what a failed one has written.
             RunError::CannotWriteOutput => {
-                write_all(error_output, E::program().as_bytes())?;
-                write_all(error_output, b": cannot write output\n")
+                write_all(stderr, E::program().as_bytes())?;
+                write_all(stderr, b": cannot write output\n")
             }
-            _ => writeln!(error_output, "{self}"),
+            _ => writeln!(stderr, "{self}"),
         }
     }
 }
 
 /// Writes the error, if there is one, in one line, and returns the program's status: 0 without an
-/// error, 2 for wrong arguments, 1 for any other. A failure of `error_output` is ignored.
+/// error, 2 for wrong arguments, 1 for any other. A failure of `stderr` is ignored.
 pub fn conclude<E: ProgramError + Drop, W: Write>(
     outcome: Result<(), RunError<E>>,
-    error_output: &mut W,
+    stderr: &mut W,
 ) -> u8
     ensures status { IsStatusOf outcome result }
-    ensures no_error { OnOk outcome (error_output.new ≡ error_output.old) }
+    ensures no_error { OnOk outcome (stderr.new ≡ stderr.old) }
     ensures prefix { IsErrOf outcome RunError.CannotWriteOutput
-        → AppendsPrefix (W.contents error_output.old) (W.contents error_output.new)
+        → AppendsPrefix (W.contents stderr.old) (W.contents stderr.new)
         (failed_output_line E.program_name) }
 {
     match outcome {
         Ok(()) => 0,
         Err(error) => {
-            let _ = error.write_line(error_output);
+            let _ = error.write_line(stderr);
             match error {
                 RunError::WrongArguments => 2,
                 _ => 1,
@@ -106,13 +106,13 @@ pub fn conclude<E: ProgramError + Drop, W: Write>(
 ///
 /// `CannotWriteOutput` if a write or the flush fails. A prefix of the bytes, or all of them, has
 /// then been written.
-pub fn write_output<E, W: Write>(output: &mut W, bytes: &[u8]) -> Result<(), RunError<E>>
-    ensures written { OnOk result (Appends (W.contents output.old)
-        (W.contents output.new) bytes.now) }
-    ensures prefix { AppendsPrefix (W.contents output.old) (W.contents output.new) bytes.now }
+pub fn write_output<E, W: Write>(stdout: &mut W, bytes: &[u8]) -> Result<(), RunError<E>>
+    ensures written { OnOk result (Appends (W.contents stdout.old)
+        (W.contents stdout.new) bytes.now) }
+    ensures prefix { AppendsPrefix (W.contents stdout.old) (W.contents stdout.new) bytes.now }
     ensures failed { IfErr result (λ error. error ≡ RunError.CannotWriteOutput) }
 {
-    match write_and_flush(output, bytes) {
+    match write_and_flush(stdout, bytes) {
         Ok(()) => Ok(()),
         Err(_) => Err(RunError::CannotWriteOutput),
     }
@@ -155,7 +155,7 @@ impl<E> From<AllocError> for RunError<E> {
     }
 }
 
-/// Writes the error's line, without its newline; for [`RunError::Failed`], what the `Display` of
+/// Writes the error's line, without its newline; for [`RunError::Program`], what the `Display` of
 /// the program's own error writes.
 impl<E: ProgramError> fmt::Display for RunError<E> {
     ghost output = { displayed_error E.program_name E.usage_line E.output };
@@ -168,7 +168,7 @@ impl<E: ProgramError> fmt::Display for RunError<E> {
             RunError::NotUtf8 => write!(f, "{program}: input is not UTF-8"),
             RunError::OutOfMemory => write!(f, "{program}: out of memory"),
             RunError::CannotWriteOutput => write!(f, "{program}: cannot write output"),
-            RunError::Failed(error) => write!(f, "{error}"),
+            RunError::Program(error) => write!(f, "{error}"),
         }
     }
 }

@@ -2,14 +2,14 @@
 use Rattle.std.proofs.Common.{◌≤◌, IfErr, OnOk, Result, ap, ◌≡◌, ◌≢◌, ◌⊎◌, inl, inr, ℕ, List, Option, Some, None, Ok, Err, IfSome, IsErrOf, subst, arith, codes, string_bytes}
 use Rattle.std.specs.Str.{IsUtf8}
 use Rattle.program_io.specs.declared.run_error.RunError.{RunError}
-use Rattle.program_io.specs.declared.run_error.RunError.TheVariants.{WrongArguments, CannotWriteOutput, Failed}
+use Rattle.program_io.specs.declared.run_error.RunError.TheVariants.{WrongArguments, CannotWriteOutput, Program}
 use Rattle.program_io.specs.Output.{AppendsPrefix}
 use Rattle.program_io.specs.RunErrors.{failed_output_line}
 use Rattle.program_io.proofs.Outcomes as general
 use Rattle.report.specs.declared.report_error.ReportError.{ReportError}
 use Rattle.report.specs.declared.report_error.ReportError.TheVariants.{BadScript}
 use Rattle.report.specs.RenderedTexts.{rendering_of}
-use Rattle.report.specs.ReportErrors.{ReportErrorMeans, IfBadScript, IsReportStatusOf, UnchangedUnlessRendered}
+use Rattle.report.specs.ReportErrors.{IsRunError, IfBadScript, IsReportStatusOf, UnchangedUnlessRendered}
 use Rattle.report_script.specs.Requests.{RequestView, WhereKnown, request_of}
 
 -- the outcome of a run
@@ -77,7 +77,7 @@ is_unchanged (Some x) (Some y) X Y contents = inl contents
 pub unchanged_at_not_utf8 : (args : List (List ℕ)) (bytes : Option (List ℕ)) (X : Type 0)
     (outcome : Outcome)
     → OnOk outcome (WhereKnown args bytes (λ _ input. IsUtf8 input))
-    → IfErr outcome (λ error. WhereKnown args bytes (ReportErrorMeans error))
+    → IfErr outcome (λ error. WhereKnown args bytes (IsRunError error))
     → IfErr outcome (λ error. error ≢ CannotWriteOutput → X)
     → WhereKnown args bytes (λ _ input. ¬ (IsUtf8 input) → X)
 unchanged_at_not_utf8 args bytes X (Ok done) utf8 reported unchanged =
@@ -85,11 +85,11 @@ unchanged_at_not_utf8 args bytes X (Ok done) utf8 reported unchanged =
     (λ _ input. ¬ (IsUtf8 input) → X)
     (λ request input is other. absurd (other is)) utf8
 unchanged_at_not_utf8 args bytes X (Err error) utf8 reported unchanged =
-    known_weaker (request_of args) bytes (ReportErrorMeans error)
+    known_weaker (request_of args) bytes (IsRunError error)
     (λ _ input. ¬ (IsUtf8 input) → X)
     (λ request input are_known other. unchanged
-    (λ output. let wrote : ReportErrorMeans CannotWriteOutput request input =
-    subst (λ (f : RunError ReportError). ReportErrorMeans f request input) output
+    (λ output. let wrote : IsRunError CannotWriteOutput request input =
+    subst (λ (f : RunError ReportError). IsRunError f request input) output
     are_known in other wrote.0))
     reported
 
@@ -97,7 +97,7 @@ unchanged_at_not_utf8 args bytes X (Err error) utf8 reported unchanged =
 pub reported_at_bad_script : (args : List (List ℕ)) (bytes : Option (List ℕ)) (outcome : Outcome)
     (status : ℕ) (Reported : List ℕ → Type 0)
     → IsReportStatusOf outcome status → status ≡ 3
-    → IfErr outcome (λ error. WhereKnown args bytes (ReportErrorMeans error))
+    → IfErr outcome (λ error. WhereKnown args bytes (IsRunError error))
     → IfErr outcome (λ error. IfBadScript error (λ text. Reported (string_bytes text)))
     → WhereKnown args bytes
     (λ request input. (text : List ℕ) × (rendering_of request input ≡ Err text) × Reported text)
@@ -107,13 +107,13 @@ reported_at_bad_script args bytes outcome status Reported is three are_known rep
   | inr bad ↦
       let text = bad.1.0 in
       let means = subst
-      (λ (r : Outcome). IfErr r (λ error. WhereKnown args bytes (ReportErrorMeans error)))
+      (λ (r : Outcome). IfErr r (λ error. WhereKnown args bytes (IsRunError error)))
       bad.1.1 are_known in
       let received = subst
       (λ (r : Outcome). IfErr r
       (λ error. IfBadScript error (λ text. Reported (string_bytes text))))
       bad.1.1 reported in
-      known_weaker (request_of args) bytes (ReportErrorMeans (Failed (BadScript text)))
+      known_weaker (request_of args) bytes (IsRunError (Program (BadScript text)))
       (λ request input. (p : List ℕ) × (rendering_of request input ≡ Err p) × Reported p)
       (λ request input same. (string_bytes text, same, received)) means
 ]
@@ -126,12 +126,12 @@ not_both rendering good bad is other = cc (is, other)
 -- the status and the output of a run with an error, where the script has one
 bad_script_error : (error : RunError ReportError) (status : ℕ) (X : Type 0) (request : RequestView)
     (input text : List ℕ)
-    → IsReportStatusOf (Err error) status → ReportErrorMeans error request input
+    → IsReportStatusOf (Err error) status → IsRunError error request input
     → (error ≢ CannotWriteOutput → X) → rendering_of request input ≡ Err text
     → ((status ≡ 3) ⊎ (status ≡ 1)) × X
 bad_script_error error status X request input text is are_known unchanged bad =
     let means = λ (other : RunError ReportError) (same : error ≡ other). subst
-    (λ (f : RunError ReportError). ReportErrorMeans f request input) same are_known in
+    (λ (f : RunError ReportError). IsRunError f request input) same are_known in
     elim (general.failed_output_or_other error) [
       | inl output ↦ (let wrote =
           means CannotWriteOutput output in absurd
@@ -149,7 +149,7 @@ pub bad_script_status : (args : List (List ℕ)) (bytes : Option (List ℕ)) (ou
     → OnOk outcome
     (WhereKnown args bytes
     (λ request input. (text : List ℕ) × (rendering_of request input ≡ Ok text) × Wrote text))
-    → IfErr outcome (λ error. WhereKnown args bytes (ReportErrorMeans error))
+    → IfErr outcome (λ error. WhereKnown args bytes (IsRunError error))
     → IfErr outcome (λ error. error ≢ CannotWriteOutput → X)
     → WhereKnown args bytes
     (λ request input. (text : List ℕ) → rendering_of request input
@@ -163,7 +163,7 @@ bad_script_status args bytes (Ok done) status X Wrote is rendered are_known unch
     (not_both (rendering_of request input) good.0 text good.1 bad))
     rendered
 bad_script_status args bytes (Err error) status X Wrote is rendered are_known unchanged =
-    known_weaker (request_of args) bytes (ReportErrorMeans error)
+    known_weaker (request_of args) bytes (IsRunError error)
     (λ request input. (text : List ℕ) → rendering_of request input
     ≡ Err text → ((status ≡ 3) ⊎ (status ≡ 1)) × X)
     (λ request input reported text bad. bad_script_error error status X request input text is

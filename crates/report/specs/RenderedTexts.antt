@@ -54,6 +54,6 @@ rendering_of (OfScript style name) input =
     rendering_of_script style name input (parsed_script input)
 
 -- the error of rendering: it failed, or the script has the error of this diagnostic
-abbrev pub IsRenderFailure : Result (List ℕ) (List ℕ) → ReportError → Type 0
-IsRenderFailure rendering (report_errors.CannotRender error) = Unit {0}
-IsRenderFailure rendering (report_errors.BadScript text) = rendering ≡ Err (string_bytes text)
+abbrev pub IsRenderError : Result (List ℕ) (List ℕ) → ReportError → Type 0
+IsRenderError rendering (report_errors.CannotRender error) = Unit {0}
+IsRenderError rendering (report_errors.BadScript text) = rendering ≡ Err (string_bytes text)

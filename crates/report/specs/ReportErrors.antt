@@ -8,17 +8,17 @@ use Rattle.codespan_core.specs.ErrorText.{error_text}
 use Rattle.program_io.specs.Output.{AppendsPrefix}
 use Rattle.program_io.specs.RunErrors.{IsStatusOf, failed_output_line}
 use Rattle.program_io.specs.declared.run_error.RunError.{RunError}
-use Rattle.program_io.specs.declared.run_error.RunError.TheVariants.{WrongArguments, CannotReadInput, NotUtf8, OutOfMemory, CannotWriteOutput, Failed}
+use Rattle.program_io.specs.declared.run_error.RunError.TheVariants.{WrongArguments, CannotReadInput, NotUtf8, OutOfMemory, CannotWriteOutput, Program}
 use Rattle.report.specs.declared.report_error.ReportError.{ReportError}
 use Rattle.report.specs.declared.report_error.ReportError.TheVariants.{CannotRender, BadScript}
-use Rattle.report.specs.RenderedTexts.{IsRenderFailure, rendering_of}
+use Rattle.report.specs.RenderedTexts.{IsRenderError, rendering_of}
 use Rattle.report_script.specs.Requests.{RequestView}
 
 -- the program's status: that of any program, or 3 for a script's error
 abbrev pub IsReportStatusOf : Result (Unit {0}) (RunError ReportError) → ℕ → Type 0
 IsReportStatusOf outcome status =
     IsStatusOf outcome status
-    ⊎ ((status ≡ 3) × ((text : String Global) × (outcome ≡ Err (Failed (BadScript text)))))
+    ⊎ ((status ≡ 3) × ((text : String Global) × (outcome ≡ Err (Program (BadScript text)))))
 
 -- what the `Display` of an error that only `report` has writes: a line without its newline, or the
 -- rendered diagnostic of a script's error
@@ -28,22 +28,22 @@ displayed_report_error (CannotRender error) =
 displayed_report_error (BadScript text) = Some (string_bytes text)
 
 -- what an error says of the request and of the input
-abbrev pub ReportErrorMeans : RunError ReportError → RequestView → List ℕ → Type 0
-ReportErrorMeans WrongArguments request input = ⊥
-ReportErrorMeans CannotReadInput request input = Unit {0}
-ReportErrorMeans NotUtf8 request input = ¬ (IsUtf8 input)
-ReportErrorMeans OutOfMemory request input = Unit {0}
-ReportErrorMeans CannotWriteOutput request input =
+abbrev pub IsRunError : RunError ReportError → RequestView → List ℕ → Type 0
+IsRunError WrongArguments request input = ⊥
+IsRunError CannotReadInput request input = Unit {0}
+IsRunError NotUtf8 request input = ¬ (IsUtf8 input)
+IsRunError OutOfMemory request input = Unit {0}
+IsRunError CannotWriteOutput request input =
     IsUtf8 input × ((text : List ℕ) × (rendering_of request input ≡ Ok text))
-ReportErrorMeans (Failed error) request input = IsRenderFailure (rendering_of request input) error
+IsRunError (Program error) request input = IsRenderError (rendering_of request input) error
 
 -- the fact holds of the diagnostic, where the error is that of a script
 abbrev pub IfBadScript : RunError ReportError → (String Global → Type 0) → Type 0
-IfBadScript (Failed (BadScript text)) P = P text
+IfBadScript (Program (BadScript text)) P = P text
 IfBadScript _ P = Unit {0}
 
 -- the output is unchanged, or all of it was rendered: the status is 0, or it is 1 and what
--- `error_output` has received is a prefix of the line of a failed output
+-- `stderr` has received is a prefix of the line of a failed output
 abbrev pub UnchangedUnlessRendered : Type 0 → ℕ → Option (List ℕ) → Option (List ℕ) → Type 0
 UnchangedUnlessRendered is_unchanged status old new =
     is_unchanged ⊎ ((status ≡ 0)

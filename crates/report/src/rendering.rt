@@ -3,7 +3,7 @@
 ghost use Rattle.std.specs.Prelude.{◌≡◌, IfOk, IfErr, Ok, string_bytes};
 ghost use Rattle.codespan_core.specs.ConfigEquality.{IsEqualConfig};
 ghost use Rattle.codespan_core.specs.Diagnostics.{diagnostic_view};
-ghost use Rattle.report.specs.RenderedTexts.{report_config, rendering_of, rendering_of_script, output_text, IsRenderFailure};
+ghost use Rattle.report.specs.RenderedTexts.{report_config, rendering_of, rendering_of_script, output_text, IsRenderError};
 ghost use Rattle.report_script.specs.Requests.{request_view};
 ghost use Rattle.report_script.specs.Scripts.{parsed_script};
 
@@ -30,7 +30,7 @@ pub fn render(alloc: Global, request: &Request<'_>, input: &str) -> Result<Strin
     ensures text { IfOk result (λ text. rendering_of (request_view request.now) input.now
         ≡ Ok (string_bytes text)) }
     ensures failed { IfErr result
-        (IsRenderFailure (rendering_of (request_view request.now) input.now)) }
+        (IsRenderError (rendering_of (request_view request.now) input.now)) }
 {
     match request {
         Request::OneLabel(label_request) => render_label_request(alloc, label_request, input),
@@ -47,7 +47,7 @@ fn render_label_request(
     ensures text { IfOk result (λ text.
         rendering_of (request_view (Request.OneLabel label_request.now)) input.now
         ≡ Ok (string_bytes text)) }
-    ensures failed { IfErr result (IsRenderFailure
+    ensures failed { IfErr result (IsRenderError
         (rendering_of (request_view (Request.OneLabel label_request.now)) input.now)) }
 {
     let diagnostic = diagnostic_of_label_request(alloc, label_request)?;
@@ -70,7 +70,7 @@ fn render_script(
     ensures text { IfOk result (λ text.
         rendering_of_script style name.now input.now (parsed_script input.now)
         ≡ Ok (string_bytes text)) }
-    ensures failed { IfErr result (IsRenderFailure
+    ensures failed { IfErr result (IsRenderError
         (rendering_of_script style name.now input.now (parsed_script input.now))) }
 {
     match parse_script(alloc, input) {

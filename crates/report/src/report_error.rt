@@ -1,7 +1,7 @@
 //! The errors that only `report` has.
 
 ghost use Rattle.std.specs.Prelude.{◌≡◌, codes};
-ghost use Rattle.program_io.specs.declared.run_error.RunError.TheVariants.{Failed};
+ghost use Rattle.program_io.specs.declared.run_error.RunError.TheVariants.{Program};
 ghost use Rattle.report.specs.declared.report_error.ReportError.TheVariants.{CannotRender};
 
 use codespan_core::files::Error;
@@ -40,12 +40,12 @@ impl From<Error> for ReportError {
     }
 }
 
-/// Converts an error that only `report` has to `Failed`.
+/// Converts an error that only `report` has to `Program`.
 impl From<ReportError> for RunError<ReportError> {
-    ghost from_gives = { λ report_error run_error. run_error ≡ Failed report_error };
+    ghost from_gives = { λ report_error run_error. run_error ≡ Program report_error };
 
     fn from(report_error: ReportError) -> RunError<ReportError> {
-        RunError::Failed(report_error)
+        RunError::Program(report_error)
     }
 }
 

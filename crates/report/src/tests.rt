@@ -25,15 +25,15 @@ const USAGE: &str = "usage: report STYLE NAME START END MESSAGE\n";
 /// The line that is written where the input is not UTF-8.
 const NOT_UTF8: &str = "report: input is not UTF-8\n";
 
-/// An input that counts its reads, and fails one of them.
+/// A reader that counts its reads, and fails one of them.
 #[derive(Drop)]
-struct Input<'a> {
+struct FailingReader<'a> {
     left: &'a [u8],
     reads: usize,
     failed_read: Option<usize>,
 }
 
-impl Read for Input<'_> {
+impl Read for FailingReader<'_> {
     fn read(&mut self, buf: &mut [u8]) -> io::Result<usize> {
         let read = self.reads;
         self.reads = read.saturating_add(1);
@@ -44,9 +44,9 @@ impl Read for Input<'_> {
     }
 }
 
-/// An output that takes four bytes at a write, and fails one write, or each flush.
+/// A writer that takes four bytes at a write, and fails one write, or each flush.
 #[derive(Drop)]
-pub struct Output {
+pub struct FailingWriter {
     /// The bytes that it has taken.
     pub accepted: Vec<u8>,
     writes: usize,
@@ -54,10 +54,10 @@ pub struct Output {
     fails_flush: bool,
 }
 
-impl Output {
-    /// Returns an output that fails this write, or each flush.
+impl FailingWriter {
+    /// Returns a writer that fails this write, or each flush.
     fn new(alloc: Global, failed_write: Option<usize>, fails_flush: bool) -> Self {
-        Output {
+        FailingWriter {
             accepted: Vec::new(alloc),
             writes: 0,
             failed_write,
@@ -74,7 +74,7 @@ impl Output {
     }
 }
 
-impl Write for Output {
+impl Write for FailingWriter {
     fn write(&mut self, buf: &[u8]) -> io::Result<usize> {
         let write = self.writes;
         self.writes = write.saturating_add(1);
@@ -97,11 +97,11 @@ impl Write for Output {
 pub struct Failing {
     /// The read of this number, from 0.
     pub read: Option<usize>,
-    /// The write of this number to the output, from 0.
+    /// The write of this number to standard output, from 0.
     pub write: Option<usize>,
-    /// Each flush of the output.
+    /// Each flush of standard output.
     pub flush: bool,
-    /// The write of this number to the error output, from 0.
+    /// The write of this number to standard error, from 0.
     pub error_write: Option<usize>,
 }
 
@@ -110,25 +110,25 @@ pub struct Failing {
 pub struct Outcome {
     /// The status that the run returned.
     pub status: u8,
-    /// The output after the run.
-    pub output: Output,
-    /// The error output after the run.
-    pub error_output: Output,
+    /// The standard output after the run.
+    pub stdout: FailingWriter,
+    /// The standard error after the run.
+    pub stderr: FailingWriter,
     /// How often the input was read.
     pub reads: usize,
 }
 
 impl Outcome {
-    /// Returns the texts of both outputs, and the status.
+    /// Returns what both writers have taken, and the status.
     pub fn seen(&self) -> (&str, &str, u8) {
-        (self.output.text(), self.error_output.text(), self.status)
+        (self.stdout.text(), self.stderr.text(), self.status)
     }
 
-    /// Returns whether the run returned this status, wrote nothing to the output, and to the error
-    /// output a prefix of a text, of this number of bytes.
+    /// Returns whether the run returned this status, wrote nothing to standard output, and to
+    /// standard error a prefix of a text, of this number of bytes.
     pub fn ended_after(&self, error_text: &str, error_bytes: usize, status: u8) -> bool {
-        let accepted = self.error_output.accepted.as_slice();
-        self.output.accepted.is_empty()
+        let accepted = self.stderr.accepted.as_slice();
+        self.stdout.accepted.is_empty()
             && error_text.as_bytes().starts_with(accepted)
             && accepted.len() == error_bytes
             && self.status == status
@@ -145,7 +145,7 @@ fn owned_arguments(rt: &impl Abort, alloc: Global, args: &[&str]) -> Vec<String>
     owned
 }
 
-/// Makes a run over an input and outputs of which `failing` fails.
+/// Makes a run over a reader and writers of which `failing` fails.
 pub fn run_over(
     rt: &impl Abort,
     alloc: Global,
@@ -154,24 +154,24 @@ pub fn run_over(
     failing: Failing,
 ) -> Outcome {
     let args = owned_arguments(rt, alloc, args);
-    let mut input = Input {
+    let mut stdin = FailingReader {
         left: text,
         reads: 0,
         failed_read: failing.read,
     };
-    let mut output = Output::new(alloc, failing.write, failing.flush);
-    let mut error_output = Output::new(alloc, failing.error_write, false);
-    let status = run(alloc, &args, &mut input, &mut output, &mut error_output);
+    let mut stdout = FailingWriter::new(alloc, failing.write, failing.flush);
+    let mut stderr = FailingWriter::new(alloc, failing.error_write, false);
+    let status = run(alloc, &args, &mut stdin, &mut stdout, &mut stderr);
     Outcome {
         status,
-        output,
-        error_output,
-        reads: input.reads,
+        stdout,
+        stderr,
+        reads: stdin.reads,
     }
 }
 
 /// The arguments of a run, its input, and what is seen of it: the output, what is written to
-/// `error_output`, and the status.
+/// `stderr`, and the status.
 pub type Run<'run> = (&'run [&'run str], &'run [u8], (&'run str, &'run str, u8));
 
 /// Asserts what is seen of a run of this name, of which `failing` fails. The run reads nothing
@@ -179,11 +179,11 @@ pub type Run<'run> = (&'run [&'run str], &'run [u8], (&'run str, &'run str, u8))
 pub fn check_run(rt: &impl Abort, alloc: Global, name: &str, failing: Failing, run: &Run<'_>) {
     let (args, text, expected) = run;
     let outcome = run_over(rt, alloc, args, text, failing);
-    let (output, error_output, status) = outcome.seen();
+    let (stdout, stderr, status) = outcome.seen();
     let is_read = outcome.reads > 0;
     assert!(rt;
-        (output, error_output, status) == *expected && is_read == (status != 2),
-        "{name}: {args:?}: {output}{error_output}"
+        (stdout, stderr, status) == *expected && is_read == (status != 2),
+        "{name}: {args:?}: {stdout}{stderr}"
     );
 }
 

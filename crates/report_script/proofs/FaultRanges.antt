@@ -20,7 +20,7 @@ use Rattle.report_script.specs.declared.script.words.Word.TheVariants.{Severity,
 use Rattle.report_script.specs.Requests.{number_of}
 use Rattle.report_script.specs.ScriptFaults.{fault_at, fault_from, line_of_word, line_fault, number_fault, or_fault, repetition, severity_fault, word_fault}
 use Rattle.report_script.specs.ScriptLaws.{FaultLiesIn, FaultsLieInside, LiesIn}
-use Rattle.report_script.specs.ScriptLines.{ScriptLine, body, is_end, is_newline, is_ignored}
+use Rattle.report_script.specs.ScriptLines.{ScriptLineView, body, is_end, is_newline, is_ignored}
 use Rattle.report_script.specs.ScriptLines.{script_lines_from, script_lines, range_at, rest_of}
 use Rattle.report_script.specs.ScriptLines.{script_source, word_of, word_range}
 use Rattle.report_script.specs.ScriptWords.{script_word_named}
@@ -52,7 +52,7 @@ pub record IsTextAt (input : List ℕ) (at : ℕ) (text : List ℕ) : Type 0 whe
   pub same : (k : ℕ) → k < length text → get_or input (at + k) 0 ≡ get_or text k 0
 
 -- a suffix of a line is in the input where the line has it
-pub record IsEndOf (input : List ℕ) (line : ScriptLine) (from : List ℕ) : Type 0 where
+pub record IsEndOf (input : List ℕ) (line : ScriptLineView) (from : List ℕ) : Type 0 where
   pub fits : length from ≤ length line.text
   pub is_at : IsTextAt input (line.start + length line.text - length from) from
 
@@ -101,7 +101,7 @@ newline_after input start piece rest is =
 
 module _ (input : List ℕ) (utf8 : IsUtf8 input) where
   -- a line is in the input where it starts
-  abbrev IsLineAt : ScriptLine → Type 0
+  abbrev IsLineAt : ScriptLineView → Type 0
   IsLineAt line = IsTextAt input line.start line.text
 
   -- what follows the first space of a text of the input
@@ -178,20 +178,20 @@ module _ (input : List ℕ) (utf8 : IsUtf8 input) where
       )
 
   -- the lines of the script
-  body_at : (lines : List ScriptLine) → AllByRecursion IsLineAt lines → AllByRecursion IsLineAt (body lines)
+  body_at : (lines : List ScriptLineView) → AllByRecursion IsLineAt lines → AllByRecursion IsLineAt (body lines)
   body_at [] all = tt
   body_at (line ∷ lines) all = each_if IsLineAt (is_end line) (line ∷ body lines) (all.0, body_at lines all.1)
 
   -- ---- the fields of a line
 
   -- all of a line is an end of it
-  whole_line : (line : ScriptLine) → IsLineAt line → IsEndOf input line line.text
+  whole_line : (line : ScriptLineView) → IsLineAt line → IsEndOf input line line.text
   whole_line line is_at =
       let at : line.start + length line.text - length line.text ≡ line.start = omega arith in
       record { fits = omega arith; is_at = rw at is_at }
 
   -- what follows the first space of a suffix of a line
-  past_end : (line : ScriptLine) (from : List ℕ) → IsEndOf input line from → IsEndOf input line (past_space from)
+  past_end : (line : ScriptLineView) (from : List ℕ) → IsEndOf input line from → IsEndOf input line (past_space from)
   past_end line from end =
       let short : length (past_space from) ≤ length from = omega (arith, length-drop (position_or_len is_space from + 1) from) in
       let fits : length from ≤ length line.text = end.fits in
@@ -199,21 +199,21 @@ module _ (input : List ℕ) (utf8 : IsUtf8 input) where
       record { fits = omega arith; is_at = rw at at (past_at (line.start + length line.text - length from) from end.is_at) }
 
   -- the rest of a line is an end of it
-  rest_end : (line : ScriptLine) → IsLineAt line → IsEndOf input line (rest_of line)
+  rest_end : (line : ScriptLineView) → IsLineAt line → IsEndOf input line (rest_of line)
   rest_end line is_at = past_end line line.text (whole_line line is_at)
 
   -- the range of an end of a line
-  end_lies : (line : ScriptLine) (from : List ℕ) → IsEndOf input line from → LiesIn input (range_at line from from)
+  end_lies : (line : ScriptLineView) (from : List ℕ) → IsEndOf input line from → LiesIn input (range_at line from from)
   end_lies line from end = lies input (line.start + length line.text - length from) from end.is_at
 
   -- the range of the first field of an end of a line
-  field_lies : (line : ScriptLine) (from : List ℕ) → IsEndOf input line from → LiesIn input (range_at line from (field_of from))
+  field_lies : (line : ScriptLineView) (from : List ℕ) → IsEndOf input line from → LiesIn input (range_at line from (field_of from))
   field_lies line from end =
       let at : ℕ = line.start + length line.text - length from in
       lies input at (field_of from) (field_at input at from end.is_at)
 
   -- the range of the word of a line
-  word_lies : (line : ScriptLine) → IsLineAt line → LiesIn input (word_range line)
+  word_lies : (line : ScriptLineView) → IsLineAt line → LiesIn input (word_range line)
   word_lies line is_at = field_lies line line.text (whole_line line is_at)
 
   -- ---- the errors
@@ -223,26 +223,26 @@ module _ (input : List ℕ) (utf8 : IsUtf8 input) where
   one_range kind range inside = record { inside = inside; first = tt }
 
   -- the first line of a word is one of the lines
-  line_of_word_at : (word : List ℕ) (lines : List ScriptLine) → AllByRecursion IsLineAt lines → IfSome (line_of_word word lines) IsLineAt
+  line_of_word_at : (word : List ℕ) (lines : List ScriptLineView) → AllByRecursion IsLineAt lines → IfSome (line_of_word word lines) IsLineAt
   line_of_word_at word [] all = tt
   line_of_word_at word (line ∷ lines) all = some_if IsLineAt (bytes_eq (word_of line) word) (Some line) (line_of_word word lines) all.0 (line_of_word_at word lines all.1)
 
-  repeated_lies : (line : ScriptLine) → IsLineAt line → (first : Option ScriptLine) → IfSome first IsLineAt
+  repeated_lies : (line : ScriptLineView) → IsLineAt line → (first : Option ScriptLineView) → IfSome first IsLineAt
       → IfSome (option_map (λ first. record { kind = RepeatedWord; range = word_range line; first = Some (word_range first) }) first) (FaultLiesIn input)
   repeated_lies line is_at None is_line = tt
   repeated_lies line is_at (Some first) is_line = record { inside = word_lies line is_at; first = word_lies first is_line }
 
-  repetition_lies : (before : List ScriptLine) (line : ScriptLine) → AllByRecursion IsLineAt before → IsLineAt line → IfSome (repetition before line) (FaultLiesIn input)
+  repetition_lies : (before : List ScriptLineView) (line : ScriptLineView) → AllByRecursion IsLineAt before → IsLineAt line → IfSome (repetition before line) (FaultLiesIn input)
   unfolding repetition
   repetition_lies before line all is_at = repeated_lies line is_at (line_of_word (word_of line) before) (line_of_word_at (word_of line) before all)
 
-  severity_lies : (line : ScriptLine) → IsLineAt line → IfSome (severity_fault line) (FaultLiesIn input)
+  severity_lies : (line : ScriptLineView) → IsLineAt line → IfSome (severity_fault line) (FaultLiesIn input)
   unfolding severity_fault
   severity_lies line is_at =
       some_if (FaultLiesIn input) (is_some (severity_named (rest_of line))) None (Some (fault_at UnknownSeverity (range_at line (rest_of line) (rest_of line))))
       tt (one_range UnknownSeverity (range_at line (rest_of line) (rest_of line)) (end_lies line (rest_of line) (rest_end line is_at)))
 
-  number_lies : (line : ScriptLine) → IsLineAt line → IfSome (number_fault line) (FaultLiesIn input)
+  number_lies : (line : ScriptLineView) → IsLineAt line → IfSome (number_fault line) (FaultLiesIn input)
   unfolding number_fault
   number_lies line is_at =
       let rest : List ℕ = rest_of line in
@@ -254,7 +254,7 @@ module _ (input : List ℕ) (utf8 : IsUtf8 input) where
       (one_range BadNumber (range_at line after (field_of after)) (field_lies line after (past_end line rest (rest_end line is_at)))))
       (one_range BadNumber (range_at line rest (field_of rest)) (field_lies line rest (rest_end line is_at)))
 
-  word_fault_lies : (before : List ScriptLine) (line : ScriptLine) → AllByRecursion IsLineAt before → IsLineAt line → (word : Option Word)
+  word_fault_lies : (before : List ScriptLineView) (line : ScriptLineView) → AllByRecursion IsLineAt before → IsLineAt line → (word : Option Word)
       → IfSome (word_fault before line word) (FaultLiesIn input)
   word_fault_lies before line all is_at None = one_range UnknownWord (word_range line) (word_lies line is_at)
   word_fault_lies before line all is_at (Some Severity) =
@@ -265,7 +265,7 @@ module _ (input : List ℕ) (utf8 : IsUtf8 input) where
   word_fault_lies before line all is_at (Some Secondary) = number_lies line is_at
   word_fault_lies before line all is_at (Some Note) = tt
 
-  fault_lies : (before lines : List ScriptLine) → AllByRecursion IsLineAt before → AllByRecursion IsLineAt lines → IfSome (fault_from before lines) (FaultLiesIn input)
+  fault_lies : (before lines : List ScriptLineView) → AllByRecursion IsLineAt before → AllByRecursion IsLineAt lines → IfSome (fault_from before lines) (FaultLiesIn input)
   fault_lies before [] earlier later = tt
   fault_lies before (line ∷ lines) earlier later =
       either_fault (FaultLiesIn input) (line_fault before line) (fault_from (before ++ line ∷ []) lines)
@@ -273,7 +273,7 @@ module _ (input : List ℕ) (utf8 : IsUtf8 input) where
       (fault_lies (before ++ line ∷ []) lines (each_push IsLineAt before line earlier later.0) later.1)
 
   -- the error of what is read of lines
-  read_lies : (lines : List ScriptLine) (fault : Option Fault) (source : Option (List ℕ)) → IfSome fault (FaultLiesIn input) → IfErr (parsed_lines input lines fault source) (FaultLiesIn input)
+  read_lies : (lines : List ScriptLineView) (fault : Option Fault) (source : Option (List ℕ)) → IfSome fault (FaultLiesIn input) → IfErr (parsed_lines input lines fault source) (FaultLiesIn input)
   read_lies lines (Some fault) source inside = inside
   read_lies lines None None inside =
       one_range MissingEnd (record { start = length input; end = length input })

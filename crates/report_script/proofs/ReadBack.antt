@@ -18,7 +18,7 @@ use Rattle.report_script.specs.ScriptFaults.{fault_at, fault_from, line_of_word,
 use Rattle.report_script.specs.ScriptLaws.{ScriptReadsBack}
 use Rattle.report_script.specs.Statements.{IsStatable, Statement, code_stated, label_fields, label_stated, message_stated, note_stated, first_stated, stated_diagnostic, severity_name, severity_stated, statement_line, written_script}
 use Rattle.report_script.specs.Statements.Statement.{SeverityLine, CodeLine, MessageLine, LabelLine, NoteLine, CommentLine, EmptyLine}
-use Rattle.report_script.specs.ScriptLines.{ScriptLine, is_newline, script_lines_from, script_lines}
+use Rattle.report_script.specs.ScriptLines.{ScriptLineView, is_newline, script_lines_from, script_lines}
 use Rattle.report_script.specs.ScriptLines.{range_at, rest_of, script_source, word_of, word_range}
 use Rattle.report_script.specs.ScriptWords.{script_word_named}
 use Rattle.report_script.specs.Scripts.{script_diagnostic, parsed_label, parsed_note, parsed_lines, parsed_script, rest_of_word, parsed_severity}
@@ -28,7 +28,7 @@ use Rattle.report_script.proofs.ReadLines.{rest_by, severity_read, code_read, me
 -- ---- no line has an error
 
 -- the rest of the first line with a word is the first of the rests
-rest_of_word_first : (word : List ℕ) (lines : List ScriptLine)
+rest_of_word_first : (word : List ℕ) (lines : List ScriptLineView)
     → rest_of_word word lines ≡ slice_get (filter_map (rest_by word) lines) 0
 rest_of_word_first word [] = refl
 rest_of_word_first word (line ∷ lines) =
@@ -41,7 +41,7 @@ rest_of_word_first word (line ∷ lines) =
     by_test false is = is
 
 -- no line has the word where there are no rests
-no_line_of_word : (word : List ℕ) (lines : List ScriptLine)
+no_line_of_word : (word : List ℕ) (lines : List ScriptLineView)
     → length (filter_map (rest_by word) lines) ≡ 0 → line_of_word word lines ≡ None
 no_line_of_word word [] none = refl
 no_line_of_word word (line ∷ lines) none =
@@ -57,12 +57,12 @@ no_line_of_word word (line ∷ lines) none =
     by_test false none later = later none
 
 -- at most one of the lines begins with the word
-abbrev IsOnce : List ℕ → List ScriptLine → Type 0
+abbrev IsOnce : List ℕ → List ScriptLineView → Type 0
 IsOnce word lines = length (filter_map (rest_by word) lines) ≤ 1
 
 -- no line before one that begins with the word does so too
-none_before : (word : List ℕ) (before : List ScriptLine) (line : ScriptLine)
-    (lines : List ScriptLine)
+none_before : (word : List ℕ) (before : List ScriptLineView) (line : ScriptLineView)
+    (lines : List ScriptLineView)
     → IsOnce word (before ++ line ∷ lines)
     → bytes_eq (word_of line) word ≡ true → line_of_word word before ≡ None
 none_before word before line lines once is =
@@ -85,13 +85,13 @@ none_before word before line lines once is =
     no_line_of_word word before (omega arith)
 
 -- severity, code and message are stated once at most
-record AreOnce (lines : List ScriptLine) : Type 0 where
+record AreOnce (lines : List ScriptLineView) : Type 0 where
   severity : IsOnce (codes "severity") lines
   code : IsOnce (codes "code") lines
   message : IsOnce (codes "message") lines
 
 -- a word that no earlier line has is not repeated
-not_repeated : (before : List ScriptLine) (line : ScriptLine)
+not_repeated : (before : List ScriptLineView) (line : ScriptLineView)
     → line_of_word (word_of line) before ≡ None → repetition before line ≡ None
 unfolding repetition
 not_repeated before line none =
@@ -102,13 +102,13 @@ not_repeated before line none =
     none
 
 -- the line of a statement has no error
-severity_right : (before : List ScriptLine) (start : ℕ) (severity : Severity)
-    (lines : List ScriptLine)
+severity_right : (before : List ScriptLineView) (start : ℕ) (severity : Severity)
+    (lines : List ScriptLineView)
     → AreOnce (before ++ line_at start (SeverityLine severity) ∷ lines)
     → line_fault before (line_at start (SeverityLine severity)) ≡ None
 unfolding severity_fault script_word_named
 severity_right before start severity lines once =
-    let line : ScriptLine = line_at start (SeverityLine severity) in
+    let line : ScriptLineView = line_at start (SeverityLine severity) in
     ap (λ fault. or_fault fault (severity_fault line))
     (not_repeated before line
     (none_before (codes "severity") before line lines once.severity refl))
@@ -128,14 +128,14 @@ label_correct : (start : ℕ) (s : Statement) (range : Range ℕ) (message : Opt
     → rest_of (line_at start s) ≡ label_fields range message → number_fault (line_at start s) ≡ None
 unfolding number_fault
 label_correct start s range message first last is =
-    let line : ScriptLine = line_at start s in
+    let line : ScriptLineView = line_at start s in
     let read = fields_read range message first last in
     both_numbers (number_of (field_of (rest_of line)))
     (number_of (field_of (past_space (rest_of line)))) _ _ range.start range.end
     (ap (λ rest. number_of (field_of rest)) is ∙ read.first)
     (ap (λ rest. number_of (field_of (past_space rest))) is ∙ read.last)
 
-line_right : (before : List ScriptLine) (start : ℕ) (s : Statement) (lines : List ScriptLine)
+line_right : (before : List ScriptLineView) (start : ℕ) (s : Statement) (lines : List ScriptLineView)
     → IsStatable s → AreOnce (before ++ line_at start s ∷ lines)
     → line_fault before (line_at start s) ≡ None
 unfolding script_word_named
@@ -157,12 +157,12 @@ line_right before start (CommentLine text) lines can once = refl
 line_right before start EmptyLine lines can once = refl
 
 -- no line of statements has an error
-lines_right : (before : List ScriptLine) (start : ℕ) (ss : List Statement)
+lines_right : (before : List ScriptLineView) (start : ℕ) (ss : List Statement)
     → AllByRecursion IsStatable ss → AreOnce (before ++ statement_lines start ss)
     → fault_from before (statement_lines start ss) ≡ None
 lines_right before start [] can once = refl
 lines_right before start (s ∷ ss) can once =
-    let line : ScriptLine = line_at start s in
+    let line : ScriptLineView = line_at start s in
     let next : ℕ = start + length (statement_line s) + 1 in
     let moved : before ++ line ∷ statement_lines next ss ≡ (before ++ line ∷ [])
     ++ statement_lines next ss =
@@ -258,7 +258,7 @@ unfolding parsed_script script_lines
 reads_back ss source script =
     let can = each_by_recursion IsStatable ss script.statable in
     let input : List ℕ = written_script ss source in
-    let lines : List ScriptLine = script_lines_from 0 (slice_split is_newline input) in
+    let lines : List ScriptLineView = script_lines_from 0 (slice_split is_newline input) in
     let found : script_source input lines ≡ Some source =
     source_written input 0 ss source can refl in
     let right : fault_from [] (statement_lines 0 ss) ≡ None = lines_right [] 0 ss can

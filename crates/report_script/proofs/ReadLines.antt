@@ -12,7 +12,7 @@ use Rattle.program_io.specs.Names.{severity_named}
 use Rattle.report_script.specs.Requests.{number_of}
 use Rattle.report_script.specs.Statements.{IsStatable, Statement, code_stated, joined_fields, label_fields, label_stated, message_stated, note_stated, severity_name, severity_stated, statement_line}
 use Rattle.report_script.specs.Statements.Statement.{SeverityLine, CodeLine, MessageLine, LabelLine, NoteLine, CommentLine, EmptyLine}
-use Rattle.report_script.specs.ScriptLines.{ScriptLine, rest_of, word_of}
+use Rattle.report_script.specs.ScriptLines.{ScriptLineView, rest_of, word_of}
 use Rattle.report_script.specs.ScriptWords.{script_word_named}
 use Rattle.report_script.specs.Scripts.{label_by_word, label_with_ends, parsed_label, label_of_rest, parsed_note}
 use Rattle.report_script.proofs.Numbers.{number_of-decimal}
@@ -25,7 +25,7 @@ comment_word : (text : List ℕ) → field_of (35 ∷ text) ≡ 35 ∷ field_of 
 comment_word text = ap (λ n. take n (35 ∷ text)) (one-add (position_or_len is_space text))
 
 -- the rest of a line that begins with the word
-abbrev pub rest_by : List ℕ → ScriptLine → Option (List ℕ)
+abbrev pub rest_by : List ℕ → ScriptLineView → Option (List ℕ)
 rest_by word line = if bytes_eq (word_of line) word then Some (rest_of line) else None
 
 -- the severity, the code, the message and the note of a line are those of its statement
@@ -164,7 +164,7 @@ label_read start (CommentLine text) can =
 label_read start EmptyLine can = refl
 
 -- what is read of each line of statements is read of all of them
-pub all_read : {T : Type 0} (read : ScriptLine → Option T) (stated : Statement → Option T)
+pub all_read : {T : Type 0} (read : ScriptLineView → Option T) (stated : Statement → Option T)
     → ((start : ℕ) (s : Statement) → IsStatable s → read (line_at start s) ≡ stated s)
     → (start : ℕ) (ss : List Statement) → AllByRecursion IsStatable ss
     → filter_map read (statement_lines start ss) ≡ filter_map stated ss

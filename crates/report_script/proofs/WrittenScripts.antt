@@ -13,7 +13,7 @@ use Rattle.codespan_core.specs.declared.diagnostic.Severity.TheVariants.{Bug, Er
 use Rattle.program_io.specs.Fields.{field_of, is_space, past_space}
 use Rattle.report_script.specs.Statements.{IsLineSuffix, IsStatable, Statement, joined_fields, label_fields, severity_name, statement_line, written_script}
 use Rattle.report_script.specs.Statements.Statement.{SeverityLine, CodeLine, MessageLine, LabelLine, NoteLine, CommentLine, EmptyLine}
-use Rattle.report_script.specs.ScriptLines.{ScriptLine, body, is_newline, script_lines_from, script_source}
+use Rattle.report_script.specs.ScriptLines.{ScriptLineView, body, is_newline, script_lines_from, script_source}
 use Rattle.report_script.proofs.Numbers.{digits_of_decimal}
 use Rattle.report_script.proofs.ScriptCuts.{Lacks, past_one, left_after, line_then, pieces_at, some_piece}
 
@@ -165,12 +165,12 @@ line_goes_on EmptyLine = refl
 -- ---- the lines of a script that is written out
 
 -- the line of a statement, where it starts
-abbrev pub line_at : ℕ → Statement → ScriptLine
+abbrev pub line_at : ℕ → Statement → ScriptLineView
 line_at start s =
     record { start = start; text = statement_line s; next = start + length (statement_line s) + 1 }
 
 -- the lines of statements, one after another
-abbrev pub statement_lines : ℕ → List Statement → List ScriptLine
+abbrev pub statement_lines : ℕ → List Statement → List ScriptLineView
 statement_lines start [] = []
 statement_lines start (s ∷ ss) =
     line_at start s ∷ statement_lines (start + length (statement_line s) + 1) ss
@@ -214,7 +214,7 @@ pub body_written : (start : ℕ) (ss : List Statement) (source : List ℕ)
 body_written start [] source can = ap body (end_line start source)
 body_written start (s ∷ ss) source can =
     let next : ℕ = start + length (statement_line s) + 1 in
-    let lines : List ScriptLine =
+    let lines : List ScriptLineView =
     script_lines_from next (slice_split is_newline (written_script ss source)) in
     ap body (first_line start s ss source can.0)
     ∙ ap (λ b. if b then [] else line_at start s ∷ body lines) (line_goes_on s)
@@ -229,7 +229,7 @@ source_written input start [] source can is =
     ∙ ap Some (left_after input start (codes "---") source is)
 source_written input start (s ∷ ss) source can is =
     let next : ℕ = start + length (statement_line s) + 1 in
-    let lines : List ScriptLine =
+    let lines : List ScriptLineView =
     script_lines_from next (slice_split is_newline (written_script ss source)) in
     ap (script_source input) (first_line start s ss source can.0)
     ∙ ap (λ b. if b then Some (drop next input) else script_source input lines) (line_goes_on s)

@@ -18,7 +18,7 @@ use Rattle.report_script.specs.declared.script.words.Word.{Word}
 use Rattle.report_script.specs.declared.script.words.Word.TheVariants.{Primary, Secondary}
 use Rattle.report_script.specs.Requests.{number_of}
 use Rattle.report_script.specs.ScriptFaults.{line_of_word, fault_from, missing_end}
-use Rattle.report_script.specs.ScriptLines.{ScriptLine, script_lines, body, script_source, word_of, rest_of}
+use Rattle.report_script.specs.ScriptLines.{ScriptLineView, script_lines, body, script_source, word_of, rest_of}
 use Rattle.report_script.specs.ScriptWords.{script_word_named}
 
 -- what a script states: a diagnostic of one file, and that file's source
@@ -45,11 +45,11 @@ script_view script = record {
 }
 
 -- the rest of the first line that begins with the word
-abbrev pub rest_of_word : List ℕ → List ScriptLine → Option (List ℕ)
+abbrev pub rest_of_word : List ℕ → List ScriptLineView → Option (List ℕ)
 rest_of_word word lines = option_map rest_of (line_of_word word lines)
 
 -- the severity that the lines state; `Error` if they state none
-unfoldable pub parsed_severity : List ScriptLine → Severity
+unfoldable pub parsed_severity : List ScriptLineView → Severity
 parsed_severity lines =
     unwrap_or (option_and_then severity_named (rest_of_word (codes "severity") lines))
     severities.Error
@@ -74,29 +74,29 @@ label_of_rest style rest =
     (number_of (field_of (past_space rest)))
 
 -- the label of a line with this word
-abbrev pub label_by_word : ScriptLine → Option Word → Option (LabelView (Unit {0}))
+abbrev pub label_by_word : ScriptLineView → Option Word → Option (LabelView (Unit {0}))
 label_by_word line (Some Primary) = label_of_rest styles.Primary (rest_of line)
 label_by_word line (Some Secondary) = label_of_rest styles.Secondary (rest_of line)
 label_by_word line _ = None
 
 -- the label of a line, if it states one
-unfoldable pub parsed_label : ScriptLine → Option (LabelView (Unit {0}))
+unfoldable pub parsed_label : ScriptLineView → Option (LabelView (Unit {0}))
 parsed_label line = label_by_word line (script_word_named (word_of line))
 
 -- all labels, in the order of their lines
-abbrev pub parsed_labels : List ScriptLine → List (LabelView (Unit {0}))
+abbrev pub parsed_labels : List ScriptLineView → List (LabelView (Unit {0}))
 parsed_labels lines = filter_map parsed_label lines
 
 -- the note of a line, if it states one
-abbrev pub parsed_note : ScriptLine → Option (List ℕ)
+abbrev pub parsed_note : ScriptLineView → Option (List ℕ)
 parsed_note line = if bytes_eq (word_of line) (codes "note") then Some (rest_of line) else None
 
 -- all notes, in the order of their lines
-abbrev pub parsed_notes : List ScriptLine → List (List ℕ)
+abbrev pub parsed_notes : List ScriptLineView → List (List ℕ)
 parsed_notes lines = filter_map parsed_note lines
 
 -- what lines state
-abbrev pub script_diagnostic : List ScriptLine → DiagnosticView (Unit {0})
+abbrev pub script_diagnostic : List ScriptLineView → DiagnosticView (Unit {0})
 script_diagnostic lines = record {
   severity = parsed_severity lines;
   code = rest_of_word (codes "code") lines;
@@ -107,7 +107,7 @@ script_diagnostic lines = record {
 
 -- what lines parse to, by their first error and the source: the error, if there is one; else that
 -- the end is missing, if there is no source; else what they state
-abbrev pub parsed_lines : List ℕ → List ScriptLine → Option Fault → Option (List ℕ)
+abbrev pub parsed_lines : List ℕ → List ScriptLineView → Option Fault → Option (List ℕ)
     → Result ScriptView Fault
 parsed_lines input lines (Some fault) source = Err fault
 parsed_lines input lines None None = Err (missing_end input)

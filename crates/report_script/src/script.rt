@@ -7,7 +7,7 @@
 
 ghost use Rattle.std.specs.Prelude.{◌≡◌, MatchResult};
 ghost use Rattle.report_script.specs.Scripts.{parsed_script, script_view};
-ghost use Rattle.report_script.specs.ScriptFaults.{IsFaultOf};
+ghost use Rattle.report_script.specs.ScriptFaults.{IsScriptError};
 ghost use Rattle.report_script.specs.declared.script.ScriptError.TheVariants.{OutOfMemory};
 
 mod faults;
@@ -142,7 +142,7 @@ impl From<AllocError> for ScriptError {
 /// - `OutOfMemory` if an allocation fails.
 pub fn parse_script(alloc: Global, input: &str) -> Result<Script<'_>, ScriptError>
     ensures { MatchResult result (λ script. parsed_script input.now ≡ Ok (script_view script))
-        (λ error. IsFaultOf (parsed_script input.now) error) }
+        (λ error. IsScriptError (parsed_script input.now) error) }
 {
     let (lines, source) = split_script(alloc, input)?;
     if let Some(fault) = first_fault(lines.as_slice()) {

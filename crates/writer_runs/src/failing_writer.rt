@@ -32,12 +32,12 @@ pub struct FailingWriter<W> {
 }
 
 impl<W: Write> FailingWriter<W> {
-    /// Returns a writer that fails after `marks` style marks.
-    pub fn new(writer: W, marks: usize) -> FailingWriter<W> {
+    /// Returns a writer that fails after `style_marks` style marks.
+    pub fn new(writer: W, style_marks: usize) -> FailingWriter<W> {
         FailingWriter {
             inner: writer,
             failed: false,
-            style_marks_left: marks,
+            style_marks_left: style_marks,
             calls_after: 0,
         }
     }

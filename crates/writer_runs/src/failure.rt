@@ -10,9 +10,9 @@ use std::fmt::Write;
 use std::{fmt, io};
 use test_writers::stopping::Stop;
 
-/// How a writer stops.
+/// A kind of writer of bytes, by how it stops.
 #[derive(Clone, Copy)]
-pub enum Ending {
+pub enum WriterKind {
     /// Never: it accepts one byte at a time.
     Slow,
     /// In this way, at a write.
@@ -40,7 +40,7 @@ pub enum Failure {
     /// By way of a writer of styles, with a writer that stops in this way after this many writes or
     /// style marks: the result is not the expected one (`Io` if the writer stopped, and else `Ok`),
     /// the writer does not hold exactly what it accepted, or it was called again or flushed.
-    Stopped(StyleWriterKind, Ending, usize),
+    Stopped(StyleWriterKind, WriterKind, usize),
 }
 
 /// An error, with the style and the call in which it occurred.
@@ -56,9 +56,9 @@ pub struct FailureAt {
 
 /// An error that ends the program.
 #[derive(Drop)]
-pub enum StreamError {
+pub enum FatalError {
     /// Reading the input failed, or it is not UTF-8.
-    NoText(InputError),
+    Input(InputError),
     /// The line of this number, from 1, has an error.
     Line(usize, LineError),
     /// Writing the output failed.
@@ -66,27 +66,27 @@ pub enum StreamError {
 }
 
 /// Converts an error of reading the input.
-impl From<InputError> for StreamError {
-    fn from(error: InputError) -> StreamError {
-        StreamError::NoText(error)
+impl From<InputError> for FatalError {
+    fn from(error: InputError) -> FatalError {
+        FatalError::Input(error)
     }
 }
 
 /// Converts an error of writing the output.
-impl From<io::Error> for StreamError {
-    fn from(_error: io::Error) -> StreamError {
-        StreamError::CannotWriteOutput
+impl From<io::Error> for FatalError {
+    fn from(_error: io::Error) -> FatalError {
+        FatalError::CannotWriteOutput
     }
 }
 
 /// Writes a few words.
-impl fmt::Display for StreamError {
+impl fmt::Display for FatalError {
     fn fmt<W: Write>(&self, f: &mut fmt::Formatter<W>) -> fmt::Result {
         match self {
-            StreamError::NoText(InputError::Unreadable) => f.write_str("cannot read input"),
-            StreamError::NoText(InputError::NotUtf8) => f.write_str("input is not UTF-8"),
-            StreamError::Line(number, line_error) => write!(f, "line {number}: {line_error}"),
-            StreamError::CannotWriteOutput => f.write_str("cannot write output"),
+            FatalError::Input(InputError::Unreadable) => f.write_str("cannot read input"),
+            FatalError::Input(InputError::NotUtf8) => f.write_str("input is not UTF-8"),
+            FatalError::Line(number, line_error) => write!(f, "line {number}: {line_error}"),
+            FatalError::CannotWriteOutput => f.write_str("cannot write output"),
         }
     }
 }
@@ -99,15 +99,15 @@ impl From<Error> for Failure {
 }
 
 /// Writes a few words.
-impl fmt::Display for Ending {
+impl fmt::Display for WriterKind {
     fn fmt<W: Write>(&self, f: &mut fmt::Formatter<W>) -> fmt::Result {
         f.write_str(match self {
-            Ending::Slow => "takes one byte at a time",
-            Ending::AtWrite(Stop::Fails) => "fails at a write",
-            Ending::AtWrite(Stop::TakesNothing) => "takes nothing of a write",
-            Ending::AtWrite(Stop::IsInterrupted) => "is interrupted",
-            Ending::AtWrite(Stop::TakesOneByte) => "takes one byte and then fails",
-            Ending::AtStyleMark => "fails at a style mark",
+            WriterKind::Slow => "takes one byte at a time",
+            WriterKind::AtWrite(Stop::Fails) => "fails at a write",
+            WriterKind::AtWrite(Stop::TakesNothing) => "takes nothing of a write",
+            WriterKind::AtWrite(Stop::IsInterrupted) => "is interrupted",
+            WriterKind::AtWrite(Stop::TakesOneByte) => "takes one byte and then fails",
+            WriterKind::AtStyleMark => "fails at a style mark",
         })
     }
 }
@@ -122,10 +122,10 @@ impl fmt::Display for Failure {
             Failure::OtherText(style_writer) => write!(f, "by {style_writer}: another text"),
             Failure::OtherColors => f.write_str("other colors than expected"),
             Failure::NoFirstWrite(style_writer) => write!(f, "by {style_writer}: no first write"),
-            Failure::Stopped(style_writer, ending, after) => {
+            Failure::Stopped(style_writer, writer, after) => {
                 write!(
                     f,
-                    "by {style_writer}: wrong where a writer {ending}, after {after}"
+                    "by {style_writer}: wrong where a writer {writer}, after {after}"
                 )
             }
         }

@@ -1,7 +1,7 @@
 //! Runs into writers that stop.
 
 use crate::failing_writer::FailingWriter;
-use crate::failure::{Ending, Failure};
+use crate::failure::{Failure, WriterKind};
 use crate::recording::Recording;
 use crate::rendering::Render;
 use crate::style_writers::StyleWriterKind;
@@ -36,7 +36,7 @@ pub fn judge_stops<D: Render>(
     let whole = recording.text();
     let slow = Recording::stopping(alloc, 1, usize::MAX, Stop::Fails);
     if !stops_at(style_writer, output, slow, whole, whole.len()) {
-        return Err(Failure::Stopped(style_writer, Ending::Slow, 0));
+        return Err(Failure::Stopped(style_writer, WriterKind::Slow, 0));
     }
     if recording.starts.first() != Some(&0) {
         return Err(Failure::NoFirstWrite(style_writer));
@@ -47,14 +47,14 @@ pub fn judge_stops<D: Render>(
             let stopping = Recording::stopping(alloc, usize::MAX, writes, stop);
             let length = written_length(stop, *start, whole.len());
             if !stops_at(style_writer, output, stopping, whole, length) {
-                return Err(Failure::Stopped(style_writer, Ending::AtWrite(stop), writes));
+                return Err(Failure::Stopped(style_writer, WriterKind::AtWrite(stop), writes));
             }
             runs = runs.saturating_add(1);
         }
         let stopping = Recording::stopping(alloc, usize::MAX, recording.starts.len(), stop);
         if !stops_at(style_writer, output, stopping, whole, whole.len()) {
             let writes = recording.starts.len();
-            return Err(Failure::Stopped(style_writer, Ending::AtWrite(stop), writes));
+            return Err(Failure::Stopped(style_writer, WriterKind::AtWrite(stop), writes));
         }
         runs = runs.saturating_add(1);
     }
@@ -99,25 +99,29 @@ pub fn judge_style_marks<D: Render>(
     output: &D,
     whole: &[u8],
 ) -> Result<usize, Failure> {
-    let mut marks = 0usize;
+    let mut style_marks = 0usize;
     for (position, byte) in whole.iter().enumerate() {
         if *byte == b'\x1b' {
             let (written, _rest) = whole.split_at(position.saturating_add(1).min(whole.len()));
-            if !stops_at_style_mark(alloc, output, marks, written, true) {
-                return Err(stopped_at_style_mark(marks));
+            if !stops_at_style_mark(alloc, output, style_marks, written, true) {
+                return Err(stopped_at_style_mark(style_marks));
             }
-            marks = marks.saturating_add(1);
+            style_marks = style_marks.saturating_add(1);
         }
     }
-    if !stops_at_style_mark(alloc, output, marks, whole, false) {
-        return Err(stopped_at_style_mark(marks));
+    if !stops_at_style_mark(alloc, output, style_marks, whole, false) {
+        return Err(stopped_at_style_mark(style_marks));
     }
-    Ok(marks.saturating_add(1))
+    Ok(style_marks.saturating_add(1))
 }
 
 /// Returns the error of a run with a writer that fails at the style mark after this many.
-fn stopped_at_style_mark(marks: usize) -> Failure {
-    Failure::Stopped(StyleWriterKind::Custom, Ending::AtStyleMark, marks)
+fn stopped_at_style_mark(style_marks: usize) -> Failure {
+    Failure::Stopped(
+        StyleWriterKind::Custom,
+        WriterKind::AtStyleMark,
+        style_marks,
+    )
 }
 
 /// Renders to this program's writer of styles, which fails at the style mark after this many, and
@@ -126,12 +130,12 @@ fn stopped_at_style_mark(marks: usize) -> Failure {
 fn stops_at_style_mark<D: Render>(
     alloc: Global,
     output: &D,
-    marks: usize,
+    style_marks: usize,
     written: &[u8],
     is_stopped: bool,
 ) -> bool {
     let mut recording = Recording::new(alloc);
-    fails_at_style_mark(output, &mut recording, marks, is_stopped)
+    fails_at_style_mark(output, &mut recording, style_marks, is_stopped)
         && recording.inner.flushes == 0
         && recording.text() == written
 }
@@ -141,10 +145,10 @@ fn stops_at_style_mark<D: Render>(
 fn fails_at_style_mark<D: Render>(
     output: &D,
     recording: &mut Recording,
-    marks: usize,
+    style_marks: usize,
     is_stopped: bool,
 ) -> bool {
-    let mut writer = FailingWriter::new(recording, marks);
+    let mut writer = FailingWriter::new(recording, style_marks);
     let returned = output.render(&mut writer);
     is_as_expected(&returned, is_stopped)
         && writer.has_failed() == is_stopped

@@ -14,7 +14,7 @@
 //! `multi_bottom`, `multi_primary_caret_end` or `multi_secondary_caret_end`. Any other field, and a
 //! C that is not one character, is the error `UnknownName`.
 
-use crate::failure::StreamError;
+use crate::failure::FatalError;
 use crate::worked_output::{TextKind, WorkedOutput};
 use codespan_base::term::Chars;
 use gallery_script::errors::LineError;
@@ -28,19 +28,19 @@ use std::alloc::Global;
 /// # Errors
 ///
 /// `Line` with the error of the first line that has one.
-pub fn parse_outputs(alloc: Global, input: &str) -> Result<Vec<WorkedOutput<'_>>, StreamError> {
+pub fn parse_outputs(alloc: Global, input: &str) -> Result<Vec<WorkedOutput<'_>>, FatalError> {
     let mut outputs = Vec::new(alloc);
     let mut number = 0usize;
     for line in input.lines() {
         number = number.saturating_add(1);
         if let Err(line_error) = apply_line(alloc, &mut outputs, line) {
-            return Err(StreamError::Line(number, line_error));
+            return Err(FatalError::Line(number, line_error));
         }
     }
     Ok(outputs)
 }
 
-/// Applies a line: it begins a worked output, describes the last one, or is ignored.
+/// Applies a line: it begins a worked output, states something of the last one, or is ignored.
 fn apply_line<'input>(
     alloc: Global,
     outputs: &mut Vec<WorkedOutput<'input>>,
@@ -65,7 +65,7 @@ fn apply_case_line<'input>(
     match parse_line(alloc, line)? {
         Line::Ignored => Ok(()),
         Line::NewCase(name) => add_output(alloc, outputs, name),
-        Line::Description(statement) => apply_to_last(outputs, statement),
+        Line::OfLastCase(statement) => apply_to_last(outputs, statement),
     }
 }
 

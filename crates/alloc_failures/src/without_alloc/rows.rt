@@ -15,11 +15,11 @@ use std::io::Write;
 ///
 /// The error of the first call that fails, and `FormatError` if lanes are not in order.
 pub fn render_rows<W: Write>(
-    output: &mut W,
+    writer: &mut W,
     start: &Locus,
     row_locus: &Locus,
 ) -> Result<(), Error> {
-    render_each(&mut PlainWriter::new(output), start, row_locus)
+    render_each(&mut PlainWriter::new(writer), start, row_locus)
 }
 
 /// Makes each `render_` call.
@@ -98,8 +98,8 @@ fn render_line<W: WriteStyle>(
 /// # Errors
 ///
 /// Those of `render_snippet_source`.
-pub fn render_colored<W: Write>(output: &mut W) -> Result<(), Error> {
-    render_label_colored(Ansi::new(output))
+pub fn render_colored<W: Write>(writer: &mut W) -> Result<(), Error> {
+    render_label_colored(Ansi::new(writer))
 }
 
 /// Writes a source line with a label and its message, in the default styles.

@@ -31,7 +31,7 @@ impl Glyph {
     }
 
     /// Returns whether it is a newline.
-    pub fn ends_row(self) -> bool
+    pub fn is_newline(self) -> bool
         ensures { result ≡ is_newline_glyph self }
     {
         self.character == '\n'
@@ -41,7 +41,7 @@ impl Glyph {
     fn is_narrow(self) -> bool
         ensures { result ≡ is_narrow self }
     {
-        !self.ends_row() && self.cells() <= 1
+        !self.is_newline() && self.cells() <= 1
     }
 
     /// Returns whether the next glyph belongs to the same text: both are narrow, in one ink.

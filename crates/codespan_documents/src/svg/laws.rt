@@ -4,7 +4,7 @@
 ghost use Rattle.std.specs.Prelude.{◌≡◌, ℕ, List, flat_map};
 ghost use Rattle.codespan_base.specs.declared.term.config.styles.Styles.{Styles};
 ghost use Rattle.codespan_documents.specs.Glyphs.{glyphs_of, start};
-ghost use Rattle.codespan_documents.specs.Runs.{StyledRun};
+ghost use Rattle.codespan_documents.specs.Runs.{RunView};
 ghost use Rattle.codespan_documents.specs.Svg.{first_pen};
 ghost use Rattle.codespan_documents.specs.SvgReading.{piece_characters, pieces_from, characters_from};
 
@@ -12,7 +12,7 @@ ghost use Rattle.codespan_documents.specs.SvgReading.{piece_characters, pieces_f
 /// runs, in its ink, and, counted from where the text begins, in the cell that it has among all
 /// characters.
 pub fn characters_are_in_their_cells()
-    ensures { (styles : Styles) (runs : List StyledRun) →
+    ensures { (styles : Styles) (runs : List RunView) →
         flat_map piece_characters (pieces_from first_pen (glyphs_of styles runs))
         ≡ characters_from start (glyphs_of styles runs) }
 {}

@@ -34,7 +34,7 @@ impl CellPosition {
         ensures row { result.row ≤ self.row + 1 }
         ensures column { result.column ≤ self.column + 3 }
     {
-        if glyph.ends_row() {
+        if glyph.is_newline() {
             CellPosition {
                 row: self.row + 1,
                 column: 0,

@@ -31,11 +31,11 @@ pub fn note_index(notes: &[RawText<'_>]) -> Option<usize>
 pub fn label_file_index(files: &[RawFile<'_>], labels: &[RawLabel<'_>]) -> Option<usize>
     ensures { FindsFirstWithout (HasLabelFile (length files.now)) labels.now result }
 {
-    index_past(files.len(), labels)
+    missing_file_index(files.len(), labels)
 }
 
 /// Returns the index of the first label whose file is not one of `count` files.
-fn index_past(count: usize, labels: &[RawLabel<'_>]) -> Option<usize>
+fn missing_file_index(count: usize, labels: &[RawLabel<'_>]) -> Option<usize>
     ensures { FindsFirstWithout (HasLabelFile count) labels.now result }
 {
     labels.iter().position(|label| label.file >= count)

@@ -11,7 +11,7 @@ use Rattle.codespan_base.specs.WriterLaw.{Sink}
 use Rattle.codespan_styled.specs.declared.recorder.Recorder.{Recorder}
 use Rattle.codespan_documents.specs.declared.style.Style.{Style}
 use Rattle.codespan_documents.specs.declared.style.Style.TheVariants.{Plain, Header, HeaderMessage, LineNumber, NoteBullet, SourceBorder, Label}
-use Rattle.codespan_documents.specs.Runs.{StyledRun, run_view, style_after}
+use Rattle.codespan_documents.specs.Runs.{RunView, run_view, style_after}
 
 -- ---- bytes
 
@@ -20,8 +20,8 @@ abbrev pub AreBytes : List ℕ → Type 0
 AreBytes bs = AllByRecursion (λ b. b < 256) bs
 
 -- the texts of the runs are bytes
-abbrev pub AllBytes : List StyledRun → Type 0
-AllBytes runs = AllByRecursion (λ (run : StyledRun). AreBytes run.text) runs
+abbrev pub TextsAreBytes : List RunView → Type 0
+TextsAreBytes runs = AllByRecursion (λ (run : RunView). AreBytes run.text) runs
 
 -- ---- numbers of styles
 
@@ -51,15 +51,15 @@ style_spelling style_mark = style_number (style_after style_mark) ∷ []
 -- ---- runs
 
 -- how a run is recorded: the number of its style, and then its bytes
-abbrev pub recorded_run : StyledRun → List ℕ
+abbrev pub recorded_run : RunView → List ℕ
 recorded_run run = style_number run.style ∷ run.text
 
 -- runs, one after another
-abbrev pub recorded_runs : List StyledRun → List ℕ
+abbrev pub recorded_runs : List RunView → List ℕ
 recorded_runs runs = flat_map recorded_run runs
 
 -- the runs of a writer before the last one
-abbrev pub ended_runs : Recorder → List StyledRun
+abbrev pub ended_runs : Recorder → List RunView
 ended_runs r = map run_view r.runs.items
 
 -- what a writer holds: its runs, and then the last one

@@ -4,7 +4,7 @@
 ghost use Rattle.std.specs.Prelude.{◌≡◌, ℕ, List};
 ghost use Rattle.codespan_base.specs.Streams.{Stream, spelled};
 ghost use Rattle.codespan_base.specs.declared.term.config.styles.Styles.{Styles};
-ghost use Rattle.codespan_documents.specs.Runs.{AreTexts, StyledRun, runs_of};
+ghost use Rattle.codespan_documents.specs.Runs.{AreTexts, RunView, runs_of};
 ghost use Rattle.codespan_base.specs.StyleTables.{ansi_spelling};
 ghost use Rattle.codespan_terminal.specs.Terminal.{AreSafe, ShowsSafe, columns, safe_characters, safe_columns, terminal_text};
 
@@ -12,7 +12,7 @@ ghost use Rattle.codespan_terminal.specs.Terminal.{AreSafe, ShowsSafe, columns, 
 /// of styles, no other control character but tab and newline, and no directional control, and shows
 /// the safe characters of its runs, each in its column.
 pub fn safe_text_is_shown()
-    ensures { (styles : Styles) (runs : List StyledRun) → AreTexts runs
+    ensures { (styles : Styles) (runs : List RunView) → AreTexts runs
         → ShowsSafe (terminal_text styles runs) runs }
 {}
 

@@ -1,7 +1,7 @@
 //! Which calls of the writer with style marks in band flush, and what its `write` takes.
 
 use crate::asserts::assert_bytes;
-use crate::rows::write_marks;
+use crate::rows::write_style_marks;
 use codespan_native::style_mark_writer::StyleMarkWriter;
 use std::io::Write;
 use std::panic::Expect;
@@ -11,7 +11,7 @@ use test_writers::counting::CountingWriter;
 #[test]
 fn only_flush_flushes(rt: HostRuntime) {
     let mut inner = CountingWriter::default();
-    write_marks(&rt, &mut StyleMarkWriter::new(&mut inner));
+    write_style_marks(&rt, &mut StyleMarkWriter::new(&mut inner));
     assert!(rt; inner.flushes == 1);
 }
 

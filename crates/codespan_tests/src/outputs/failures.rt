@@ -2,7 +2,7 @@
 
 mod order;
 
-use crate::outputs::listing::{Failed, Listing};
+use crate::outputs::listing::{FailedLookups, Listing};
 use crate::outputs::rendering::{Parts, assert_renders};
 use codespan_reporting::diagnostic::{Diagnostic, Label};
 use codespan_reporting::files::{Error, SimpleFile};
@@ -34,7 +34,7 @@ pub enum LookupCall {
 impl LookupCall {
     /// Returns `failed` with this lookup failing too. Where `line_index` of a byte fails, so does
     /// that of each later byte.
-    pub fn failed_beside(&self, mut failed: Failed) -> Failed {
+    pub fn failed_beside(&self, mut failed: FailedLookups) -> FailedLookups {
         match *self {
             LookupCall::Name => failed.name = true,
             LookupCall::Source => failed.source = true,
@@ -89,7 +89,7 @@ pub fn assert_fails(
 
 /// Asserts the same of a lookup that fails alone.
 fn assert_fails_alone(rt: &impl Abort, diagnostic: &Diagnostic<()>, lookup: &Lookup) {
-    let failed = lookup.0.failed_beside(Failed::default());
+    let failed = lookup.0.failed_beside(FailedLookups::default());
     let files = Listing::new(*diagnostic.labels.allocator(), "f", "ab", failed).expect(
         rt,
         "the files",
@@ -154,7 +154,7 @@ static NUMBER_OF_FILLED_LINE: [(Layout, Lookup); 2] = [
 /// header in the unbroken one.
 #[test]
 fn failed_number_of_filled_line(rt: HostRuntime) {
-    let failed = LookupCall::LineNumber(1).failed_beside(Failed::default());
+    let failed = LookupCall::LineNumber(1).failed_beside(FailedLookups::default());
     let files = Listing::new(rt.alloc(), "f", "a\nb\nc", failed).expect(&rt, "the files");
     let diagnostic = with_two_labels(&rt, rt.alloc(), 0..1, 4..5);
     for (layout, lookup) in &NUMBER_OF_FILLED_LINE {

@@ -11,7 +11,7 @@ use std::ops::Range;
 /// Which lookups fail. Each fails with `ColumnTooLarge`: `given` is the number of its kind, and
 /// `max` the line or the byte that was looked up, or 0. Both are 0-based indices.
 #[derive(Drop, Default)]
-pub struct Failed {
+pub struct FailedLookups {
     /// The name; `given` is 1.
     pub name: bool,
     /// The source; `given` is 2.
@@ -30,7 +30,7 @@ pub struct Failed {
 #[derive(Drop)]
 pub struct Listing<'text> {
     file: SimpleFile<&'text str, &'text str>,
-    failed: Failed,
+    failed: FailedLookups,
 }
 
 impl<'text> Listing<'text> {
@@ -43,7 +43,7 @@ impl<'text> Listing<'text> {
         alloc: Global,
         name: &'text str,
         text: &'text str,
-        failed: Failed,
+        failed: FailedLookups,
     ) -> Result<Self, Error> {
         Ok(Listing {
             file: SimpleFile::new(alloc, name, text)?,

@@ -11,7 +11,7 @@ use std::alloc::Global;
 use std::panic::Expect;
 use std::process::Abort;
 
-/// The parts of texts, by what is tested, and the document.
+/// The runs of texts, by what is tested, and the document.
 static DOCUMENTS: [(&str, &[(Style, &str)], &str); 2] = [
     (
         "entities",
@@ -38,8 +38,8 @@ static DOCUMENTS: [(&str, &[(Style, &str)], &str); 2] = [
 
 #[test]
 fn documents(rt: HostRuntime) {
-    for (name, parts, want) in &DOCUMENTS {
-        let text = text_of_runs(&rt, rt.alloc(), parts);
+    for (name, runs, want) in &DOCUMENTS {
+        let text = text_of_runs(&rt, rt.alloc(), runs);
         let html = to_html(rt.alloc(), &text).expect(&rt, "the document");
         assert_row(&rt, name, html.as_str(), want);
     }

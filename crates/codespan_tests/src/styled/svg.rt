@@ -8,8 +8,8 @@ use codespan_base::term::Styles;
 use codespan_styled::{Style, to_svg};
 use std::panic::Expect;
 
-/// Parts of a text.
-static PARTS: [(Style, &str); 7] = [
+/// The runs of a text.
+static RUNS: [(Style, &str); 7] = [
     (Style::Plain, ""),
     (Style::Label(Severity::Error, LabelStyle::Primary), "a<"),
     (Style::Label(Severity::Bug, LabelStyle::Primary), "b"),
@@ -21,7 +21,7 @@ static PARTS: [(Style, &str); 7] = [
 
 #[test]
 fn inks_and_cells(rt: HostRuntime) {
-    let text = text_of_runs(&rt, rt.alloc(), &PARTS);
+    let text = text_of_runs(&rt, rt.alloc(), &RUNS);
     let want = "<svg xmlns=\"http://www.w3.org/2000/svg\" width=\"105\" height=\"42\" \
                 viewBox=\"0 0 105 42\" \
                 font-family=\"DejaVu Sans Mono, Menlo, Consolas, monospace\" font-size=\"15\" \

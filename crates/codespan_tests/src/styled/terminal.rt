@@ -122,11 +122,11 @@ fn first_and_last_of_each_range(rt: HostRuntime) {
     }
 }
 
-/// The parts of a styled text, by what is tested, and the output.
-type Output<'text> = (&'text str, &'text [(Style, &'text str)], &'text str);
+/// The runs of a styled text, by what is tested, and the output.
+type WorkedOutput<'text> = (&'text str, &'text [(Style, &'text str)], &'text str);
 
 /// A header with sequences of its own, an `a` in a style of each kind, and no text.
-static OUTPUTS: [Output<'static>; 10] = [
+static OUTPUTS: [WorkedOutput<'static>; 10] = [
     (
         "header_has_its_sequences_alone",
         &[
@@ -182,8 +182,8 @@ static OUTPUTS: [Output<'static>; 10] = [
 #[test]
 fn outputs(rt: HostRuntime) {
     let styles = Styles::default();
-    for (name, parts, want) in &OUTPUTS {
-        let text = text_of_runs(&rt, rt.alloc(), parts);
+    for (name, runs, want) in &OUTPUTS {
+        let text = text_of_runs(&rt, rt.alloc(), runs);
         let terminal = to_terminal(rt.alloc(), &text, &styles).expect(&rt, "the output");
         assert_row(&rt, name, terminal.as_str(), want);
     }

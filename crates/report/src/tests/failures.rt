@@ -16,7 +16,7 @@ const NOTHING: Failing = Failing {
     error_write: None,
 };
 
-/// The second write to the error output fails.
+/// The second write to standard error fails.
 const ERROR_WRITE: Failing = Failing {
     error_write: Some(1),
     ..NOTHING
@@ -25,7 +25,7 @@ const ERROR_WRITE: Failing = Failing {
 /// The name of a run, what fails in it, and the run.
 type FailedRun = (&'static str, Failing, Run<'static>);
 
-/// Runs in which a read, the flush of the output or a write to the error output fails.
+/// Runs in which a read, the flush of standard output or a write to standard error fails.
 static FAILED_RUNS: [FailedRun; 6] = [
     (
         "failed_input",
@@ -82,7 +82,7 @@ fn failed_runs(rt: HostRuntime) {
 /// Returns whether a run ended with an error of its output, which had taken a prefix of this number
 /// of bytes.
 fn ended_after(outcome: &Outcome, bytes: usize) -> bool {
-    let accepted = outcome.output.accepted.as_slice();
+    let accepted = outcome.stdout.accepted.as_slice();
     let (_, error_text, status) = outcome.seen();
     OUTPUT.as_bytes().starts_with(accepted)
         && accepted.len() == bytes
@@ -90,7 +90,7 @@ fn ended_after(outcome: &Outcome, bytes: usize) -> bool {
         && status == 1
 }
 
-/// If any write to the output fails, the status is 1, and the error output says so.
+/// If any write to standard output fails, the status is 1, and standard error says so.
 #[test]
 fn failed_output(rt: HostRuntime) {
     for write in 0..OUTPUT.len().div_ceil(4) {

@@ -8,7 +8,7 @@ use std::alloc::Global;
 use std::process::Abort;
 
 /// The style of a run over the file `f.txt`, its input, which is a script and a source, and what is
-/// seen of it: the output, what is written to `error_output`, and the status.
+/// seen of it: the output, what is written to `stderr`, and the status.
 pub type ScriptRun<'run> = (&'run str, &'run str, (&'run str, &'run str, u8));
 
 /// The run of `script_run`.
@@ -239,7 +239,7 @@ fn scripts(rt: HostRuntime) {
     check_scripts_with_errors(&rt, rt.alloc());
 }
 
-/// What a run over an empty script writes to `error_output`, in short style.
+/// What a run over an empty script writes to `stderr`, in short style.
 const MISSING_END: &str = "script:1:1: error[S5]: missing end of script\n";
 
 /// If writing the diagnostic of a script's error fails, the status is 1, and a prefix of it is

@@ -8,5 +8,5 @@ returns c =
     let text = c.in_ok-push_text.ensures
     ∙ ap (λ t. string_bytes c.push_str-3.new.self ++ html_text t) c.as_str-2.ensures.value in
     run-written c.args.run.now _ _ _ _ _ _ _ (sym c.is_plain.ensures ∙ c.if-is_plain.false)
-    c.in_ok-push_str.ensures.bytes c.class_of.ensures c.in_ok-push_str-2.ensures.bytes
+    c.in_ok-push_str.ensures.bytes c.style_class.ensures c.in_ok-push_str-2.ensures.bytes
     c.in_ok-push_str-3.ensures.bytes text c.in_ok-push_str-4.ensures.bytes

@@ -22,7 +22,7 @@ tagged c = elim c.if-not-follows.branch [
 -- the glyph is the last one of its text
 pub returns-in_ok-push_str-2 : goal.returns-in_ok-push_str-2
 returns-in_ok-push_str-2 c =
-    glyph-written c.args.pen c.args.glyph c.args.others.now _ _ _ _ (sym c.if-ends_row.ensures)
+    glyph-written c.args.pen c.args.glyph c.args.others.now _ _ _ _ (sym c.if-is_newline.ensures)
     (tagged (goal.at.returns-in_ok-push_str-2 c).In_ok-push_character)
     c.in_ok-push_character.ensures
     (rw (← c.if-not-joins_next.ensures) c.in_ok-push_str-2.ensures.bytes)
@@ -31,7 +31,7 @@ returns-in_ok-push_str-2 c =
 pub returns-else-not-joins_next : goal.returns-else-not-joins_next
 returns-else-not-joins_next c =
     glyph-written c.args.pen c.args.glyph c.args.others.now _ _ _
-    (string_bytes c.push_character.new.document) (sym c.if-ends_row.ensures)
+    (string_bytes c.push_character.new.document) (sym c.if-is_newline.ensures)
     (tagged (goal.at.returns-else-not-joins_next c).In_ok-push_character)
     c.in_ok-push_character.ensures
     (rw (← c.if-not-joins_next.ensures) (sym (append-nil _)))

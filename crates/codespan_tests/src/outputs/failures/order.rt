@@ -1,7 +1,7 @@
 //! Which error is returned where two lookups fail.
 
 use crate::outputs::failures::{Lookup, LookupCall, assert_fails, with_two_labels};
-use crate::outputs::listing::{Failed, Listing};
+use crate::outputs::listing::{FailedLookups, Listing};
 use codespan_reporting::diagnostic::Diagnostic;
 use codespan_reporting::term::{Config, Layout};
 use std::panic::Expect;
@@ -92,7 +92,7 @@ fn assert_first_error(
 ) {
     let failed = first
         .0
-        .failed_beside(next.0.failed_beside(Failed::default()));
+        .failed_beside(next.0.failed_beside(FailedLookups::default()));
     let source = "a\nb\nc\nd\ne\nf\ng\nh\ni";
     let files = Listing::new(*diagnostic.labels.allocator(), "f", source, failed).expect(
         rt,

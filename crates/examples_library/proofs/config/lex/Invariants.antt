@@ -1,6 +1,6 @@
 use Rattle.std.proofs.Common.{◌≤◌, All, length}
 use Rattle.examples_library.proofs.config.lex.Given as goal
 
--- the words so far are inside the text
+-- the tokens so far are inside the text
 abbrev pub invariant-loop-index : goal.invariant-loop-index
-invariant-loop-index l = All (λ w. w.end ≤ length l.text) l.words.items
+invariant-loop-index l = All (λ w. w.end ≤ length l.text) l.tokens.items

@@ -3,7 +3,7 @@ use Rattle.std.specs.Str.Lines.{lines}
 use Rattle.gallery_script.specs.declared.case.Case.{Case}
 use Rattle.gallery_script.specs.Cases.{AppliesLines}
 use Rattle.gallery_script.specs.Requests.{gallery_request_of, gallery_request_view}
-use Rattle.gallery_cases.specs.Requests.{IsResponseOf, GalleryErrorMeans, IsFailureOf}
+use Rattle.gallery_cases.specs.Requests.{IsResponseOf, IsRunError, IsResponseError}
 use Rattle.gallery_cases.proofs.Outcomes.{responded, requested, failed}
 use Rattle.gallery_cases.proofs.run.respond.Goals as goal
 
@@ -16,11 +16,11 @@ returns-in_err-response-clause-reported g c =
     let applied_lines = subst (λ (t : List ℕ). AppliesLines (lines t) _ c.in_ok-cases.cases.items)
     c.as_str.ensures.value c.in_ok-cases.ensures.cases in
     let fails = subst
-    (λ (cs : List Case). IsFailureOf (gallery_request_view c.in_ok-request.request) cs
+    (λ (cs : List Case). IsResponseError (gallery_request_view c.in_ok-request.request) cs
     c.in_err-response.field-0.0)
     c.as_slice.ensures.value c.in_err-response.ensures.fails in
-    let reported : IfSome (g.R.Read.remaining c.args.input.now)
-    (GalleryErrorMeans (gallery_request_of (map string_bytes c.args.args.now))
+    let reported : IfSome (g.R.Read.remaining c.args.stdin.now)
+    (IsRunError (gallery_request_of (map string_bytes c.args.args.now))
     c.in_err-response.field-0.0) =
     failed _ _ _ _ c.in_ok-cases.cases.items _ is_requested read applied_lines fails in
     search rules

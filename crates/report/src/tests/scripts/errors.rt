@@ -5,10 +5,10 @@ use std::alloc::Global;
 use std::process::Abort;
 
 /// A script with an error, and the diagnostic of the error in rich style.
-type ScriptError<'script> = (&'script str, &'script str);
+type ScriptWithError<'script> = (&'script str, &'script str);
 
 /// The scripts of `scripts_with_unknown_words`.
-const SCRIPTS_WITH_UNKNOWN_WORDS: [ScriptError<'static>; 5] = [
+const SCRIPTS_WITH_UNKNOWN_WORDS: [ScriptWithError<'static>; 5] = [
     (
         "---\r",
         "error[S1]: unknown word\n\
@@ -52,7 +52,7 @@ const SCRIPTS_WITH_UNKNOWN_WORDS: [ScriptError<'static>; 5] = [
 ];
 
 /// The scripts of `scripts_with_unknown_severities`.
-const SCRIPTS_WITH_UNKNOWN_SEVERITIES: [ScriptError<'static>; 4] = [
+const SCRIPTS_WITH_UNKNOWN_SEVERITIES: [ScriptWithError<'static>; 4] = [
     (
         "severity\n---\n",
         "error[S2]: unknown severity\n\
@@ -88,7 +88,7 @@ const SCRIPTS_WITH_UNKNOWN_SEVERITIES: [ScriptError<'static>; 4] = [
 ];
 
 /// The scripts of `scripts_with_bad_numbers`.
-const SCRIPTS_WITH_BAD_NUMBERS: [ScriptError<'static>; 5] = [
+const SCRIPTS_WITH_BAD_NUMBERS: [ScriptWithError<'static>; 5] = [
     (
         "primary\n---\n",
         "error[S3]: bad number\n\
@@ -132,7 +132,7 @@ const SCRIPTS_WITH_BAD_NUMBERS: [ScriptError<'static>; 5] = [
 ];
 
 /// The scripts of `scripts_without_end`.
-const SCRIPTS_WITHOUT_END: [ScriptError<'static>; 2] = [
+const SCRIPTS_WITHOUT_END: [ScriptWithError<'static>; 2] = [
     (
         "message a\r",
         "error[S5]: missing end of script\n\
@@ -148,7 +148,7 @@ const SCRIPTS_WITHOUT_END: [ScriptError<'static>; 2] = [
 ];
 
 /// The scripts with an unknown word or severity, by name.
-static SCRIPTS_WITH_UNKNOWN: [(&str, &[ScriptError<'static>]); 2] = [
+static SCRIPTS_WITH_UNKNOWN: [(&str, &[ScriptWithError<'static>]); 2] = [
     ("scripts_with_unknown_words", &SCRIPTS_WITH_UNKNOWN_WORDS),
     (
         "scripts_with_unknown_severities",
@@ -157,14 +157,14 @@ static SCRIPTS_WITH_UNKNOWN: [(&str, &[ScriptError<'static>]); 2] = [
 ];
 
 /// The scripts with other errors, by name.
-static SCRIPTS_WITH_OTHER_ERRORS: [(&str, &[ScriptError<'static>]); 2] = [
+static SCRIPTS_WITH_OTHER_ERRORS: [(&str, &[ScriptWithError<'static>]); 2] = [
     ("scripts_with_bad_numbers", &SCRIPTS_WITH_BAD_NUMBERS),
     ("scripts_without_end", &SCRIPTS_WITHOUT_END),
 ];
 
-/// Asserts what is seen of runs of this name over these scripts: the diagnostic is written to the
-/// error output, nothing to the output, and the status is 3.
-fn check_script_errors(rt: &impl Abort, alloc: Global, name: &str, errors: &[ScriptError<'_>]) {
+/// Asserts what is seen of runs of this name over these scripts: the diagnostic is written to
+/// standard error, nothing to standard output, and the status is 3.
+fn check_script_errors(rt: &impl Abort, alloc: Global, name: &str, errors: &[ScriptWithError<'_>]) {
     for (script, diagnostic) in errors {
         check_scripts(rt, alloc, name, &[("rich", *script, ("", *diagnostic, 3))]);
     }

@@ -1,7 +1,7 @@
 use Rattle.std.proofs.Common.{ap}
 use Rattle.examples_library.proofs.config.ParseError.diagnostic.Goals as goal
 
--- the first label is the one on the word
+-- the first label is the one on the token
 pub returns-in_default : goal.returns-in_default
 returns-in_default c =
     rw (

@@ -8,7 +8,7 @@ use Rattle.program_io.proofs.run_error.RunError.write_line.Goals as goal
 pub returns-in_ok-write_all-in-CannotWriteOutput-clause-written : goal.returns-in_ok-write_all-in-CannotWriteOutput-clause-written
 returns-in_ok-write_all-in-CannotWriteOutput-clause-written g c =
     let name = subst
-    (Appends (g.W.Write.contents c.args.error_output.now)
+    (Appends (g.W.Write.contents c.args.stderr.now)
     (g.W.Write.contents c.write_all.new.writer))
     (c.as_bytes.ensures.value ∙ c.program.ensures)
     c.in_ok-write_all-in-CannotWriteOutput.ensures.written in
@@ -18,7 +18,7 @@ returns-in_ok-write_all-in-CannotWriteOutput-clause-written g c =
 pub returns-in_ok-write_all-in-CannotWriteOutput-clause-prefix : goal.returns-in_ok-write_all-in-CannotWriteOutput-clause-prefix
 returns-in_ok-write_all-in-CannotWriteOutput-clause-prefix g c =
     let name = subst
-    (Appends (g.W.Write.contents c.args.error_output.now)
+    (Appends (g.W.Write.contents c.args.stderr.now)
     (g.W.Write.contents c.write_all.new.writer))
     (c.as_bytes.ensures.value ∙ c.program.ensures)
     c.in_ok-write_all-in-CannotWriteOutput.ensures.written in

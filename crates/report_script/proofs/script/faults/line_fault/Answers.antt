@@ -3,12 +3,12 @@ use Rattle.report_script.specs.declared.script.Fault.{Fault}
 use Rattle.report_script.specs.declared.script.words.Word.{Word}
 use Rattle.report_script.specs.declared.script.words.Word.TheVariants.{Severity, Code, Message}
 use Rattle.report_script.specs.ScriptFaults.{line_fault, repetition}
-use Rattle.report_script.specs.ScriptLines.{ScriptLine, is_ignored, word_of}
+use Rattle.report_script.specs.ScriptLines.{ScriptLineView, is_ignored, word_of}
 use Rattle.report_script.specs.ScriptWords.{script_word_named}
 use Rattle.report_script.proofs.script.faults.line_fault.Goals as goal
 
 -- a severity that is repeated is the error, before that of its name
-repeated-first : (before : List ScriptLine) (line : ScriptLine) (fault : Fault)
+repeated-first : (before : List ScriptLineView) (line : ScriptLineView) (fault : Fault)
     → is_ignored line ≡ false → script_word_named (word_of line) ≡ Some Severity
     → Some fault ≡ repetition before line
     → Some fault ≡ line_fault before line
@@ -21,7 +21,7 @@ returns-in-Some c =
     repeated-first _ _ c.in-Some.fault (sym c.if-is_ignored.ensures) named c.in-Some.ensures
 
 -- a code or a message is an error where it is repeated
-repeated-once : (before : List ScriptLine) (line : ScriptLine) (word : Word)
+repeated-once : (before : List ScriptLineView) (line : ScriptLineView) (word : Word)
     → is_ignored line ≡ false → script_word_named (word_of line) ≡ Some word
     → (word ≡ Code) ⊎ (word ≡ Message)
     → repetition before line ≡ line_fault before line

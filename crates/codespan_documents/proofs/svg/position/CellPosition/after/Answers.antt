@@ -2,5 +2,5 @@ use Rattle.std.proofs.Common.{refl}
 use Rattle.codespan_documents.proofs.svg.position.CellPosition.after.Goals as goal
 
 -- a row begins at column 0
-pub returns-then-ends_row-clause-position : goal.returns-then-ends_row-clause-position
-returns-then-ends_row-clause-position c = rw (← c.if-ends_row.ensures) refl
+pub returns-then-is_newline-clause-position : goal.returns-then-is_newline-clause-position
+returns-then-is_newline-clause-position c = rw (← c.if-is_newline.ensures) refl

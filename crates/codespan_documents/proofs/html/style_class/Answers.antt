@@ -1,5 +1,5 @@
 use Rattle.std.proofs.Common.{refl}
-use Rattle.codespan_documents.proofs.html.class_of.Goals as goal
+use Rattle.codespan_documents.proofs.html.style_class.Goals as goal
 
 -- the class of the header of a warning
 pub returns-in-Warning : goal.returns-in-Warning

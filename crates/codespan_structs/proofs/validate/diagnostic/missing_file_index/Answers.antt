@@ -2,7 +2,7 @@ use Rattle.std.proofs.Common.{rules}
 use Rattle.std.proofs.lemmas.Iterator.{IsFirst-from_position, YieldsList-from_slice}
 use borrow.Author.Tests.{tests}
 use Rattle.codespan_structs.specs.Validity.{HasLabelFile}
-use Rattle.codespan_structs.proofs.validate.diagnostic.index_past.Goals as goal
+use Rattle.codespan_structs.proofs.validate.diagnostic.missing_file_index.Goals as goal
 
 pub returns : goal.returns
 returns c =
