@@ -36,7 +36,8 @@ pub record SameOrders {Id : Type 0} (same : Id → Id → Bool) (file : Id → F
   pub multi_line : (id : Id)
       → multi_line_labels_of same file xs id ≡ multi_line_labels_of same file ys id
   pub single_line : (id : Id) (l start end : ℕ)
-      → labels_of_drawn_range same file xs id l start end ≡ labels_of_drawn_range same file ys id l start end
+      → labels_of_drawn_range same file xs id l start end
+      ≡ labels_of_drawn_range same file ys id l start end
 
 -- both orders have the same bytes of loci, and with any loci they render the same
 pub record RenderSame {Id : Type 0} (same : Id → Id → Bool) (file : Id → FileModel)
