@@ -7,7 +7,7 @@ use Rattle.std.proofs.lemmas.Bool.{cases_Bool, eq-eqb, or_right}
 use Rattle.std.proofs.lemmas.Bool.Decides.{nat_tests}
 use Rattle.codespan_base.specs.FileModel.{FileModel}
 use Rattle.codespan_base.specs.Labels.{LabelModel, is_primary, is_single, first_line, drawn_label, multi_line_labels, single_labels}
-use Rattle.codespan_laws.specs.OrderLaws.{is_drawn_at}
+use Rattle.codespan_laws.specs.OrderLaws.{has_drawn_range}
 use Rattle.codespan_picture.specs.Snippets.{least, if_any, locus_byte_of}
 use Rattle.codespan_picture.proofs.OrderSorts.{has_range, sorted-same}
 use Rattle.codespan_picture.proofs.HangingStarts.{any-filter}
@@ -19,7 +19,7 @@ use Rattle.codespan_picture.proofs.SortedFilters.{filter-reverse}
 
 -- the label is inside the line and has this drawn range there
 abbrev pub is_inside : FileModel → ℕ → ℕ → ℕ → LabelModel → Bool
-is_inside f l start end x = is_single f x && (first_line f x == l) && is_drawn_at f start end x
+is_inside f l start end x = is_single f x && (first_line f x == l) && has_drawn_range f start end x
 
 -- the orders of a file's labels that its snippet shows
 pub record AreEqual (f : FileModel) (xs ys : List LabelModel) : Type 0 where
@@ -182,7 +182,7 @@ line_range f xs l start end =
     filter-reverse (has_range start end) (map (drawn_label f) (filter on_line xs))
     ∙ ap reverse (filter-map (has_range start end) (drawn_label f) (filter on_line xs))
     ∙ ap (λ ys. reverse (map (drawn_label f) ys))
-    (filter-filter (is_drawn_at f start end) on_line xs)
+    (filter-filter (has_drawn_range f start end) on_line xs)
 
 -- the labels of a line are in the same order
 pub singles-same : (f : FileModel) (xs ys : List LabelModel) → AreEqual f xs ys → (l : ℕ)

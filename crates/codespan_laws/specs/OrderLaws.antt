@@ -10,8 +10,8 @@ use Rattle.codespan_picture.specs.Snippets.{LabelInFile, file_ids, labeled_file_
 use Rattle.codespan_picture.specs.OutputStreams.{rendered, locus_bytes}
 
 -- the label has this drawn range
-abbrev pub is_drawn_at : FileModel → ℕ → ℕ → LabelModel → Bool
-is_drawn_at f start end x =
+abbrev pub has_drawn_range : FileModel → ℕ → ℕ → LabelModel → Bool
+has_drawn_range f start end x =
     let drawn = drawn_label f x in (drawn.start == start) && (drawn.end == end)
 
 -- the multi-line labels of a file, in the order of the list
@@ -21,11 +21,11 @@ multi_line_labels_of same file xs id =
     multi_line_labels (file id) (labeled_file_model same file xs id).labels
 
 -- the single-line labels of a line that have this drawn range, in the order of the list
-abbrev pub one_range_of : {Id : Type 0}
+abbrev pub labels_of_drawn_range : {Id : Type 0}
     → (Id → Id → Bool) → (Id → FileModel) → List (LabelInFile Id) → Id → ℕ → ℕ → ℕ → List LabelModel
-one_range_of same file xs id l start end =
+labels_of_drawn_range same file xs id l start end =
     filter (λ x. is_single (file id) x && (first_line (file id) x == l)
-    && is_drawn_at (file id) start end x) (labeled_file_model same file xs id).labels
+    && has_drawn_range (file id) start end x) (labeled_file_model same file xs id).labels
 
 -- two lists of labels agree in each order that a rich output shows: of the files, whose ids need
 -- only be equal, one by one, of each file's multi-line labels, and of the single-line labels of a
@@ -36,7 +36,8 @@ pub record SameOrders {Id : Type 0} (same : Id → Id → Bool) (file : Id → F
   pub multi_line : (id : Id)
       → multi_line_labels_of same file xs id ≡ multi_line_labels_of same file ys id
   pub single_line : (id : Id) (l start end : ℕ)
-      → one_range_of same file xs id l start end ≡ one_range_of same file ys id l start end
+      → labels_of_drawn_range same file xs id l start end
+      ≡ labels_of_drawn_range same file ys id l start end
 
 -- both orders have the same bytes of loci, and with any loci they render the same
 pub record RenderSame {Id : Type 0} (same : Id → Id → Bool) (file : Id → FileModel)
