@@ -1,6 +1,6 @@
 -- Facts on a loop that makes something of each label that passes a test, for the clauses of
 -- `diagnostics`.
-use Rattle.std.proofs.Common.{◌≡◌, ℕ, ◌+◌, ◌<◌, ◌≤◌, true, false, Bool, List, [], ◌∷◌, ◌++◌, length, get_or, drop, map, Option, Some, None, ap, sym, ◌∙◌, refl, append_assoc, append-nil}
+use Rattle.std.proofs.Common.{◌≡◌, ℕ, ◌+◌, ◌<◌, ◌≤◌, true, false, Bool, List, [], ◌∷◌, ◌++◌, length, get_or, drop, map, Option, Some, None, ap, sym, ◌∙◌, refl, subst, append_assoc, append-nil}
 use Rattle.std.specs.Prelude.{filter, string_bytes}
 use Rattle.std.proofs.lemmas.List.{drop_all, drop_more, map_push}
 use Rattle.codespan_base.specs.FileModel.{FileDatabase, or_failure}
@@ -17,11 +17,14 @@ use Rattle.codespan_lsp.specs.declared.spans.Range.{Range}
 use Rattle.codespan_lsp.specs.declared.diagnostics.RelatedInformation.{RelatedInformation}
 use Rattle.codespan_lsp.specs.declared.encoding.PositionEncoding.{PositionEncoding}
 
-module _ {A : Type 0} (p : A → Bool) (items : List A) (i : ℕ) (x : A) (inside : i < length items)
-    (is : x ≡ get_or items i x) where
+-- in a loop over a slice of all items
+module _ {A : Type 0} (p : A → Bool) (items : List A) (i : ℕ) (x : A) {slice : List A}
+    (same : slice ≡ items) (inside : i < length slice) (is : x ≡ get_or slice i x) where
   -- the item at i is the next one
   next : drop i items ≡ x ∷ drop (i + 1) items
-  next = drop_more items i x inside ∙ ap (λ y. y ∷ drop (i + 1) items) (sym is)
+  next =
+      subst (λ (xs : List A). drop i xs ≡ x ∷ drop (i + 1) xs) same
+      (drop_more slice i x inside ∙ ap (λ y. y ∷ drop (i + 1) slice) (sym is))
 
   -- it passes
   pub passing-more : p x ≡ true → filter p (drop i items) ≡ x ∷ filter p (drop (i + 1) items)

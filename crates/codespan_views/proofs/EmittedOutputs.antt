@@ -18,7 +18,7 @@ use Rattle.codespan_core.specs.Writers.{fresh_plain_ref_sink, fresh_sink, plain_
 use Rattle.codespan_picture.specs.Rows.{Locus}
 use Rattle.codespan_picture.specs.Utf8Laws.{CharsAreScalars}
 use Rattle.codespan_picture.proofs.PictureTexts.{text-output}
-use Rattle.codespan_views.specs.EmitErrors.{WrittenBefore}
+use Rattle.codespan_views.specs.EmitErrors.{FailsAtLabel, WrittenBefore}
 use Rattle.codespan_views.specs.Output.{IsEmitError, IsRendered}
 use Rattle.codespan_views.specs.WriteCalls.{WritesStyled, WritesText}
 
@@ -54,6 +54,27 @@ text_prefix old new s plain p =
       contents = p.contents;
     }
 
+-- the headers that have been written before a lookup for a label's header fails, in other words
+-- about the writer
+FailsAtLabel-other : {Id : Type 0} {view_config : Config} {files : FileDatabase Id}
+    {d : Diagnostic Id} {loci : List Locus} {A B : Type 0} {P Q : List Locus → Type 0} {e : Error}
+    → ((ps : List Locus) → P ps → Q ps)
+    → FailsAtLabel view_config files d loci A P e → FailsAtLabel view_config files d loci B Q e
+FailsAtLabel-other wrote left =
+    record {
+      before =
+          left.before;
+      here =
+          left.here;
+      after =
+          left.after;
+      whole =
+          left.whole;
+      succeed = left.succeed;
+      fails = left.fails;
+      wrote = wrote _ left.wrote;
+    }
+
 -- what has been written before an error of lookups, in other words about the writer
 written_before-other : {Id : Type 0} (files : FileDatabase Id) (view_config : Config)
     (d : Diagnostic Id) (loci : List Locus) (style : DisplayStyle) {A B : Type 0}
@@ -64,33 +85,9 @@ written_before-other : {Id : Type 0} (files : FileDatabase Id) (view_config : Co
 written_before-other files view_config d loci Rich e unchanged wrote left =
     λ h. ⊎_elim (λ a. inl (unchanged a)) (λ k. inr k) (left h)
 written_before-other files view_config d loci Medium e unchanged wrote left =
-    record {
-      before =
-          left.before;
-      here =
-          left.here;
-      after =
-          left.after;
-      whole =
-          left.whole;
-      succeed = left.succeed;
-      fails = left.fails;
-      wrote = wrote _ left.wrote;
-    }
+    FailsAtLabel-other wrote left
 written_before-other files view_config d loci Short e unchanged wrote left =
-    record {
-      before =
-          left.before;
-      here =
-          left.here;
-      after =
-          left.after;
-      whole =
-          left.whole;
-      succeed = left.succeed;
-      fails = left.fails;
-      wrote = wrote _ left.wrote;
-    }
+    FailsAtLabel-other wrote left
 
 module _ {Id : Type 0} {config : Config} {files : FileDatabase Id} {d : Diagnostic Id} where
   -- the output that was rendered to a plain writer is what that writer has received

@@ -3,24 +3,22 @@ use Rattle.std.specs.declared.alloc.AllocError.{AllocError}
 use Rattle.std.specs.Str.Lines.{lines}
 use Rattle.std.proofs.lemmas.Iterator.Consumers.{map_from_collect}
 use Rattle.std.proofs.lemmas.Iterator.Splits.{YieldsList-from_lines}
+use Rattle.gallery_script.proofs.cases.parse_cases.Goals.{After-as_slice}
 use Rattle.gallery_script.proofs.cases.parse_cases.Goals as goal
+
+-- the lines that are applied are those of the input
+are_lines : (c : After-as_slice)
+    → map (λ (line : Bor (List ℕ)). line.now) c.as_slice.result.now ≡ lines c.args.input.now
+are_lines c =
+    ap (map (λ (line : Bor (List ℕ)). line.now)) c.as_slice.ensures.value
+    ∙ map_from_collect {E = AllocError} (Ok c.in_ok-lines.lines) c.in_ok-lines.ensures.ran
+    (YieldsList-from_lines c.args.input.now c.lines.ensures.rest)
 
 pub returns-clause-cases : goal.returns-clause-cases
 returns-clause-cases c =
-    let collected =
-    map_from_collect {E = AllocError} (Ok c.in_ok-lines.lines) c.in_ok-lines.ensures.ran
-    (YieldsList-from_lines c.args.input.now c.lines.ensures.rest) in
-    let same : map (λ (line : Bor (List ℕ)). line.now) c.as_slice.result.now
-    ≡ lines c.args.input.now =
-    ap (map (λ (line : Bor (List ℕ)). line.now)) c.as_slice.ensures.value ∙ collected in
-    rw same at c.apply_lines.ensures.cases
+    rw (are_lines (goal.at.returns-clause-cases c).After-as_slice) at c.apply_lines.ensures.cases
 
 pub returns-clause-line_error : goal.returns-clause-line_error
 returns-clause-line_error c =
-    let collected =
-    map_from_collect {E = AllocError} (Ok c.in_ok-lines.lines) c.in_ok-lines.ensures.ran
-    (YieldsList-from_lines c.args.input.now c.lines.ensures.rest) in
-    let same : map (λ (line : Bor (List ℕ)). line.now) c.as_slice.result.now
-    ≡ lines c.args.input.now =
-    ap (map (λ (line : Bor (List ℕ)). line.now)) c.as_slice.ensures.value ∙ collected in
-    rw same at c.apply_lines.ensures.line_error
+    rw (are_lines (goal.at.returns-clause-line_error c).After-as_slice) at
+    c.apply_lines.ensures.line_error

@@ -1,4 +1,4 @@
-use Rattle.std.proofs.Common.{◌≡◌, ◌<◌, ◌≤◌, length, get_or, Err, ap, sym, ◌∙◌, refl, arith, rules, string_bytes}
+use Rattle.std.proofs.Common.{◌≡◌, ◌≤◌, length, Err, ap, sym, ◌∙◌, refl, arith, rules, string_bytes}
 use Rattle.std.specs.Prelude.{not}
 use Rattle.std.proofs.lemmas.Result.{err_from_is_err_and}
 use Rattle.codespan_base.specs.Labels.{is_primary_style}
@@ -13,14 +13,11 @@ pub returns-in_err-range-clause-failed : goal.returns-in_err-range-clause-failed
 returns-in_err-range-clause-failed g c =
     let p = err_from_is_err_and c.from_residual.result c.from_residual.ensures.1 in
     let database = g.F.Files.database c.args.files.now in
-    let items = c.args.labels.now.items in
-    let i = c.loop-label.label-index in
     let x = c.label-item.result in
     let same = c.deref-label-items.ensures.value in
-    let inside : i < length items = omega (arith, c.loop-label-test.true, ap length same) in
-    let is : x ≡ get_or items i x = c.label-item.is ∙ ap (λ xs. get_or xs i x) same in
-    let more = passing-more (λ label. not (is_primary_style label.style)) items i x inside is
-    (ap not (sym c.is_primary.ensures ∙ c.if-not-is_primary.true)) in
+    let inside = c.loop-label-test.true in
+    let more = passing-more (λ label. not (is_primary_style label.style)) _ _ x same inside
+    c.label-item.is (ap not (sym c.is_primary.ensures ∙ c.if-not-is_primary.true)) in
     rw (p.1 ∙ ap Err p.2) (λ memory.
     failure-here (label_range_failure c.args.self database) x _ _ _ _ c.loop-label.invariant.failure
     more (c.in_err-range.ensures.failed memory))
@@ -28,17 +25,14 @@ returns-in_err-range-clause-failed g c =
 pub loop-label-preserved : goal.loop-label-preserved
 loop-label-preserved g c =
     let database = g.F.Files.database c.args.files.now in
-    let items = c.args.labels.now.items in
-    let i = c.loop-label.label-index in
     let x = c.label-item.result in
     let same = c.deref-label-items.ensures.value in
-    let inside : i < length items = omega (arith, c.loop-label-test.true, ap length same) in
-    let is : x ≡ get_or items i x = c.label-item.is ∙ ap (λ xs. get_or xs i x) same in
+    let inside = c.loop-label-test.true in
     let was = c.loop-label.invariant in
     elim c.if-not-is_primary.branch [
       | then-not-is_primary+in_ok-range+in_ok-message+in_ok-push w ↦
-          let more = passing-more (λ label. not (is_primary_style label.style)) items i x inside is
-          (ap not (sym c.is_primary.ensures ∙ w.if-not-is_primary.true)) in
+          let more = passing-more (λ label. not (is_primary_style label.style)) _ _ x same inside
+          c.label-item.is (ap not (sym c.is_primary.ensures ∙ w.if-not-is_primary.true)) in
           let y : RelatedInformation g.row.F-FileId.Denot = record {
             file_id =
                 x.file_id;
@@ -59,8 +53,8 @@ loop-label-preserved g c =
                 w.in_ok-range.ensures.failed;
           }
       | else-not-is_primary w ↦
-          let skip = passing-skip (λ label. not (is_primary_style label.style)) items i x inside is
-          (ap not (sym c.is_primary.ensures ∙ w.if-not-is_primary.false)) in
+          let skip = passing-skip (λ label. not (is_primary_style label.style)) _ _ x same inside
+          c.label-item.is (ap not (sym c.is_primary.ensures ∙ w.if-not-is_primary.false)) in
           record {
             views = rw (w.related-is, ← skip) was.views;
             failure = rw (← skip) was.failure;

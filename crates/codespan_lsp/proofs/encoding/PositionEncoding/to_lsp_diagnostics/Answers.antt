@@ -1,4 +1,4 @@
-use Rattle.std.proofs.Common.{◌≡◌, ◌<◌, ◌≤◌, length, get_or, Err, ap, sym, ◌∙◌, arith}
+use Rattle.std.proofs.Common.{◌≤◌, length, Err, ap, sym, ◌∙◌, arith}
 use Rattle.std.proofs.lemmas.Result.{err_from_is_err_and}
 use Rattle.codespan_base.specs.Labels.{is_primary_style}
 use Rattle.codespan_lsp.specs.LspDiagnostics.{lsp_view, lsp_view_for, lsp_failure}
@@ -11,14 +11,11 @@ pub returns-in_err-lsp_diagnostic-clause-failed : goal.returns-in_err-lsp_diagno
 returns-in_err-lsp_diagnostic-clause-failed g c =
     let p = err_from_is_err_and c.from_residual.result c.from_residual.ensures.1 in
     let database = g.F.Files.database c.args.files.now in
-    let items = c.args.diagnostic.now.labels.items in
-    let i = c.loop-label.label-index in
     let x = c.label-item.result in
     let same = c.deref-label-items.ensures.value in
-    let inside : i < length items = omega (arith, c.loop-label-test.true, ap length same) in
-    let is : x ≡ get_or items i x = c.label-item.is ∙ ap (λ xs. get_or xs i x) same in
-    let more = passing-more (λ label. is_primary_style label.style) items i x inside is
-    (sym c.is_primary.ensures ∙ c.if-is_primary.true) in
+    let inside = c.loop-label-test.true in
+    let more = passing-more (λ label. is_primary_style label.style) _ _ x same inside
+    c.label-item.is (sym c.is_primary.ensures ∙ c.if-is_primary.true) in
     rw (p.1 ∙ ap Err p.2) (λ memory.
     failure-here (lsp_failure c.args.self database c.args.diagnostic.now) x _ _ _ _
     c.loop-label.invariant.failure more
@@ -28,17 +25,14 @@ pub loop-label-preserved : goal.loop-label-preserved
 loop-label-preserved g c =
     let database = g.F.Files.database c.args.files.now in
     let d = c.args.diagnostic.now in
-    let items = d.labels.items in
-    let i = c.loop-label.label-index in
     let x = c.label-item.result in
     let same = c.deref-label-items.ensures.value in
-    let inside : i < length items = omega (arith, c.loop-label-test.true, ap length same) in
-    let is : x ≡ get_or items i x = c.label-item.is ∙ ap (λ xs. get_or xs i x) same in
+    let inside = c.loop-label-test.true in
     let was = c.loop-label.invariant in
     elim c.if-is_primary.branch [
       | then-is_primary+in_ok-lsp_diagnostic+in_ok-push w ↦
-          let more = passing-more (λ label. is_primary_style label.style) items i x inside is
-          (sym c.is_primary.ensures ∙ w.if-is_primary.true) in
+          let more = passing-more (λ label. is_primary_style label.style) _ _ x same inside
+          c.label-item.is (sym c.is_primary.ensures ∙ w.if-is_primary.true) in
           record {
             views =
                 views-push lsp_view (lsp_view_for c.args.self database d) c.loop-label.found.items
@@ -50,8 +44,8 @@ loop-label-preserved g c =
                 w.in_ok-lsp_diagnostic.ensures.failed;
           }
       | else-is_primary w ↦
-          let skip = passing-skip (λ label. is_primary_style label.style) items i x inside is
-          (sym c.is_primary.ensures ∙ w.if-is_primary.false) in
+          let skip = passing-skip (λ label. is_primary_style label.style) _ _ x same inside
+          c.label-item.is (sym c.is_primary.ensures ∙ w.if-is_primary.false) in
           record {
             views = rw (w.found-is, ← skip) was.views;
             failure = rw (← skip) was.failure;
