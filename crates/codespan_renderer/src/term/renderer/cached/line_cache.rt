@@ -21,17 +21,17 @@ use std::alloc::Global;
 ///
 /// One value serves many lines, so that its memory is allocated once.
 #[derive(Drop)]
-pub struct LineMetrics {
+pub struct LineCache {
     /// The first characters, from left to right, as far as the rows reach.
     cached: Vec<Metrics>,
     /// The pointers under the characters from which labels hang.
     pointers: Vec<Pointer>,
 }
 
-impl LineMetrics {
+impl LineCache {
     /// Returns an empty cache. It allocates nothing.
-    pub fn new(alloc: Global) -> LineMetrics {
-        LineMetrics {
+    pub fn new(alloc: Global) -> LineCache {
+        LineCache {
             cached: Vec::new(alloc),
             pointers: Vec::new(alloc),
         }

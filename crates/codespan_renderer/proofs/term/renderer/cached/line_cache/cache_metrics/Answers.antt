@@ -1,5 +1,5 @@
 use Rattle.codespan_renderer.proofs.CachedScans.{cached-pushed, past-scan}
-use Rattle.codespan_renderer.proofs.term.renderer.cached.line_metrics.cache_metrics.Goals as goal
+use Rattle.codespan_renderer.proofs.term.renderer.cached.line_cache.cache_metrics.Goals as goal
 
 pub loop-metrics-preserved : goal.loop-metrics-preserved
 loop-metrics-preserved c =
