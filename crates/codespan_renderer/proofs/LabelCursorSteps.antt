@@ -17,7 +17,7 @@ use Rattle.codespan_picture.specs.CharMetrics.{metrics_then, placeholder, width_
 use Rattle.codespan_renderer.specs.Private.MetricsLeft.{after_last, no_more}
 use Rattle.codespan_picture.specs.Carets.{covers}
 use Rattle.codespan_picture.specs.Arguments.{SingleLabelTuple, single_label_view, single_label_views, starts_from}
-use Rattle.codespan_renderer.specs.declared.term.renderer.cached.cached_metrics.CachedMetrics.{CachedMetrics}
+use Rattle.codespan_renderer.specs.declared.term.renderer.cached.metrics_from_cache.MetricsFromCache.{MetricsFromCache}
 use Rattle.codespan_renderer.specs.Private.CachedMetrics.{cached_left}
 use Rattle.codespan_picture.specs.Private.CharCursors.{AreContiguous, is_covered}
 use Rattle.codespan_renderer.specs.Private.CursorStates.{IsBefore, HasReturned}
@@ -244,7 +244,7 @@ cursor-goes_on s rest c returned =
     ∣₁)
 
 -- as it does where none is left
-pub cursor-next : (s : LabelCursor) (old new : CachedMetrics) (r : Option Metrics)
+pub cursor-next : (s : LabelCursor) (old new : MetricsFromCache) (r : Option Metrics)
     → YieldsFirst cached_left old r new → ∥ IsBefore s (cached_left old) ∥₁
     → ∥ IsBefore s (cached_left new) ∥₁
 cursor-next s old new (Some c) step before_it =
@@ -254,7 +254,7 @@ cursor-next s old new None ends before_it =
     subst (λ (cs : List Metrics). ∥ IsBefore s cs ∥₁) (ends.0 ∙ sym ends.1) before_it
 
 -- what it has returned
-pub cursor-next_returned : (s : LabelCursor) (old new : CachedMetrics) (r : Option Metrics)
+pub cursor-next_returned : (s : LabelCursor) (old new : MetricsFromCache) (r : Option Metrics)
     → YieldsFirst cached_left old r new → ∥ IsBefore s (cached_left old) ∥₁
     → IfSome r (λ c. ∥ HasReturned c s (cached_left new) ∥₁)
 cursor-next_returned s old new (Some c) step before_it =

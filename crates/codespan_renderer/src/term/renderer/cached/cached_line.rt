@@ -14,7 +14,7 @@ ghost use Rattle.codespan_renderer.specs.Private.PointerLists.{pointers_in};
 ghost use Rattle.codespan_picture.specs.Private.Runs.{least_start};
 
 use crate::term::renderer::Renderer;
-use crate::term::renderer::cached::cached_metrics::CachedMetrics;
+use crate::term::renderer::cached::metrics_from_cache::MetricsFromCache;
 use crate::term::renderer::cached::label_cursor::LabelCursor;
 use crate::term::renderer::cached::pointers::{Pointer, write_pointers};
 use crate::term::renderer::char_metrics::{CharMetrics, Metrics};
@@ -34,7 +34,7 @@ use codespan_picture::rows::pointers::max_label_start;
 /// starts, each of them once.
 #[derive(Drop)]
 pub struct CachedCursor<'cache, 'row, 'd> {
-    characters: CachedMetrics<'cache, 'row>,
+    characters: MetricsFromCache<'cache, 'row>,
     label_cursor: LabelCursor<'row, 'd>,
     ghost state: { ∥ IsBefore label_cursor (cached_left characters) ∥₁ },
 }
@@ -155,7 +155,7 @@ impl<'cache, 'row, 'd> CachedLine<'cache, 'row, 'd> {
         ensures labels { result.label_cursor.labels.now ≡ self.now.line.labels.now }
     {
         CachedCursor {
-            characters: CachedMetrics {
+            characters: MetricsFromCache {
                 cached: &self.cached[skipped..],
                 rest: self.rest.fork(has_placeholder),
             },

@@ -10,7 +10,7 @@ ghost use Rattle.codespan_renderer.specs.Private.PointerLists.{pointer_under, po
 ghost use Rattle.codespan_picture.specs.Rows.{hanging_labels};
 ghost use Rattle.codespan_picture.specs.Private.Runs.{AreHanging};
 
-use crate::term::renderer::cached::cached_metrics::CachedMetrics;
+use crate::term::renderer::cached::metrics_from_cache::MetricsFromCache;
 use crate::term::renderer::cached::label_cursor::StartCursor;
 use crate::term::renderer::char_metrics::Metrics;
 use codespan_core::diagnostic::LabelStyle;
@@ -81,7 +81,7 @@ pub fn find_pointers(
     tab_width: usize,
     line: Line<'_, '_>,
     messages: Messages<'_, '_>,
-    characters: CachedMetrics<'_, '_>,
+    characters: MetricsFromCache<'_, '_>,
 ) -> Result<(), Error>
     requires hanging_labels { AreHanging line.labels.now messages.before.now messages.after.now }
     requires before_trailing { IsTrue (starts_in_order (single_label_views messages.before.now)) }

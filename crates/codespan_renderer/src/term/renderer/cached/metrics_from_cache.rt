@@ -5,14 +5,14 @@ use crate::term::renderer::char_metrics::{CharMetrics, Metrics};
 /// The characters of a line, from left to right: those that are cached, and then those that an
 /// iterator goes on with.
 #[derive(Drop)]
-pub struct CachedMetrics<'cache, 'text> {
+pub struct MetricsFromCache<'cache, 'text> {
     /// The cached ones that are left.
     pub cached: &'cache [Metrics],
     /// The iterator over those after them.
     pub rest: CharMetrics<'text>,
 }
 
-impl<'cache, 'text> Iterator for CachedMetrics<'cache, 'text> {
+impl<'cache, 'text> Iterator for MetricsFromCache<'cache, 'text> {
     ghost use Rattle.std.specs.Iterator.{YieldsFirst, item_count};
     ghost use Rattle.codespan_renderer.specs.Private.CachedMetrics.{cached_left};
 
