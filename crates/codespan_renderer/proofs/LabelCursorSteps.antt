@@ -18,7 +18,7 @@ use Rattle.codespan_renderer.specs.Private.MetricsLeft.{after_last, no_more}
 use Rattle.codespan_picture.specs.Carets.{covers}
 use Rattle.codespan_picture.specs.Arguments.{SingleLabelTuple, single_label_view, single_label_views, starts_from}
 use Rattle.codespan_renderer.specs.declared.term.renderer.cached.metrics_from_cache.MetricsFromCache.{MetricsFromCache}
-use Rattle.codespan_renderer.specs.Private.CachedMetrics.{cached_left}
+use Rattle.codespan_renderer.specs.Private.CachedMetrics.{remaining_from_cache}
 use Rattle.codespan_picture.specs.Private.CharCursors.{AreContiguous, is_covered}
 use Rattle.codespan_renderer.specs.Private.CursorStates.{IsBefore, HasReturned}
 use Rattle.codespan_renderer.specs.Private.LabelCursors.{end_with, IsCoverEnd, HasPassedLabels}
@@ -245,20 +245,20 @@ cursor-goes_on s rest c returned =
 
 -- as it does where none is left
 pub cursor-next : (s : LabelCursor) (old new : MetricsFromCache) (r : Option Metrics)
-    → YieldsFirst cached_left old r new → ∥ IsBefore s (cached_left old) ∥₁
-    → ∥ IsBefore s (cached_left new) ∥₁
+    → YieldsFirst remaining_from_cache old r new → ∥ IsBefore s (remaining_from_cache old) ∥₁
+    → ∥ IsBefore s (remaining_from_cache new) ∥₁
 cursor-next s old new (Some c) step before_it =
-    cursor-goes_on s (cached_left new) c
-    (cursor-returns s (cached_left old) (cached_left new) c step before_it)
+    cursor-goes_on s (remaining_from_cache new) c
+    (cursor-returns s (remaining_from_cache old) (remaining_from_cache new) c step before_it)
 cursor-next s old new None ends before_it =
     subst (λ (cs : List Metrics). ∥ IsBefore s cs ∥₁) (ends.0 ∙ sym ends.1) before_it
 
 -- what it has returned
 pub cursor-next_returned : (s : LabelCursor) (old new : MetricsFromCache) (r : Option Metrics)
-    → YieldsFirst cached_left old r new → ∥ IsBefore s (cached_left old) ∥₁
-    → IfSome r (λ c. ∥ HasReturned c s (cached_left new) ∥₁)
+    → YieldsFirst remaining_from_cache old r new → ∥ IsBefore s (remaining_from_cache old) ∥₁
+    → IfSome r (λ c. ∥ HasReturned c s (remaining_from_cache new) ∥₁)
 cursor-next_returned s old new (Some c) step before_it =
-    cursor-returns s (cached_left old) (cached_left new) c step before_it
+    cursor-returns s (remaining_from_cache old) (remaining_from_cache new) c step before_it
 cursor-next_returned s old new None ends before_it = tt
 
 pub cursor-passed : (s t : LabelCursor) (rest : List Metrics) (c : Metrics)

@@ -10,8 +10,8 @@ use Rattle.codespan_renderer.specs.declared.term.renderer.cached.metrics_from_ca
 use Rattle.codespan_renderer.specs.Private.MetricsLeft.{MetricsAfterEnd, metrics_from, metrics_left, no_more}
 
 -- the characters that are left: the cached ones, and then those of the iterator
-abbrev pub cached_left : MetricsFromCache → List Metrics
-cached_left s = s.cached.now ++ metrics_left s.rest
+abbrev pub remaining_from_cache : MetricsFromCache → List Metrics
+remaining_from_cache s = s.cached.now ++ metrics_left s.rest
 
 -- the cached characters and those of the iterator are all characters of the text, whatever is after
 -- the last one

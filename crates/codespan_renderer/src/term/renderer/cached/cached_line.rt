@@ -8,7 +8,7 @@ ghost use Rattle.codespan_picture.specs.Arguments.{lane_mark_view, single_label_
 ghost use Rattle.codespan_picture.specs.Rows.{hanging_labels};
 ghost use Rattle.codespan_renderer.specs.Private.MetricsLeft.{after_last};
 ghost use Rattle.codespan_renderer.specs.Private.CursorStates.{IsBefore, HasReturned};
-ghost use Rattle.codespan_renderer.specs.Private.CachedMetrics.{AreCached, ReachesPast, cached_left, reach_of};
+ghost use Rattle.codespan_renderer.specs.Private.CachedMetrics.{AreCached, ReachesPast, remaining_from_cache, reach_of};
 ghost use Rattle.codespan_picture.specs.Private.LineCharacters.{EndBy};
 ghost use Rattle.codespan_renderer.specs.Private.PointerLists.{pointers_in};
 ghost use Rattle.codespan_picture.specs.Private.Runs.{least_start};
@@ -36,15 +36,15 @@ use codespan_picture::rows::pointers::max_label_start;
 pub struct CachedCursor<'cache, 'row, 'd> {
     characters: MetricsFromCache<'cache, 'row>,
     label_cursor: LabelCursor<'row, 'd>,
-    ghost state: { ∥ IsBefore label_cursor (cached_left characters) ∥₁ },
+    ghost state: { ∥ IsBefore label_cursor (remaining_from_cache characters) ∥₁ },
 }
 
 impl<'cache, 'row, 'd> CharCursor for CachedCursor<'cache, 'row, 'd> {
-    ghost left = { λ s. cached_left s.characters };
+    ghost left = { λ s. remaining_from_cache s.characters };
 
     ghost labels = { λ s. s.label_cursor.labels.now };
 
-    ghost has_returned = { λ c s. ∥ HasReturned c s.label_cursor (cached_left s.characters) ∥₁ };
+    ghost has_returned = { λ c s. ∥ HasReturned c s.label_cursor (remaining_from_cache s.characters) ∥₁ };
 
     #[inline(always)]
     fn next_metrics(&mut self) -> Option<Metrics> {
@@ -149,7 +149,7 @@ impl<'cache, 'row, 'd> CachedLine<'cache, 'row, 'd> {
     #[inline(always)]
     fn cursor(&self, skipped: usize, has_placeholder: bool) -> CachedCursor<'cache, 'row, 'd>
         requires { skipped ≤ length self.now.cached.now }
-        ensures left { take skipped self.now.cached.now ++ cached_left result.characters
+        ensures left { take skipped self.now.cached.now ++ remaining_from_cache result.characters
             ≡ metrics_then (after_last has_placeholder) self.now.tab_width 0 0
             (chars self.now.line.text.now) }
         ensures labels { result.label_cursor.labels.now ≡ self.now.line.labels.now }

@@ -14,13 +14,13 @@ pub struct MetricsFromCache<'cache, 'text> {
 
 impl<'cache, 'text> Iterator for MetricsFromCache<'cache, 'text> {
     ghost use Rattle.std.specs.Iterator.{YieldsFirst, item_count};
-    ghost use Rattle.codespan_renderer.specs.Private.CachedMetrics.{cached_left};
+    ghost use Rattle.codespan_renderer.specs.Private.CachedMetrics.{remaining_from_cache};
 
     type Item = Metrics;
 
-    ghost next_gives = { YieldsFirst cached_left };
+    ghost next_gives = { YieldsFirst remaining_from_cache };
 
-    ghost remaining = { item_count cached_left };
+    ghost remaining = { item_count remaining_from_cache };
 
     #[inline(always)]
     fn next(&mut self) -> Option<Metrics> {
