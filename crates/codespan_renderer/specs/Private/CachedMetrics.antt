@@ -7,11 +7,11 @@ use Rattle.codespan_picture.specs.CharMetrics.{metrics_then}
 use Rattle.codespan_picture.specs.RowParts.{metrics_up_to}
 use Rattle.codespan_renderer.specs.declared.term.renderer.char_metrics.CharMetrics.{CharMetrics}
 use Rattle.codespan_renderer.specs.declared.term.renderer.cached.metrics_from_cache.MetricsFromCache.{MetricsFromCache}
-use Rattle.codespan_renderer.specs.Private.MetricsLeft.{MetricsAfterEnd, metrics_from, metrics_left, no_more}
+use Rattle.codespan_renderer.specs.Private.MetricsLeft.{MetricsAfterEnd, metrics_from, remaining_metrics, no_more}
 
 -- the characters that are left: the cached ones, and then those of the iterator
 abbrev pub remaining_from_cache : MetricsFromCache → List Metrics
-remaining_from_cache s = s.cached.now ++ metrics_left s.rest
+remaining_from_cache s = s.cached.now ++ remaining_metrics s.rest
 
 -- the cached characters and those of the iterator are all characters of the text, whatever is after
 -- the last one

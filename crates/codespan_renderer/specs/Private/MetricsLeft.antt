@@ -25,8 +25,8 @@ metrics_from after s =
     metrics_then after s.tab_width s.byte_index s.column (chars (chars_rest s.chars))
 
 -- the characters that it has not returned yet
-abbrev pub metrics_left : CharMetrics → List Metrics
-metrics_left s = metrics_from (after_last s.has_placeholder) s
+abbrev pub remaining_metrics : CharMetrics → List Metrics
+remaining_metrics s = metrics_from (after_last s.has_placeholder) s
 
 -- the iterator goes over a character
 pub record GoesOver (c : Metrics) (old new : CharMetrics) : Type 0 where
