@@ -8,7 +8,7 @@ use Rattle.codespan_picture.specs.CharMetrics.{metrics_then}
 use Rattle.codespan_picture.specs.RowParts.{metrics_up_to}
 use Rattle.codespan_picture.proofs.Consecutive.{char_metrics-consecutive}
 use Rattle.codespan_renderer.specs.declared.term.renderer.char_metrics.CharMetrics.{CharMetrics}
-use Rattle.codespan_renderer.specs.Private.MetricsLeft.{MetricsAfterEnd, GoesOver, after_last, metrics_from, remaining_metrics, no_more}
+use Rattle.codespan_renderer.specs.Private.RemainingMetrics.{MetricsAfterEnd, GoesOver, after_last, metrics_from, remaining_metrics, no_more}
 use Rattle.codespan_renderer.specs.Private.CachedMetrics.{AreCached}
 use Rattle.codespan_picture.proofs.Pieces.{taken-dropped}
 use Rattle.codespan_renderer.proofs.WidthSearch.{past-none}

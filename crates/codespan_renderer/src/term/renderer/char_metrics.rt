@@ -30,7 +30,7 @@ impl<'text> CharMetrics<'text> {
     ghost use Rattle.std.specs.Prelude.{true};
     ghost use Rattle.codespan_picture.specs.CharMetrics.{char_metrics, char_metrics_to_end, metrics_then, width_of};
     ghost use Rattle.codespan_picture.specs.RowParts.{metrics_up_to};
-    ghost use Rattle.codespan_renderer.specs.Private.MetricsLeft.{MetricsAfterEnd, YieldsCharacter, metrics_from, remaining_metrics, no_more};
+    ghost use Rattle.codespan_renderer.specs.Private.RemainingMetrics.{MetricsAfterEnd, YieldsCharacter, metrics_from, remaining_metrics, no_more};
     ghost use Rattle.std.specs.Str.{chars};
 
     /// Returns an iterator over the characters of the line alone.
@@ -150,7 +150,7 @@ fn width_at(tab_width: usize, column: u128, c: char) -> usize
 
 impl<'text> Iterator for CharMetrics<'text> {
     ghost use Rattle.std.specs.Iterator.{YieldsFirst, item_count};
-    ghost use Rattle.codespan_renderer.specs.Private.MetricsLeft.{remaining_metrics};
+    ghost use Rattle.codespan_renderer.specs.Private.RemainingMetrics.{remaining_metrics};
 
     type Item = Metrics;
 

@@ -29,7 +29,7 @@ pub struct ScanCursor<'row, 'd> {
 }
 
 impl<'row, 'd> CharCursor for ScanCursor<'row, 'd> {
-    ghost use Rattle.codespan_renderer.specs.Private.MetricsLeft.{remaining_metrics};
+    ghost use Rattle.codespan_renderer.specs.Private.RemainingMetrics.{remaining_metrics};
 
     ghost left = { λ s. remaining_metrics s.char_metrics };
 

@@ -6,7 +6,7 @@ ghost use Rattle.std.specs.Str.{chars};
 ghost use Rattle.codespan_picture.specs.CharMetrics.{char_metrics, metrics_then, width_of};
 ghost use Rattle.codespan_picture.specs.Arguments.{lane_mark_view, single_label_views, starts_in_order};
 ghost use Rattle.codespan_picture.specs.Rows.{hanging_labels};
-ghost use Rattle.codespan_renderer.specs.Private.MetricsLeft.{after_last};
+ghost use Rattle.codespan_renderer.specs.Private.RemainingMetrics.{after_last};
 ghost use Rattle.codespan_renderer.specs.Private.CursorStates.{IsBefore, HasReturned};
 ghost use Rattle.codespan_renderer.specs.Private.CachedMetrics.{AreCached, ReachesPast, remaining_from_cache, reach_of};
 ghost use Rattle.codespan_picture.specs.Private.LineCharacters.{EndBy};

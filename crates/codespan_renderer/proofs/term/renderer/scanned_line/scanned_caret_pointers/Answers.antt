@@ -7,7 +7,7 @@ use Rattle.codespan_core.proofs.Loops.{StillToWrite-start, StillToWrite-more, St
 use Rattle.codespan_picture.specs.Arguments.{single_label_views}
 use Rattle.codespan_picture.specs.RowParts.{metrics_before, pointers}
 use Rattle.codespan_picture.specs.Private.LineViews.{context_view}
-use Rattle.codespan_renderer.specs.Private.MetricsLeft.{remaining_metrics}
+use Rattle.codespan_renderer.specs.Private.RemainingMetrics.{remaining_metrics}
 use Rattle.codespan_renderer.proofs.ScannedPointers.{spaces_none, pointer_first, spaces_first, spaces_last, spaces_due}
 use Rattle.codespan_renderer.proofs.PointersBefore.{spaces_rest}
 use Rattle.codespan_picture.proofs.ScanState.{scan_state-char_metrics, scan_state-more}

@@ -2,7 +2,7 @@ use Rattle.std.proofs.Common.{◌++◌, length}
 use Rattle.codespan_core.specs.Streams.{spaces}
 use Rattle.codespan_core.proofs.Loops.{StillToWrite}
 use Rattle.codespan_picture.specs.CharMetrics.{char_metrics}
-use Rattle.codespan_renderer.specs.Private.MetricsLeft.{remaining_metrics}
+use Rattle.codespan_renderer.specs.Private.RemainingMetrics.{remaining_metrics}
 use Rattle.codespan_picture.specs.Arguments.{single_label_views}
 use Rattle.codespan_picture.specs.Private.LineViews.{context_view}
 use Rattle.codespan_picture.specs.RowParts.{metrics_before, pointers}
