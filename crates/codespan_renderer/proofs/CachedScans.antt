@@ -63,4 +63,4 @@ past-scan byte_index c old new over far =
     past-none byte_index new.byte_index new.column (metrics_from no_more new)
     (char_metrics-consecutive new.tab_width new.byte_index new.column
     (chars (chars_rest new.chars)))
-    (omega (arith, over.byte_index, over.here, far))
+    (omega (arith, over.byte_index, over.starts_at_byte, far))

@@ -220,7 +220,7 @@ module _ (s : LabelCursor) (left rest : List Metrics) (c : Metrics) (step : left
       ∥∥₁_elim before_it (Prim.hlevel props)
       (λ w. ∣
       record {
-        some =
+        has_byte =
             (here w).1;
         passed = rw (here w).0 w.passed;
         follow = rw (here w).0 (here w).2;
@@ -274,4 +274,4 @@ returned-passed s rest c returned = ∥∥₁_elim returned (passed-prop c.byte_
 
 pub returned-some : (s : LabelCursor) (rest : List Metrics) (c : Metrics)
     → ∥ HasReturned c s rest ∥₁ → 1 ≤ c.bytes
-returned-some s rest c returned = ∥∥₁_elim returned (Prim.hlevel props) (λ g. g.some)
+returned-some s rest c returned = ∥∥₁_elim returned (Prim.hlevel props) (λ g. g.has_byte)

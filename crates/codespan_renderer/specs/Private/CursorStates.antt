@@ -15,6 +15,6 @@ pub record IsBefore (s : LabelCursor) (left : List Metrics) : Type 0 where
 -- the cursor has just returned this character and is before these; it has passed the labels that
 -- start before the character
 pub record HasReturned (c : Metrics) (s : LabelCursor) (left : List Metrics) : Type 0 where
-  pub some : 1 ≤ c.bytes
+  pub has_byte : 1 ≤ c.bytes
   pub passed : HasPassedLabels c.byte_index s
   pub follow : AreContiguous (c.byte_index + c.bytes) left

@@ -17,7 +17,7 @@ returns-then-metrics-byte_index c =
     omega (
       arith,
       c.loop-metrics.invariant,
-      over.at,
+      over.starts_at_column,
       step,
       width-out c.args.byte_index c.in-Some.metrics rest c.if-metrics-byte_index.true,
       none,

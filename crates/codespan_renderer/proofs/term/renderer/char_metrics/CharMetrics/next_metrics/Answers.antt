@@ -34,9 +34,9 @@ returns-in-Some-clause-yields c =
       yields =
           λ after. metrics_then-char after _ _ _ _ _ _ _ _ (IsUtf8-had _ c.args.self.now.utf8) step
           bytes c.width_at.ensures;
-      here = refl;
-      at = refl;
-      some = omega (arith, bytes, (len_utf8_bounds c.in-Some.ch).0);
+      starts_at_byte = refl;
+      starts_at_column = refl;
+      has_byte = omega (arith, bytes, (len_utf8_bounds c.in-Some.ch).0);
       byte_index = refl;
       column = refl;
     }
@@ -50,7 +50,7 @@ returns-in-None-clause-yields c =
     c.args.self.now.column (chars_rest c.args.self.now.chars) none.0 in
     record {
       none = end;
-      still = rw none.1 end;
+      stays = rw none.1 end;
       byte_index = refl;
       column = refl;
     }
