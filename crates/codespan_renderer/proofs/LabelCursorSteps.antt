@@ -208,11 +208,11 @@ pub cursor-start : (s : LabelCursor) (before left : List Metrics) → HasPassedL
     → AreContiguous 0 (before ++ left) → ∥ IsBefore s left ∥₁
 cursor-start s before left passed follow =
     let later = follow-rest 0 before left follow in
-    ∣ record { byte_index = later.0; passed = passed-later s 0 later.0 later.1 passed; follow = later.2 } ∣₁
+    ∣ record { byte_index = later.0; passed = passed-later s 0 later.0 later.1 passed; contiguous = later.2 } ∣₁
 
 module _ (s : LabelCursor) (left rest : List Metrics) (c : Metrics) (step : left ≡ c ∷ rest) where
   here : (w : IsBefore s left) → AreContiguous w.byte_index (c ∷ rest)
-  here w = rw step at w.follow
+  here w = rw step at w.contiguous
 
   -- it returns the next character
   pub cursor-returns : ∥ IsBefore s left ∥₁ → ∥ HasReturned c s rest ∥₁
@@ -223,7 +223,7 @@ module _ (s : LabelCursor) (left rest : List Metrics) (c : Metrics) (step : left
         has_byte =
             (here w).1;
         passed = rw (here w).0 w.passed;
-        follow = rw (here w).0 (here w).2;
+        contiguous = rw (here w).0 (here w).2;
       }
       ∣₁)
 
@@ -238,8 +238,8 @@ cursor-goes_on s rest c returned =
           c.byte_index + c.bytes;
       passed =
           passed-later s c.byte_index (c.byte_index + c.bytes) (omega arith) g.passed;
-      follow =
-          g.follow;
+      contiguous =
+          g.contiguous;
     }
     ∣₁)
 
@@ -265,7 +265,7 @@ pub cursor-passed : (s t : LabelCursor) (rest : List Metrics) (c : Metrics)
     → ∥ HasReturned c s rest ∥₁ → HasPassedLabels (c.byte_index + c.bytes) t → ∥ IsBefore t rest ∥₁
 cursor-passed s t rest c returned passed =
     ∥∥₁_elim returned (Prim.hlevel props)
-    (λ g. ∣ record { byte_index = c.byte_index + c.bytes; passed = passed; follow = g.follow } ∣₁)
+    (λ g. ∣ record { byte_index = c.byte_index + c.bytes; passed = passed; follow = g.contiguous } ∣₁)
 
 -- the labels that it has passed, and the character that it has returned
 pub returned-passed : (s : LabelCursor) (rest : List Metrics) (c : Metrics)
