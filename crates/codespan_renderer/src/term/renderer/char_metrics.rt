@@ -23,7 +23,7 @@ pub struct CharMetrics<'text> {
     ghost left: { chars_rest chars ≡ drop byte_index text.now },
     ghost utf8: { ∥ IsUtf8 (chars_rest chars) ∥₁ },
     ghost within: { byte_index ≤ length text.now },
-    ghost narrow: { column ≤ byte_index * 2 ^ 64 },
+    ghost column_bound: { column ≤ byte_index * 2 ^ 64 },
 }
 
 impl<'text> CharMetrics<'text> {

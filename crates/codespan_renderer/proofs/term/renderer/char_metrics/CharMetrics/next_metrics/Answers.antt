@@ -22,7 +22,7 @@ invariant_of-self c =
       left = sym (rw bytes next);
       utf8 = ∣ IsUtf8-past_char _ _ _ (IsUtf8-had _ c.args.self.now.utf8) step ∣₁;
       within = omega arith;
-      narrow = omega arith;
+      column_bound = omega arith;
     }
 
 pub returns-in-Some-clause-yields : goal.returns-in-Some-clause-yields
