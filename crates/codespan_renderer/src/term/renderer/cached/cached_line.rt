@@ -75,8 +75,8 @@ pub struct CachedLine<'cache, 'row, 'd> {
     pub rest: CharMetrics<'row>,
     /// The pointers under its characters.
     pub pointers: &'cache [Pointer],
-    ghost metrics_are: { AreCached tab_width line.text.now cached.now rest },
-    ghost enough: { ReachesPast (reach_of (single_label_views line.labels.now)
+    ghost are_cached: { AreCached tab_width line.text.now cached.now rest },
+    ghost reaches_past: { ReachesPast (reach_of (single_label_views line.labels.now)
         (map lane_mark_view line.lanes.lane_marks.now)) rest },
     ghost ordered: { IsTrue (starts_in_order (single_label_views line.labels.now)) },
     ghost found: { pointers.now ≡ pointers_in (hanging_labels (single_label_views line.labels.now))

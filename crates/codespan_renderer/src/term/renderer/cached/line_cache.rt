@@ -92,8 +92,8 @@ fn cache_metrics<'row>(
     tab_width: usize,
     reach: Option<usize>,
 ) -> Result<CharMetrics<'row>, Error>
-    ensures cached { IfOk result (λ rest. AreCached tab_width text.now cached.new.items rest) }
-    ensures past { IfOk result (λ rest. ReachesPast reach rest) }
+    ensures are_cached { IfOk result (λ rest. AreCached tab_width text.now cached.new.items rest) }
+    ensures reaches_past { IfOk result (λ rest. ReachesPast reach rest) }
     ensures failed { OnErr result (IsErrOf result Error.OutOfMemory) }
 {
     cached.clear();
