@@ -265,7 +265,7 @@ pub cursor-passed : (s t : LabelCursor) (rest : List Metrics) (c : Metrics)
     → ∥ HasReturned c s rest ∥₁ → HasPassedLabels (c.byte_index + c.bytes) t → ∥ IsBefore t rest ∥₁
 cursor-passed s t rest c returned passed =
     ∥∥₁_elim returned (Prim.hlevel props)
-    (λ g. ∣ record { byte_index = c.byte_index + c.bytes; passed = passed; follow = g.contiguous } ∣₁)
+    (λ g. ∣ record { byte_index = c.byte_index + c.bytes; passed = passed; contiguous = g.contiguous } ∣₁)
 
 -- the labels that it has passed, and the character that it has returned
 pub returned-passed : (s : LabelCursor) (rest : List Metrics) (c : Metrics)
