@@ -6,12 +6,12 @@ use Rattle.codespan_renderer.specs.declared.term.renderer.cached.label_cursor.La
 use Rattle.codespan_picture.specs.Arguments.{single_label_views, starts_in_order}
 use Rattle.codespan_picture.specs.Private.CharCursors.{is_covered}
 
--- the greatest end with that of a label that counts; one that covers no byte has none
+-- the greatest end with that of a label that counts; one that covers no byte does not count
 abbrev pub end_with : Bool → ℕ → LabelModel → ℕ
 end_with counts end x = if counts && nat_lt x.start x.end then max end x.end else end
 
--- a character that ends at this byte index or later is covered by a label that passes the test,
--- exactly where it begins before `end` or is covered by a remaining label that passes
+-- a character that ends at this byte index or later is covered by a label that meets the test,
+-- exactly where it begins before `end` or is covered by a remaining label that meets it
 pub record IsCoverEnd (test : LabelModel → Bool) (labels left : List LabelModel)
     (byte_index end : ℕ) : Type 0 where
   pub is : (c : Metrics) → byte_index ≤ c.byte_index + c.bytes → 1 ≤ c.bytes
