@@ -17,7 +17,7 @@ pub record IsCoverEnd (test : LabelModel → Bool) (labels left : List LabelMode
   pub is : (c : Metrics) → byte_index ≤ c.byte_index + c.bytes → 1 ≤ c.bytes
       → is_covered test labels c ≡ (nat_lt c.byte_index end || is_covered test left c)
 
--- the labels that a cursor has not passed
+-- the labels that a cursor over the labels of a line has not passed
 abbrev pub labels_left : LabelCursor → List LabelModel
 labels_left s = single_label_views (drop s.next s.labels.now)
 
