@@ -18,14 +18,14 @@ pub record IsCoverEnd (test : LabelModel → Bool) (labels left : List LabelMode
       → is_covered test labels c ≡ (nat_lt c.byte_index end || is_covered test left c)
 
 -- the labels that a cursor over the labels of a line has not passed
-abbrev pub labels_left : LabelCursor → List LabelModel
-labels_left s = single_label_views (drop s.next s.labels.now)
+abbrev pub remaining_labels : LabelCursor → List LabelModel
+remaining_labels s = single_label_views (drop s.next s.labels.now)
 
 -- a cursor has passed the labels that start before this byte index
 pub record HasPassedLabels (byte_index : ℕ) (s : LabelCursor) : Type 0 where
   pub primary :
-      IsCoverEnd is_primary (single_label_views s.labels.now) (labels_left s) byte_index
+      IsCoverEnd is_primary (single_label_views s.labels.now) (remaining_labels s) byte_index
       s.primary_end
   pub any :
-      IsCoverEnd (λ _. true) (single_label_views s.labels.now) (labels_left s) byte_index s.end
-  pub ordered : starts_in_order (labels_left s) ≡ true
+      IsCoverEnd (λ _. true) (single_label_views s.labels.now) (remaining_labels s) byte_index s.end
+  pub ordered : starts_in_order (remaining_labels s) ≡ true
