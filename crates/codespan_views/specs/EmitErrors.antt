@@ -49,7 +49,8 @@ module _ {Id : Type 0} (view_config : Config) (files : FileDatabase Id) (d : Dia
 
   -- the call fails: with `Io`, and then the writer has failed, or with an error of lookups, and
   -- then it has not; in rich style nothing has been written where a lookup before the header fails
-  pub record FailsAs (style : DisplayStyle) (writer_failed writer_not_failed : Type 0) : Type 0 where
+  pub record FailsAs (style : DisplayStyle) (writer_failed writer_not_failed : Type 0)
+      : Type 0 where
     pub error_is : (IsIo e × writer_failed)
         ⊎ (writer_not_failed × IsLookupError files (lookups_in style view_config files d) e
         × WrittenBefore style)
