@@ -15,7 +15,7 @@ use Rattle.codespan_picture.specs.Arguments.{locus_view}
 use Rattle.codespan_picture.specs.Lines.{drawn_lines}
 use Rattle.codespan_picture.specs.Lookups.{lookups_of_file, filled_lines, first_error, locus_lookups, numbers_for_padding, filled_line_lookups}
 use Rattle.codespan_picture.specs.Padding.{digits_of, numbered_lines, padding_of}
-use Rattle.codespan_views.specs.Private.TextLoci.{IsTextLocus}
+use Rattle.codespan_views.specs.Private.Utf8Loci.{IsUtf8Locus}
 use Rattle.codespan_picture.specs.Snippets.{LabelInFile, LabeledFileModel, labeled_file_model, labeled_file_models, num_multi_labels, locus_byte_of, rows_of_drawn, file_ids}
 use Rattle.codespan_views.specs.declared.collected.Collected.{Collected}
 use Rattle.codespan_views.specs.declared.labeled_files.LabeledFile.{LabeledFile as RustFile}
@@ -130,7 +130,7 @@ module _ {Id : Type 0} {database : FileDatabase Id} (lawful : AreFiles database)
     file-plan : IsPlanOfLabels config (labeled f.file_id) snippet_plan own
     file-plan = record {
       lanes_are = ap (λ (g : RustFile Id). g.num_multi_labels) is.file_is ∙ known.lanes_are;
-      locus_is = subst (λ n. IsTextLocus (file f.file_id, n) (locus_view snippet_plan.locus)) (file_locus_byte-is known) is.locus_is;
+      locus_is = subst (λ n. IsUtf8Locus (file f.file_id, n) (locus_view snippet_plan.locus)) (file_locus_byte-is known) is.locus_is;
       count_is = is.count_is;
       each = lines_of-file config.layout (file f.file_id) own is.each;
       in_order = subst (AreInOrder (num_multi_labels (labeled f.file_id))) (sym is.are) (snippet k f.file_id at).in_order;

@@ -27,7 +27,7 @@ use Rattle.codespan_picture.specs.Lookups.{early_lookups, first_error, late_look
 use Rattle.codespan_picture.specs.OutputStreams.{header_text_of, label_of, labels_of, context_of, notes_of}
 use Rattle.codespan_picture.specs.Padding.{padding_of}
 use Rattle.codespan_picture.specs.Snippets.{snippets, LabelInFile, has_any, labeled_file_model, labeled_file_models, note_rows}
-use Rattle.codespan_views.specs.Private.TextLoci.{IsLocusOfFile}
+use Rattle.codespan_views.specs.Private.Utf8Loci.{IsLocusOfFile}
 use Rattle.codespan_picture.specs.Rows.{FinalRow, HeaderRow, Row}
 use Rattle.codespan_picture.specs.RowStreams.{header_row, stream_of, stream_of_rows}
 use Rattle.codespan_core.proofs.Chains.{written-then, failed-before, failed-then, known-after}

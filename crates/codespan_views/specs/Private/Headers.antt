@@ -9,7 +9,7 @@ use Rattle.codespan_picture.specs.Lookups.{Failures, first_error, header_lookups
 use Rattle.codespan_picture.specs.Picture.{headers_at}
 use Rattle.codespan_picture.specs.Rows.{Locus}
 use Rattle.codespan_picture.specs.Snippets.{LabelInFile, has_any}
-use Rattle.codespan_views.specs.Private.TextLoci.{IsLocusOfLabel}
+use Rattle.codespan_views.specs.Private.Utf8Loci.{IsLocusOfLabel}
 
 module _ {Id : Type 0} (config : Config) (file : Id → FileModel) (failure : Failures Id)
     (d : Diagnostic Id) where

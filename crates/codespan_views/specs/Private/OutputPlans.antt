@@ -14,7 +14,7 @@ use Rattle.codespan_views.specs.declared.plan.snippet_plans.SnippetPlan.{Snippet
 use Rattle.codespan_views.specs.declared.plan.snippet_lines.SnippetLine.{SnippetLine as RustLine}
 use Rattle.codespan_views.specs.Private.SnippetLineViews.{IsSnippetLineOf, lookups_of_lines, snippet_line_view}
 use Rattle.codespan_views.specs.Private.SnippetLines.{rows_of_lines, AreInOrder}
-use Rattle.codespan_views.specs.Private.TextLoci.{IsLocusOfFile}
+use Rattle.codespan_views.specs.Private.Utf8Loci.{IsLocusOfFile}
 
 -- the locus of each file's snippet
 abbrev pub loci_of : {Id : Type 0} → List (SnippetPlan Id) → List Locus

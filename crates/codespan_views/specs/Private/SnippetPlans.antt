@@ -18,7 +18,7 @@ use Rattle.codespan_views.specs.Private.LabeledFiles.{ids_view}
 use Rattle.codespan_views.specs.Private.Loci.{loci_lookups}
 use Rattle.codespan_views.specs.Private.LocusBytes.{locus_byte}
 use Rattle.codespan_views.specs.Private.SnippetLines.{SnippetLine, filled_lines_of, lines_of}
-use Rattle.codespan_views.specs.Private.TextLoci.{IsTextLocus}
+use Rattle.codespan_views.specs.Private.Utf8Loci.{IsUtf8Locus}
 
 -- the lines of the snippet of the file at an index
 abbrev pub lines_at : List Annotation → ℕ → List SnippetLine
@@ -40,7 +40,7 @@ module _ {Id : Type 0} (layout : Layout) (file : Id → FileModel) (es : List An
   pub record IsPlanOfAnnotations (k : ℕ) (f : RustFile Id) (snippet_plan : SnippetPlan Id)
       (own_lines : List (RustLine Id)) : Type 0 where
     pub file_is : snippet_plan.file.now ≡ f
-    pub locus_is : IsTextLocus (file f.file_id, locus_byte f.least_starts)
+    pub locus_is : IsUtf8Locus (file f.file_id, locus_byte f.least_starts)
         (locus_view snippet_plan.locus)
     pub count_is : snippet_plan.line_total ≡ length own_lines
     pub are : map snippet_line_view own_lines ≡ lines_at es k

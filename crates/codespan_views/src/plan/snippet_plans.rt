@@ -14,7 +14,7 @@ ghost use Rattle.codespan_views.specs.Private.Loci.{locus_failure, locus_start_o
 ghost use Rattle.codespan_views.specs.Private.SnippetPlans.{ArePlansOfCollected, collected_plan_failure};
 ghost use Rattle.codespan_views.specs.Private.SnippetLines.{filled_lines_of, lines_of};
 ghost use Rattle.codespan_views.specs.Private.SnippetLineViews.{AppendsSnippetLines, numbers_looked_up};
-ghost use Rattle.codespan_views.specs.Private.TextLoci.{IsTextLocus};
+ghost use Rattle.codespan_views.specs.Private.Utf8Loci.{IsUtf8Locus};
 
 use crate::annotation::Annotation;
 use crate::annotation::groups::count_in_file;
@@ -89,7 +89,7 @@ fn locate_snippet<'files, 'e, F: Files<'files>>(
     line_total: usize,
 ) -> Result<SnippetPlan<'e, F::FileId>, Error>
     ensures file { IfOk result (λ snippet_plan. snippet_plan.file.now ≡ file.now) }
-    ensures locus { IfOk result (λ snippet_plan. IsTextLocus
+    ensures locus { IfOk result (λ snippet_plan. IsUtf8Locus
         (locus_start_of (F.database files.now).file file.now) (locus_view snippet_plan.locus)) }
     ensures line_total { IfOk result (λ snippet_plan. snippet_plan.line_total ≡ line_total) }
     ensures failed { FailsByOrFormatError (locus_failure (F.database files.now).failure file.now)
