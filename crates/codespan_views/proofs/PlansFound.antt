@@ -21,7 +21,7 @@ use Rattle.codespan_views.specs.Private.Annotations.{Annotation}
 use Rattle.codespan_views.specs.Private.AnnotationViews.{annotation_view}
 use Rattle.codespan_views.specs.Private.SnippetLineViews.{AppendsSnippetLines, numbers_looked_up}
 use Rattle.codespan_views.specs.Private.LabeledFiles.{ids_view}
-use Rattle.codespan_views.specs.Private.Loci.{locus_lookups_of, loci_lookups, locus_start_of}
+use Rattle.codespan_views.specs.Private.Loci.{locus_lookups_of, loci_lookups, locus_byte_of_file}
 use Rattle.codespan_views.specs.Private.Utf8Loci.{IsUtf8Locus}
 use Rattle.codespan_views.specs.Private.SnippetPlans.{ArePlansOfAnnotations, IsPlanOfAnnotations, number_lookups, lines_at}
 use Rattle.codespan_views.specs.Private.SnippetLines.{SnippetLine, filled_lines_of, lines_of}
@@ -51,7 +51,7 @@ pub plan_found : {Id : Type 0} {files : List (RustFile Id)} {xs zs : List (RustA
     ≡ xs
     → {count : ℕ} → count ≡ length new - length old → {snippet_plan : SnippetPlan Id}
     → snippet_plan.file.now ≡ f
-    → IsUtf8Locus (locus_start_of file f) (locus_view snippet_plan.locus)
+    → IsUtf8Locus (locus_byte_of_file file f) (locus_view snippet_plan.locus)
     → snippet_plan.line_total ≡ count
     → IsPlanOfAnnotations layout file (map annotation_view xs) k f snippet_plan added.more
 plan_found turn added zs_are counted same locus total = record {

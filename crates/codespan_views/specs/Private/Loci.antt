@@ -8,8 +8,8 @@ use Rattle.codespan_views.specs.declared.labeled_files.LabeledFile.{LabeledFile 
 use Rattle.codespan_views.specs.Private.LocusBytes.{locus_byte}
 
 -- the byte of a file whose locus its snippet shows
-abbrev pub locus_start_of : {Id : Type 0} → (Id → FileModel) → RustFile Id → FileModel × ℕ
-locus_start_of file f = (file f.file_id, locus_byte f.least_starts)
+abbrev pub locus_byte_of_file : {Id : Type 0} → (Id → FileModel) → RustFile Id → FileModel × ℕ
+locus_byte_of_file file f = (file f.file_id, locus_byte f.least_starts)
 
 -- the lookups of the locus of a file's snippet
 abbrev pub locus_lookups_of : {Id : Type 0} → RustFile Id → List (Id × Lookup)

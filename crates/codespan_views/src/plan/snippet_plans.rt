@@ -10,7 +10,7 @@ ghost use Rattle.codespan_views.specs.Private.FileLookups.{FailsByOrFormatError,
 ghost use Rattle.codespan_views.specs.Private.Annotations.{is_before};
 ghost use Rattle.codespan_views.specs.Private.AnnotationViews.{IsLineOf, IsOfFiles, annotation_view};
 ghost use Rattle.codespan_views.specs.Private.LabeledFiles.{ids_view};
-ghost use Rattle.codespan_views.specs.Private.Loci.{locus_failure, locus_start_of};
+ghost use Rattle.codespan_views.specs.Private.Loci.{locus_failure, locus_byte_of_file};
 ghost use Rattle.codespan_views.specs.Private.SnippetPlans.{ArePlansOfCollected, collected_plan_failure};
 ghost use Rattle.codespan_views.specs.Private.SnippetLines.{filled_lines_of, lines_of};
 ghost use Rattle.codespan_views.specs.Private.SnippetLineViews.{AppendsSnippetLines, numbers_looked_up};
@@ -90,7 +90,7 @@ fn locate_snippet<'files, 'e, F: Files<'files>>(
 ) -> Result<SnippetPlan<'e, F::FileId>, Error>
     ensures file { IfOk result (λ snippet_plan. snippet_plan.file.now ≡ file.now) }
     ensures locus { IfOk result (λ snippet_plan. IsUtf8Locus
-        (locus_start_of (F.database files.now).file file.now) (locus_view snippet_plan.locus)) }
+        (locus_byte_of_file (F.database files.now).file file.now) (locus_view snippet_plan.locus)) }
     ensures line_total { IfOk result (λ snippet_plan. snippet_plan.line_total ≡ line_total) }
     ensures failed { FailsByOrFormatError (locus_failure (F.database files.now).failure file.now)
         result }
