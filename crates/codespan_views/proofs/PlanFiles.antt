@@ -22,13 +22,13 @@ use Rattle.codespan_views.specs.declared.labeled_files.LabeledFile.{LabeledFile 
 use Rattle.codespan_views.specs.declared.plan.snippet_plans.SnippetPlan.{SnippetPlan}
 use Rattle.codespan_views.specs.declared.plan.snippet_lines.SnippetLine.{SnippetLine as RustLine}
 use Rattle.codespan_views.specs.Private.Annotations.{Annotation}
-use Rattle.codespan_views.specs.Private.OutputPlans.{ArePlansOfLabels, IsOutputPlan, IsPlanOfLabels, ids_of, padding_lookups, file_locus_lookups, output_plan_failure}
+use Rattle.codespan_views.specs.Private.OutputPlans.{ArePlansOfLabels, IsOutputPlan, IsPlanOfLabels, ids_of, padding_lookups, locus_lookups_of_labels, output_plan_failure}
 use Rattle.codespan_views.specs.Private.Collections.{IsCollected}
 use Rattle.codespan_views.specs.Private.AnnotationViews.{annotation_view}
 use Rattle.codespan_views.specs.Private.LabeledFiles.{HasLabels, ids_view}
 use Rattle.codespan_views.specs.declared.plan.OutputPlan.{OutputPlan}
 use Rattle.codespan_views.specs.Private.SnippetLineViews.{IsSnippetLineIn, numbers_looked_up}
-use Rattle.codespan_views.specs.Private.Loci.{loci_lookups}
+use Rattle.codespan_views.specs.Private.Loci.{locus_lookups_of_files}
 use Rattle.codespan_views.specs.Private.LocusBytes.{locus_byte}
 use Rattle.codespan_views.specs.Private.FileIndices.{IsIdAt}
 use Rattle.codespan_views.specs.Private.SnippetPlans.{ArePlansOfAnnotations, ArePlansOfCollected, IsPlanOfAnnotations, number_lookups, collected_plan_failure, line_digit_counts, lines_at, padding_width}
@@ -112,13 +112,13 @@ module _ {Id : Type 0} {database : FileDatabase Id} (lawful : AreFiles database)
 
   -- the lookups of the loci of files are those of their snippets
   loci-lookups : (fs : List (RustFile Id)) → AllByRecursion (HasLabels same file xs) fs
-      → loci_lookups fs ≡ flat_map (λ id. lookups_of_file id (locus_lookups database xs id))
+      → locus_lookups_of_files fs ≡ flat_map (λ id. lookups_of_file id (locus_lookups database xs id))
       (ids_view fs)
   loci-lookups [] known = refl
   loci-lookups (f ∷ fs) known = λ i. lookups_of_file f.file_id (Name ∷ LocationAt (file_locus_byte-is known.0 i) ∷ []) ++ loci-lookups fs known.1 i
 
   -- so are those of all files
-  loci-are : loci_lookups collected.files.items ≡ file_locus_lookups database xs
+  loci-are : locus_lookups_of_files collected.files.items ≡ locus_lookups_of_labels database xs
   loci-are =
       loci-lookups collected.files.items all.files.labels_are
       ∙ ap (flat_map (λ id. lookups_of_file id (locus_lookups database xs id))) all.files.ids_are

@@ -21,7 +21,7 @@ use Rattle.codespan_views.specs.Private.Annotations.{Annotation}
 use Rattle.codespan_views.specs.Private.AnnotationViews.{annotation_view}
 use Rattle.codespan_views.specs.Private.SnippetLineViews.{AppendsSnippetLines, numbers_looked_up}
 use Rattle.codespan_views.specs.Private.LabeledFiles.{ids_view}
-use Rattle.codespan_views.specs.Private.Loci.{locus_lookups_of, loci_lookups, locus_byte_of_file}
+use Rattle.codespan_views.specs.Private.Loci.{locus_lookups_of, locus_lookups_of_files, locus_byte_of_file}
 use Rattle.codespan_views.specs.Private.Utf8Loci.{IsUtf8Locus}
 use Rattle.codespan_views.specs.Private.SnippetPlans.{ArePlansOfAnnotations, IsPlanOfAnnotations, number_lookups, lines_at}
 use Rattle.codespan_views.specs.Private.SnippetLines.{SnippetLine, filled_lines_of, lines_of}
@@ -130,7 +130,7 @@ module _ {Id : Type 0} (layout : Layout) (file : Id → FileModel) (es : List An
   pub record ArePlanned (files : List (RustFile Id)) (now : List (SnippetPlan Id))
       (snippet_lines : List (RustLine Id)) (located : Result (Unit {0}) Error) : Type 0 where
     pub succeeded : first_error failure (number_lookups layout es (ids_view files)) ≡ None
-    pub located_fails : FailsByOrFormatError (first_error failure (loci_lookups files)) located
+    pub located_fails : FailsByOrFormatError (first_error failure (locus_lookups_of_files files)) located
     pub plans : IfOk located (λ _. ArePlansOfAnnotations layout file es 0 files now snippet_lines)
 
 module _ {Id : Type 0} {layout : Layout} {file : Id → FileModel} {es : List Annotation}
@@ -140,7 +140,7 @@ module _ {Id : Type 0} {layout : Layout} {file : Id → FileModel} {es : List An
   pub plans-add : (files : List (RustFile Id)) (k : ℕ) → length files ≤ k
       → ArePlanned layout file es failure (take k files) now snippet_lines located
       → FailsByOrFormatError
-      (first_error failure (number_lookups layout es (ids_view files) ++ loci_lookups files))
+      (first_error failure (number_lookups layout es (ids_view files) ++ locus_lookups_of_files files))
       located
   plans-add files k past found =
       let all = subst
@@ -149,7 +149,7 @@ module _ {Id : Type 0} {layout : Layout} {file : Id → FileModel} {es : List An
       (take_all k files past) found in
       let numbers = number_lookups layout es (ids_view files) in
       subst (λ o. FailsByOrFormatError o located)
-      (sym (first_error-none failure numbers (loci_lookups files) all.succeeded))
+      (sym (first_error-none failure numbers (locus_lookups_of_files files) all.succeeded))
       all.located_fails
 
   -- and the plans are those of all, where no error is kept
@@ -174,20 +174,20 @@ module _ {Id : Type 0} {files : List (RustFile Id)} {k : ℕ} {f : RustFile Id}
       ∙ map-append (λ (g : RustFile Id). g.file_id) (take k files) (f ∷ [])
 
   -- the loci of these, and its own
-  loci-more : loci_lookups (take (k + 1) files) ≡ loci_lookups (take k files) ++ locus_lookups_of f
+  loci-more : locus_lookups_of_files (take (k + 1) files) ≡ locus_lookups_of_files (take k files) ++ locus_lookups_of f
   loci-more =
-      ap (λ (fs : List (RustFile Id)). loci_lookups fs) (take-at here)
+      ap (λ (fs : List (RustFile Id)). locus_lookups_of_files fs) (take-at here)
       ∙ flat_map-append locus_lookups_of (take k files) (f ∷ [])
-      ∙ ap (λ (ls : List (Id × Lookup)). loci_lookups (take k files) ++ ls)
+      ∙ ap (λ (ls : List (Id × Lookup)). locus_lookups_of_files (take k files) ++ ls)
       (append-nil (locus_lookups_of f))
 
   -- the error of these lookups, or else that of its own
   locus-fails : (failure : Failures Id)
-      → first_error failure (loci_lookups (take (k + 1) files)) ≡ or_failure
-      (first_error failure (loci_lookups (take k files))) (first_error failure (locus_lookups_of f))
+      → first_error failure (locus_lookups_of_files (take (k + 1) files)) ≡ or_failure
+      (first_error failure (locus_lookups_of_files (take k files))) (first_error failure (locus_lookups_of f))
   locus-fails failure =
       ap (first_error failure) loci-more
-      ∙ first_error-append failure (loci_lookups (take k files)) (locus_lookups_of f)
+      ∙ first_error-append failure (locus_lookups_of_files (take k files)) (locus_lookups_of f)
 
   module _ {layout : Layout} {file : Id → FileModel} {es : List Annotation} {failure : Failures Id}
       {now : List (SnippetPlan Id)} {snippet_lines : List (RustLine Id)}
@@ -237,7 +237,7 @@ module _ {Id : Type 0} {files : List (RustFile Id)} {k : ℕ} {f : RustFile Id}
       planned-more {new} {all = all} whole whole_steps is succeeded there = record {
         succeeded = lookups-more ∙ succeeded;
         located_fails =
-            let others = first_error failure (loci_lookups (take k files)) in
+            let others = first_error failure (locus_lookups_of_files (take k files)) in
             subst (λ o. FailsByOrFormatError o located)
             (sym (locus-fails failure ∙ ap (or_failure others) there ∙ or_failure-none others))
             before.located_fails;
@@ -267,12 +267,12 @@ module _ {Id : Type 0} {files : List (RustFile Id)} {k : ℕ} {f : RustFile Id}
       -- an error of the lookups of its numbers is that of all
       pub planned-fails : {e : Error} → first_error failure (lookups_at k f.file_id) ≡ Some e
           → first_error failure
-          (number_lookups layout es (ids_view files) ++ loci_lookups files) ≡ Some e
+          (number_lookups layout es (ids_view files) ++ locus_lookups_of_files files) ≡ Some e
       planned-fails {e} known =
           let rest = drop (k + 1) files in
           let whole = ap ids_view (sym (take-append-drop (k + 1) files))
           ∙ map-append (λ (g : RustFile Id). g.file_id) (take (k + 1) files) rest in
-          first_error-some failure (number_lookups layout es (ids_view files)) (loci_lookups files) e
+          first_error-some failure (number_lookups layout es (ids_view files)) (locus_lookups_of_files files) e
           (ap (λ ids. first_error failure (number_lookups layout es ids)) whole
           ∙ ap (first_error failure)
           (flat_map_indexed-append lookups_at 0 (ids_view (take (k + 1) files)) (ids_view rest))

@@ -16,8 +16,8 @@ abbrev pub locus_lookups_of : {Id : Type 0} → RustFile Id → List (Id × Look
 locus_lookups_of f = lookups_of_file f.file_id (Name ∷ LocationAt (locus_byte f.least_starts) ∷ [])
 
 -- those of all files
-abbrev pub loci_lookups : {Id : Type 0} → List (RustFile Id) → List (Id × Lookup)
-loci_lookups files = flat_map locus_lookups_of files
+abbrev pub locus_lookups_of_files : {Id : Type 0} → List (RustFile Id) → List (Id × Lookup)
+locus_lookups_of_files files = flat_map locus_lookups_of files
 
 -- what those of one file fail with
 abbrev pub locus_failure : {Id : Type 0} → Failures Id → RustFile Id → Option Error

@@ -72,9 +72,9 @@ padding_lookups config database xs =
     (file_ids database.same xs)
 
 -- those of names and locations
-abbrev pub file_locus_lookups : {Id : Type 0} → FileDatabase Id → List (LabelInFile Id)
+abbrev pub locus_lookups_of_labels : {Id : Type 0} → FileDatabase Id → List (LabelInFile Id)
     → List (Id × Lookup)
-file_locus_lookups database xs =
+locus_lookups_of_labels database xs =
     flat_map (λ id. lookups_of_file id (locus_lookups database xs id))
     (file_ids database.same xs)
 
@@ -82,7 +82,7 @@ file_locus_lookups database xs =
 abbrev pub output_plan_lookups : {Id : Type 0} → Config → FileDatabase Id → List (LabelInFile Id)
     → List (Id × Lookup)
 output_plan_lookups config database xs =
-    padding_lookups config database xs ++ file_locus_lookups database xs
+    padding_lookups config database xs ++ locus_lookups_of_labels database xs
 
 -- what these lookups fail with
 abbrev pub output_plan_failure : {Id : Type 0} → Config → FileDatabase Id → List (LabelInFile Id)

@@ -15,7 +15,7 @@ use Rattle.codespan_views.specs.Private.Annotations.{Annotation, is_of_file}
 use Rattle.codespan_views.specs.Private.AnnotationViews.{annotation_view}
 use Rattle.codespan_views.specs.Private.SnippetLineViews.{IsSnippetLineIn, numbers_looked_up, snippet_line_view}
 use Rattle.codespan_views.specs.Private.LabeledFiles.{ids_view}
-use Rattle.codespan_views.specs.Private.Loci.{loci_lookups}
+use Rattle.codespan_views.specs.Private.Loci.{locus_lookups_of_files}
 use Rattle.codespan_views.specs.Private.LocusBytes.{locus_byte}
 use Rattle.codespan_views.specs.Private.SnippetLines.{SnippetLine, filled_lines_of, lines_of}
 use Rattle.codespan_views.specs.Private.Utf8Loci.{IsUtf8Locus}
@@ -71,7 +71,7 @@ abbrev pub collected_plan_lookups : {Id : Type 0} → Layout → Collected Id �
 collected_plan_lookups layout collected =
     number_lookups layout (map annotation_view collected.annotations.items)
     (ids_view collected.files.items)
-    ++ loci_lookups collected.files.items
+    ++ locus_lookups_of_files collected.files.items
 
 -- what these lookups fail with
 abbrev pub collected_plan_failure : {Id : Type 0} → Layout → Failures Id → Collected Id
