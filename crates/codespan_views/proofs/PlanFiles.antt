@@ -22,7 +22,7 @@ use Rattle.codespan_views.specs.declared.labeled_files.LabeledFile.{LabeledFile 
 use Rattle.codespan_views.specs.declared.plan.snippet_plans.SnippetPlan.{SnippetPlan}
 use Rattle.codespan_views.specs.declared.plan.snippet_lines.SnippetLine.{SnippetLine as RustLine}
 use Rattle.codespan_views.specs.Private.Annotations.{Annotation}
-use Rattle.codespan_views.specs.Private.OutputPlans.{ArePlansOfLabels, IsOutputPlan, IsPlanOfLabels, ids_of, padding_lookups, locus_lookups_of_labels, output_plan_failure}
+use Rattle.codespan_views.specs.Private.OutputPlans.{ArePlansOfLabels, IsOutputPlan, IsPlanOfLabels, ids_of, number_lookups_of_labels, locus_lookups_of_labels, output_plan_failure}
 use Rattle.codespan_views.specs.Private.Collections.{IsCollected}
 use Rattle.codespan_views.specs.Private.AnnotationViews.{annotation_view}
 use Rattle.codespan_views.specs.Private.LabeledFiles.{HasLabels, ids_view}
@@ -31,7 +31,7 @@ use Rattle.codespan_views.specs.Private.SnippetLineViews.{IsSnippetLineIn, numbe
 use Rattle.codespan_views.specs.Private.Loci.{locus_lookups_of_files}
 use Rattle.codespan_views.specs.Private.LocusBytes.{locus_byte}
 use Rattle.codespan_views.specs.Private.FileIndices.{IsIdAt}
-use Rattle.codespan_views.specs.Private.SnippetPlans.{ArePlansOfAnnotations, ArePlansOfCollected, IsPlanOfAnnotations, number_lookups, collected_plan_failure, line_digit_counts, lines_at, padding_width}
+use Rattle.codespan_views.specs.Private.SnippetPlans.{ArePlansOfAnnotations, ArePlansOfCollected, IsPlanOfAnnotations, number_lookups_of_annotations, collected_plan_failure, line_digit_counts, lines_at, padding_width}
 use Rattle.codespan_views.specs.Private.SnippetLines.{SnippetLine, filled_lines_of, rows_of_lines, AreInOrder}
 use Rattle.codespan_views.proofs.FileTurns.{flat_map_indexed-same}
 use Rattle.codespan_views.proofs.SpannedPadding.{spanned-padding_width}
@@ -86,10 +86,10 @@ module _ {Id : Type 0} {database : FileDatabase Id} (lawful : AreFiles database)
   }
 
   -- the numbers that are looked up before the header are those of the padding
-  numbers-are : number_lookups config.layout es (ids_view collected.files.items) ≡ padding_lookups
+  numbers-are : number_lookups_of_annotations config.layout es (ids_view collected.files.items) ≡ number_lookups_of_labels
       config database xs
   numbers-are =
-      ap (number_lookups config.layout es) all.files.ids_are
+      ap (number_lookups_of_annotations config.layout es) all.files.ids_are
       ∙ flat_map_indexed-same (λ k id. lookups_of_file id
       (numbers_looked_up config.layout (filled_lines_of (lines_at es k))))
       (λ id. lookups_of_file id (numbers_for_padding database xs config config.layout id)) 0

@@ -23,7 +23,7 @@ use Rattle.codespan_views.specs.Private.SnippetLineViews.{AppendsSnippetLines, n
 use Rattle.codespan_views.specs.Private.LabeledFiles.{ids_view}
 use Rattle.codespan_views.specs.Private.Loci.{locus_lookups_of, locus_lookups_of_files, locus_byte_of_file}
 use Rattle.codespan_views.specs.Private.Utf8Loci.{IsUtf8Locus}
-use Rattle.codespan_views.specs.Private.SnippetPlans.{ArePlansOfAnnotations, IsPlanOfAnnotations, number_lookups, lines_at}
+use Rattle.codespan_views.specs.Private.SnippetPlans.{ArePlansOfAnnotations, IsPlanOfAnnotations, number_lookups_of_annotations, lines_at}
 use Rattle.codespan_views.specs.Private.SnippetLines.{SnippetLine, filled_lines_of, lines_of}
 use Rattle.codespan_views.proofs.FirstErrors.{first_error-append, or_failure-succeeded, or_failure-none, or_failure-some, first_error-none, first_error-some}
 use Rattle.codespan_views.proofs.FileSlices.{next_slice}
@@ -129,7 +129,7 @@ module _ {Id : Type 0} (layout : Layout) (file : Id → FileModel) (es : List An
   -- where no locus fails these are their plans
   pub record ArePlanned (files : List (RustFile Id)) (now : List (SnippetPlan Id))
       (snippet_lines : List (RustLine Id)) (located : Result (Unit {0}) Error) : Type 0 where
-    pub succeeded : first_error failure (number_lookups layout es (ids_view files)) ≡ None
+    pub succeeded : first_error failure (number_lookups_of_annotations layout es (ids_view files)) ≡ None
     pub located_fails : FailsByOrFormatError (first_error failure (locus_lookups_of_files files)) located
     pub plans : IfOk located (λ _. ArePlansOfAnnotations layout file es 0 files now snippet_lines)
 
@@ -140,14 +140,14 @@ module _ {Id : Type 0} {layout : Layout} {file : Id → FileModel} {es : List An
   pub plans-add : (files : List (RustFile Id)) (k : ℕ) → length files ≤ k
       → ArePlanned layout file es failure (take k files) now snippet_lines located
       → FailsByOrFormatError
-      (first_error failure (number_lookups layout es (ids_view files) ++ locus_lookups_of_files files))
+      (first_error failure (number_lookups_of_annotations layout es (ids_view files) ++ locus_lookups_of_files files))
       located
   plans-add files k past found =
       let all = subst
       (λ (fs : List (RustFile Id)). ArePlanned layout file es failure fs now snippet_lines
       located)
       (take_all k files past) found in
-      let numbers = number_lookups layout es (ids_view files) in
+      let numbers = number_lookups_of_annotations layout es (ids_view files) in
       subst (λ o. FailsByOrFormatError o located)
       (sym (first_error-none failure numbers (locus_lookups_of_files files) all.succeeded))
       all.located_fails
@@ -201,14 +201,14 @@ module _ {Id : Type 0} {files : List (RustFile Id)} {k : ℕ} {f : RustFile Id}
 
       -- the lookups with this one's
       lookups-more : first_error failure
-          (number_lookups layout es (ids_view (take (k + 1) files)))
+          (number_lookups_of_annotations layout es (ids_view (take (k + 1) files)))
           ≡ first_error failure (lookups_at k f.file_id)
       lookups-more =
           ap (first_error failure)
           (flat_map_indexed-more lookups_at k (ids_view (take k files))
           (ids_view (take (k + 1) files)) f.file_id (length-map (take k files) _ ∙ files_before)
           ids-more)
-          ∙ first_error-none failure (number_lookups layout es (ids_view (take k files)))
+          ∙ first_error-none failure (number_lookups_of_annotations layout es (ids_view (take k files)))
           (lookups_at k f.file_id) before.succeeded
 
       -- the plans with this one
@@ -267,14 +267,14 @@ module _ {Id : Type 0} {files : List (RustFile Id)} {k : ℕ} {f : RustFile Id}
       -- an error of the lookups of its numbers is that of all
       pub planned-fails : {e : Error} → first_error failure (lookups_at k f.file_id) ≡ Some e
           → first_error failure
-          (number_lookups layout es (ids_view files) ++ locus_lookups_of_files files) ≡ Some e
+          (number_lookups_of_annotations layout es (ids_view files) ++ locus_lookups_of_files files) ≡ Some e
       planned-fails {e} known =
           let rest = drop (k + 1) files in
           let whole = ap ids_view (sym (take-append-drop (k + 1) files))
           ∙ map-append (λ (g : RustFile Id). g.file_id) (take (k + 1) files) rest in
-          first_error-some failure (number_lookups layout es (ids_view files)) (locus_lookups_of_files files) e
-          (ap (λ ids. first_error failure (number_lookups layout es ids)) whole
+          first_error-some failure (number_lookups_of_annotations layout es (ids_view files)) (locus_lookups_of_files files) e
+          (ap (λ ids. first_error failure (number_lookups_of_annotations layout es ids)) whole
           ∙ ap (first_error failure)
           (flat_map_indexed-append lookups_at 0 (ids_view (take (k + 1) files)) (ids_view rest))
-          ∙ first_error-some failure (number_lookups layout es (ids_view (take (k + 1) files))) _ e
+          ∙ first_error-some failure (number_lookups_of_annotations layout es (ids_view (take (k + 1) files))) _ e
           (lookups-more ∙ known))

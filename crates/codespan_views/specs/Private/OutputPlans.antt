@@ -63,9 +63,9 @@ module _ {Id : Type 0} (database : FileDatabase Id) where
         ≡ padding_of config (labeled_file_models database.same database.file xs)
 
 -- the lookups of the numbers of filled lines, where they are made before the header
-abbrev pub padding_lookups : {Id : Type 0} → Config → FileDatabase Id → List (LabelInFile Id)
+abbrev pub number_lookups_of_labels : {Id : Type 0} → Config → FileDatabase Id → List (LabelInFile Id)
     → List (Id × Lookup)
-padding_lookups config database xs =
+number_lookups_of_labels config database xs =
     flat_map
     (λ id. lookups_of_file id
     (numbers_for_padding database xs config config.layout id))
@@ -82,7 +82,7 @@ locus_lookups_of_labels database xs =
 abbrev pub output_plan_lookups : {Id : Type 0} → Config → FileDatabase Id → List (LabelInFile Id)
     → List (Id × Lookup)
 output_plan_lookups config database xs =
-    padding_lookups config database xs ++ locus_lookups_of_labels database xs
+    number_lookups_of_labels config database xs ++ locus_lookups_of_labels database xs
 
 -- what these lookups fail with
 abbrev pub output_plan_failure : {Id : Type 0} → Config → FileDatabase Id → List (LabelInFile Id)

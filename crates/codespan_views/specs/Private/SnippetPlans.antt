@@ -30,8 +30,9 @@ flat_map_indexed image k [] = []
 flat_map_indexed image k (id ∷ ids) = image k id ++ flat_map_indexed image (k + 1) ids
 
 -- the lookups of the numbers of lines that are filled in
-abbrev pub number_lookups : {Id : Type 0} → Layout → List Annotation → List Id → List (Id × Lookup)
-number_lookups layout es ids =
+abbrev pub number_lookups_of_annotations : {Id : Type 0} → Layout → List Annotation → List Id
+    → List (Id × Lookup)
+number_lookups_of_annotations layout es ids =
     flat_map_indexed
     (λ k id. lookups_of_file id (numbers_looked_up layout (filled_lines_of (lines_at es k)))) 0 ids
 
@@ -69,7 +70,7 @@ ArePlansOfCollected layout file collected snippet_plans snippet_lines =
 -- all files
 abbrev pub collected_plan_lookups : {Id : Type 0} → Layout → Collected Id → List (Id × Lookup)
 collected_plan_lookups layout collected =
-    number_lookups layout (map annotation_view collected.annotations.items)
+    number_lookups_of_annotations layout (map annotation_view collected.annotations.items)
     (ids_view collected.files.items)
     ++ locus_lookups_of_files collected.files.items
 
