@@ -17,7 +17,7 @@ use Rattle.codespan_picture.specs.CharMetrics.{metrics_then, placeholder, width_
 use Rattle.codespan_renderer.specs.Private.RemainingMetrics.{after_last, no_more}
 use Rattle.codespan_picture.specs.Carets.{covers}
 use Rattle.codespan_picture.specs.Arguments.{SingleLabelTuple, single_label_view, single_label_views, starts_from}
-use Rattle.codespan_renderer.specs.declared.term.renderer.cached.metrics_from_cache.MetricsFromCache.{MetricsFromCache}
+use Rattle.codespan_renderer.specs.declared.term.renderer.cached.cached_metrics.MetricsFromCache.{MetricsFromCache}
 use Rattle.codespan_renderer.specs.Private.CachedMetrics.{remaining_from_cache}
 use Rattle.codespan_picture.specs.Private.CharCursors.{AreContiguous, is_covered}
 use Rattle.codespan_renderer.specs.Private.CursorStates.{IsBefore, HasReturned}

@@ -69,7 +69,7 @@ impl<'a, 'c, 'd, 'files, F: Files<'files>> LabelCollector<'a, 'c, 'd, 'files, F>
         }
     }
 
-    /// Returns the label's lane mark on a line, if it is a multi-line label that has one.
+    /// Returns the label's annotation as a multi-line label on a line, if it has a lane mark there.
     fn multi_kind_on_line(&self, line: LineInfo) -> Option<AnnotationKind<'d, F::FileId>>
         ensures { option_map (kind_view line.start) result ≡ multi_kind_by_collector self.now line }
     {

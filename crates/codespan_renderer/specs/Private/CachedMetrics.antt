@@ -6,7 +6,7 @@ use Rattle.codespan_picture.specs.declared.char_metrics.Metrics.{Metrics}
 use Rattle.codespan_picture.specs.CharMetrics.{metrics_then}
 use Rattle.codespan_picture.specs.RowParts.{metrics_up_to}
 use Rattle.codespan_renderer.specs.declared.term.renderer.char_metrics.CharMetrics.{CharMetrics}
-use Rattle.codespan_renderer.specs.declared.term.renderer.cached.metrics_from_cache.MetricsFromCache.{MetricsFromCache}
+use Rattle.codespan_renderer.specs.declared.term.renderer.cached.cached_metrics.MetricsFromCache.{MetricsFromCache}
 use Rattle.codespan_renderer.specs.Private.RemainingMetrics.{MetricsAfterEnd, metrics_from, remaining_metrics, no_more}
 
 -- the characters that are left: the cached ones, and then those of the iterator

@@ -16,7 +16,7 @@ module _ (config : Config) (f : FileModel) (indices : LabelIndices) (x : LabelMo
       if is_single f x && (first_line f x == l) then Some (Single indices.index (drawn_label f x))
       else if shows config (first_line f x) (last_line f x) l then Some Shown else None
 
-  -- its lane mark on a line, where it is a multi-line label
+  -- what it does on a line as a multi-line label, where it has a lane mark there
   abbrev pub multi_kind_on : ℕ → Option AnnotationKind
   multi_kind_on l =
       if is_single f x then None
@@ -39,7 +39,7 @@ kind_by_ends config indices s e l start x =
     if (s == e) && (s == l) then Some (Single indices.index (from_line_start start x))
     else if shows config s e l then Some Shown else None
 
--- its lane mark there, if it is a multi-line label that has one
+-- what it does there as a multi-line label, if it has a lane mark there
 abbrev pub multi_kind_by_ends : LabelIndices → ℕ → ℕ → ℕ → ℕ → LabelModel → Option AnnotationKind
 multi_kind_by_ends indices s e l start x =
     if s == e then None

@@ -149,7 +149,7 @@ kind_by_collector collector line =
     kind_by_ends collector.config.now collector.indices collector.span.first collector.span.last
     line.index line.start (label_of collector.label.now).label
 
--- its lane mark on a line, by the lines of its ends
+-- what it does there as a multi-line label, by the lines of its ends
 abbrev pub multi_kind_by_collector : {F Id Name Source : Type 0} → LabelCollector F Id Name Source
     → LineInfo → Option AnnotationKind
 multi_kind_by_collector collector line =

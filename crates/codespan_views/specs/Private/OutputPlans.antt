@@ -63,8 +63,8 @@ module _ {Id : Type 0} (database : FileDatabase Id) where
         ≡ padding_of config (labeled_file_models database.same database.file xs)
 
 -- the lookups of the numbers of filled lines, where they are made before the header
-abbrev pub number_lookups_of_labels : {Id : Type 0} → Config → FileDatabase Id → List (LabelInFile Id)
-    → List (Id × Lookup)
+abbrev pub number_lookups_of_labels : {Id : Type 0} → Config → FileDatabase Id
+    → List (LabelInFile Id) → List (Id × Lookup)
 number_lookups_of_labels config database xs =
     flat_map
     (λ id. lookups_of_file id

@@ -7,7 +7,7 @@
 //! [`Renderer::render_snippet_source`]: crate::term::renderer::Renderer::render_snippet_source
 
 mod cached_line;
-mod metrics_from_cache;
+mod cached_metrics;
 mod label_cursor;
 mod line_cache;
 mod pointers;

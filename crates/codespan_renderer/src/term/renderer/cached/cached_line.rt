@@ -14,7 +14,7 @@ ghost use Rattle.codespan_renderer.specs.Private.PointerLists.{pointers_in};
 ghost use Rattle.codespan_picture.specs.Private.Runs.{least_start};
 
 use crate::term::renderer::Renderer;
-use crate::term::renderer::cached::metrics_from_cache::MetricsFromCache;
+use crate::term::renderer::cached::cached_metrics::MetricsFromCache;
 use crate::term::renderer::cached::label_cursor::LabelCursor;
 use crate::term::renderer::cached::pointers::{Pointer, write_pointers};
 use crate::term::renderer::char_metrics::{CharMetrics, Metrics};
@@ -44,7 +44,8 @@ impl<'cache, 'row, 'd> CharCursor for CachedCursor<'cache, 'row, 'd> {
 
     ghost labels = { λ s. s.label_cursor.labels.now };
 
-    ghost has_returned = { λ c s. ∥ HasReturned c s.label_cursor (remaining_from_cache s.characters) ∥₁ };
+    ghost has_returned = { λ c s.
+        ∥ HasReturned c s.label_cursor (remaining_from_cache s.characters) ∥₁ };
 
     #[inline(always)]
     fn next_metrics(&mut self) -> Option<Metrics> {

@@ -7,7 +7,7 @@ ghost use Rattle.codespan_renderer.specs.Renderers.{config_of};
 
 use crate::term::renderer::Renderer;
 use crate::term::renderer::cached::cached_line::CachedLine;
-use crate::term::renderer::cached::metrics_from_cache::MetricsFromCache;
+use crate::term::renderer::cached::cached_metrics::MetricsFromCache;
 use crate::term::renderer::cached::pointers::{Pointer, find_pointers};
 use crate::term::renderer::cached::reach::reach_of;
 use crate::term::renderer::char_metrics::{CharMetrics, Metrics};

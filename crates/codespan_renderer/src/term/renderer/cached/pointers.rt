@@ -10,7 +10,7 @@ ghost use Rattle.codespan_renderer.specs.Private.PointerLists.{pointer_under, po
 ghost use Rattle.codespan_picture.specs.Rows.{hanging_labels};
 ghost use Rattle.codespan_picture.specs.Private.Runs.{AreHanging};
 
-use crate::term::renderer::cached::metrics_from_cache::MetricsFromCache;
+use crate::term::renderer::cached::cached_metrics::MetricsFromCache;
 use crate::term::renderer::cached::label_cursor::StartCursor;
 use crate::term::renderer::char_metrics::Metrics;
 use codespan_core::diagnostic::LabelStyle;
