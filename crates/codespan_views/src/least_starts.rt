@@ -59,7 +59,7 @@ impl LeastStarts {
 
     /// Returns the byte index of the locus: the least start of a primary label, or of any label
     /// where none is primary; 0 without labels.
-    pub fn byte(self) -> usize
+    pub fn locus_byte(self) -> usize
         ensures { result ≡ locus_byte self }
     {
         self.primary.or(self.any).unwrap_or(0)

@@ -99,7 +99,7 @@ fn locate_snippet<'files, 'e, F: Files<'files>>(
         files,
         file_id: file.file_id,
     };
-    let locus = source.locus(alloc, file.least_starts.byte())?;
+    let locus = source.locus(alloc, file.least_starts.locus_byte())?;
     Ok(SnippetPlan {
         file,
         locus,
