@@ -181,7 +181,7 @@ module _ {Id : Type 0} {database : FileDatabase Id} (lawful : AreFiles database)
   ids-from k (f ∷ fs) [] snippet_lines h = absurd h
   ids-from k (f ∷ fs) (snippet_plan ∷ snippet_plans) snippet_lines h =
       λ i. (h.0.file_is i).file_id
-      ∷ ids-from (k + 1) fs snippet_plans (drop snippet_plan.line_total snippet_lines) h.1 i
+      ∷ ids-from (k + 1) fs snippet_plans (drop snippet_plan.snippet_line_count snippet_lines) h.1 i
 
   -- plans are those of their files
   plans-from : (k : ℕ) (fs : List (RustFile Id)) (snippet_plans : List (SnippetPlan Id))
@@ -194,9 +194,9 @@ module _ {Id : Type 0} {database : FileDatabase Id} (lawful : AreFiles database)
   plans-from k (f ∷ fs) [] snippet_lines at known h = absurd h
   plans-from k (f ∷ fs) (snippet_plan ∷ snippet_plans) snippet_lines at known h = (
     subst (λ (g : RustFile Id). IsPlanOfLabels config (labeled g.file_id) snippet_plan
-        (take snippet_plan.line_total snippet_lines))
+        (take snippet_plan.snippet_line_count snippet_lines))
         (sym h.0.file_is) (file-plan (are_at-here k f.file_id (ids_view fs) at) known.0 h.0),
-    plans-from (k + 1) fs snippet_plans (drop snippet_plan.line_total snippet_lines) (are_at-next k f.file_id (ids_view fs) at) known.1 h.1,
+    plans-from (k + 1) fs snippet_plans (drop snippet_plan.snippet_line_count snippet_lines) (are_at-next k f.file_id (ids_view fs) at) known.1 h.1,
   )
 
   -- in the unbroken layout the digits of their snippet lines are those that the padding fits
@@ -212,9 +212,9 @@ module _ {Id : Type 0} {database : FileDatabase Id} (lawful : AreFiles database)
   digits-from unbroken k [] (snippet_plan ∷ snippet_plans) snippet_lines at known h = absurd h
   digits-from unbroken k (f ∷ fs) [] snippet_lines at known h = absurd h
   digits-from unbroken k (f ∷ fs) (snippet_plan ∷ snippet_plans) snippet_lines at known h =
-      let own = take snippet_plan.line_total snippet_lines in
-      let later = drop snippet_plan.line_total snippet_lines in
-      ap (flat_map line_digit_counts) (sym (take-append-drop snippet_plan.line_total snippet_lines)) ∙ flat_map-append line_digit_counts own later
+      let own = take snippet_plan.snippet_line_count snippet_lines in
+      let later = drop snippet_plan.snippet_line_count snippet_lines in
+      ap (flat_map line_digit_counts) (sym (take-append-drop snippet_plan.snippet_line_count snippet_lines)) ∙ flat_map-append line_digit_counts own later
       ∙ (λ i. file-digits (are_at-here k f.file_id (ids_view fs) at) known.0 h.0 unbroken i
       ++ digits-from unbroken (k + 1) fs snippet_plans later
       (are_at-next k f.file_id (ids_view fs) at) known.1 h.1 i)

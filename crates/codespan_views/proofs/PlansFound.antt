@@ -52,7 +52,7 @@ pub plan_found : {Id : Type 0} {files : List (RustFile Id)} {xs zs : List (RustA
     → {count : ℕ} → count ≡ length new - length old → {snippet_plan : SnippetPlan Id}
     → snippet_plan.file.now ≡ f
     → IsUtf8Locus (locus_byte_of_file file f) (locus_view snippet_plan.locus)
-    → snippet_plan.line_total ≡ count
+    → snippet_plan.snippet_line_count ≡ count
     → IsPlanOfAnnotations layout file (map annotation_view xs) k f snippet_plan added.more
 plan_found turn added zs_are counted same locus total = record {
   file_is = same;
@@ -65,10 +65,10 @@ plan_found turn added zs_are counted same locus total = record {
 -- there are at least as many snippet lines as a plan counts in front
 count-within : {Id : Type 0} {layout : Layout} {file : Id → FileModel} {es : List Annotation}
     {k : ℕ} {f : RustFile Id} {snippet_plan : SnippetPlan Id} (snippet_lines : List (RustLine Id))
-    → IsPlanOfAnnotations layout file es k f snippet_plan (take snippet_plan.line_total snippet_lines)
-    → snippet_plan.line_total ≤ length snippet_lines
+    → IsPlanOfAnnotations layout file es k f snippet_plan (take snippet_plan.snippet_line_count snippet_lines)
+    → snippet_plan.snippet_line_count ≤ length snippet_lines
 count-within {snippet_plan = snippet_plan} snippet_lines is =
-    omega (arith, is.count_is, length-take snippet_plan.line_total snippet_lines)
+    omega (arith, is.count_is, length-take snippet_plan.snippet_line_count snippet_lines)
 
 module _ {Id : Type 0} {layout : Layout} {file : Id → FileModel} {es : List Annotation}
     {f : RustFile Id} {snippet_plan : SnippetPlan Id} {own : List (RustLine Id)} where
@@ -78,8 +78,8 @@ module _ {Id : Type 0} {layout : Layout} {file : Id → FileModel} {es : List An
   plan-alone k is =
       let count = is.count_is in (
         subst (IsPlanOfAnnotations layout file es k f snippet_plan)
-            (sym (take_all snippet_plan.line_total own (omega (arith, count)))) is,
-        drop_all snippet_plan.line_total own (omega (arith, count)),
+            (sym (take_all snippet_plan.snippet_line_count own (omega (arith, count)))) is,
+        drop_all snippet_plan.snippet_line_count own (omega (arith, count)),
       )
 
   -- plans from an index on, and then one more
@@ -101,10 +101,10 @@ module _ {Id : Type 0} {layout : Layout} {file : Id → FileModel} {es : List An
       let e : k + suc (length fs) ≡ k + 1 + length fs = omega arith in
       let within = count-within snippet_lines h.0 in (
         subst (IsPlanOfAnnotations layout file es k g first)
-            (sym (take-append-le first.line_total snippet_lines own within)) h.0,
+            (sym (take-append-le first.snippet_line_count snippet_lines own within)) h.0,
         subst (ArePlansOfAnnotations layout file es (k + 1) (fs ++ f ∷ []) (snippet_plans ++ snippet_plan ∷ []))
-            (sym (drop-append-le first.line_total snippet_lines own within))
-            (plans-more (k + 1) fs snippet_plans (drop first.line_total snippet_lines) h.1
+            (sym (drop-append-le first.snippet_line_count snippet_lines own within))
+            (plans-more (k + 1) fs snippet_plans (drop first.snippet_line_count snippet_lines) h.1
             (subst (λ n. IsPlanOfAnnotations layout file es n f snippet_plan own) e is)),
       )
 

@@ -206,7 +206,7 @@ module _ {Id : Type 0} {view_config : Config} {database : FileDatabase Id} {d : 
           (loci_of snippet_plans)
       from [] snippet_lines are = tt
       from (snippet_plan ∷ snippet_plans) snippet_lines are =
-          (are.0.locus_is, from snippet_plans (drop snippet_plan.line_total snippet_lines) are.1)
+          (are.0.locus_is, from snippet_plans (drop snippet_plan.snippet_line_count snippet_lines) are.1)
 
   -- the output with these loci is all of these
   output-is : (renderer_config : Config)

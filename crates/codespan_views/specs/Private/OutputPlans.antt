@@ -32,7 +32,7 @@ pub record IsPlanOfLabels {Id : Type 0} (config : Config) (s : LabeledFileModel)
     (snippet_plan : SnippetPlan Id) (own_lines : List (RustLine Id)) : Type 0 where
   pub lanes_are : snippet_plan.file.now.num_multi_labels ≡ num_multi_labels s
   pub locus_is : IsLocusOfFile s (locus_view snippet_plan.locus)
-  pub count_is : snippet_plan.line_total ≡ length own_lines
+  pub count_is : snippet_plan.snippet_line_count ≡ length own_lines
   pub each : AllByRecursion (IsSnippetLineOf s.file) own_lines
   pub in_order : AreInOrder (num_multi_labels s) (map snippet_line_view own_lines)
   pub rows : rows_of_lines s.file (num_multi_labels s) (map snippet_line_view own_lines)
@@ -50,8 +50,9 @@ module _ {Id : Type 0} (database : FileDatabase Id) where
   ArePlansOfLabels config xs (snippet_plan ∷ snippet_plans) snippet_lines =
       IsPlanOfLabels config
       (labeled_file_model database.same database.file xs snippet_plan.file.now.file_id)
-      snippet_plan (take snippet_plan.line_total snippet_lines)
-      × ArePlansOfLabels config xs snippet_plans (drop snippet_plan.line_total snippet_lines)
+      snippet_plan (take snippet_plan.snippet_line_count snippet_lines)
+      × ArePlansOfLabels config xs snippet_plans
+      (drop snippet_plan.snippet_line_count snippet_lines)
 
   -- the plan is that of these labels
   pub record IsOutputPlan (config : Config) (xs : List (LabelInFile Id))

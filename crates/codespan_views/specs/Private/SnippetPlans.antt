@@ -43,7 +43,7 @@ module _ {Id : Type 0} (layout : Layout) (file : Id → FileModel) (es : List An
     pub file_is : snippet_plan.file.now ≡ f
     pub locus_is : IsUtf8Locus (file f.file_id, locus_byte f.least_starts)
         (locus_view snippet_plan.locus)
-    pub count_is : snippet_plan.line_total ≡ length own_lines
+    pub count_is : snippet_plan.snippet_line_count ≡ length own_lines
     pub are : map snippet_line_view own_lines ≡ lines_at es k
     pub each : AllByRecursion (IsSnippetLineIn layout (file f.file_id)) own_lines
 
@@ -56,8 +56,9 @@ module _ {Id : Type 0} (layout : Layout) (file : Id → FileModel) (es : List An
   ArePlansOfAnnotations k [] (snippet_plan ∷ snippet_plans) snippet_lines = ⊥
   ArePlansOfAnnotations k (f ∷ fs) [] snippet_lines = ⊥
   ArePlansOfAnnotations k (f ∷ fs) (snippet_plan ∷ snippet_plans) snippet_lines =
-      IsPlanOfAnnotations k f snippet_plan (take snippet_plan.line_total snippet_lines)
-      × ArePlansOfAnnotations (k + 1) fs snippet_plans (drop snippet_plan.line_total snippet_lines)
+      IsPlanOfAnnotations k f snippet_plan (take snippet_plan.snippet_line_count snippet_lines)
+      × ArePlansOfAnnotations (k + 1) fs snippet_plans
+      (drop snippet_plan.snippet_line_count snippet_lines)
 
 -- the plans are those of the files that were collected, with all their lines
 abbrev pub ArePlansOfCollected : {Id : Type 0} → Layout → (Id → FileModel) → Collected Id

@@ -85,8 +85,8 @@ fn chain_buckets<FileId>(
     ensures failed { OnErr result (IsErrOf result Error.OutOfMemory) }
 {
     let len = annotations.len();
-    let line_total = lines.end.saturating_sub(lines.start);
-    let mut first = vec![in alloc; len; line_total.saturating_mul(RANK_COUNT)]?;
+    let line_count = lines.end.saturating_sub(lines.start);
+    let mut first = vec![in alloc; len; line_count.saturating_mul(RANK_COUNT)]?;
     let mut next = vec![in alloc; len; len]?;
     for index in (0..len).rev() {
         let bucket = bucket_of(&annotations[index], lines.start);

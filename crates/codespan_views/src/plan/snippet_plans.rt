@@ -35,7 +35,7 @@ pub struct SnippetPlan<'e, FileId> {
     /// The locus that the snippet begins with.
     pub locus: Locus,
     /// The number of the snippet's lines.
-    pub line_total: usize,
+    pub snippet_line_count: usize,
 }
 
 /// Appends the lines of the snippet of a file, which has these annotations, and returns how many
@@ -75,8 +75,8 @@ fn push_snippet<'files, 'e, 'd, F: Files<'files>>(
     Ok(snippet_lines.len() - before)
 }
 
-/// Returns the plan of a file's snippet of `line_total` lines: looks up the name of the file, and
-/// the location of its locus.
+/// Returns the plan of a file's snippet of `snippet_line_count` lines: looks up the name of the
+/// file, and the location of its locus.
 ///
 /// # Errors
 ///
@@ -86,12 +86,13 @@ fn locate_snippet<'files, 'e, F: Files<'files>>(
     alloc: Global,
     files: &'files F,
     file: &'e LabeledFile<F::FileId>,
-    line_total: usize,
+    snippet_line_count: usize,
 ) -> Result<SnippetPlan<'e, F::FileId>, Error>
     ensures file { IfOk result (λ snippet_plan. snippet_plan.file.now ≡ file.now) }
     ensures locus { IfOk result (λ snippet_plan. IsUtf8Locus
         (locus_byte_of_file (F.database files.now).file file.now) (locus_view snippet_plan.locus)) }
-    ensures line_total { IfOk result (λ snippet_plan. snippet_plan.line_total ≡ line_total) }
+    ensures snippet_line_count { IfOk result (λ snippet_plan.
+        snippet_plan.snippet_line_count ≡ snippet_line_count) }
     ensures failed { FailsByOrFormatError (locus_failure (F.database files.now).failure file.now)
         result }
 {
@@ -103,7 +104,7 @@ fn locate_snippet<'files, 'e, F: Files<'files>>(
     Ok(SnippetPlan {
         file,
         locus,
-        line_total,
+        snippet_line_count,
     })
 }
 
@@ -155,9 +156,15 @@ pub fn plan_snippets<'files, 'e, 'd, F: Files<'files>>(
     for (index, file) in collected.files.iter().enumerate() {
         let len = count_in_file(&collected.annotations[start..], index);
         let own_annotations = &collected.annotations[start..start + len];
-        let line_total = push_snippet(files, file.file_id, layout, own_annotations, snippet_lines)?;
+        let snippet_line_count = push_snippet(
+            files,
+            file.file_id,
+            layout,
+            own_annotations,
+            snippet_lines,
+        )?;
         start += len;
-        match locate_snippet(alloc, files, file, line_total) {
+        match locate_snippet(alloc, files, file, snippet_line_count) {
             Ok(snippet_plan) => snippet_plans.push(snippet_plan)?,
             Err(error) => located = first_error_of(located, error),
         }

@@ -13,8 +13,8 @@ returns-clause-file g c = refl
 pub returns-clause-locus : goal.returns-clause-locus
 returns-clause-locus g c = rw c.locus_byte.ensures at c.in_ok-locus.ensures.locus
 
-pub returns-clause-line_total : goal.returns-clause-line_total
-returns-clause-line_total g c = refl
+pub returns-clause-snippet_line_count : goal.returns-clause-snippet_line_count
+returns-clause-snippet_line_count g c = refl
 
 pub returns-clause-failed : goal.returns-clause-failed
 returns-clause-failed g c = rw c.locus_byte.ensures at c.in_ok-locus.ensures.failed
