@@ -120,15 +120,15 @@ fn follow_chains<'d, FileId>(
 {
     let mut moved = Vec::with_capacity(alloc, annotations.len())?;
     for start in first {
-        let mut source = *start;
-        while source < annotations.len() {
-            let following = next[source];
+        let mut index = *start;
+        while index < annotations.len() {
+            let following = next[index];
             if following == MOVED {
                 break;
             }
-            moved.push_reserved(annotations[source]);
-            next[source] = MOVED;
-            source = following;
+            moved.push_reserved(annotations[index]);
+            next[index] = MOVED;
+            index = following;
         }
     }
     Ok(moved)

@@ -96,11 +96,11 @@ fn locate_snippet<'files, 'e, F: Files<'files>>(
     ensures failed { FailsByOrFormatError (locus_failure (F.database files.now).failure file.now)
         result }
 {
-    let source = SourceFile {
+    let source_file = SourceFile {
         files,
         file_id: file.file_id,
     };
-    let locus = source.locus(alloc, file.least_starts.locus_byte())?;
+    let locus = source_file.locus(alloc, file.least_starts.locus_byte())?;
     Ok(SnippetPlan {
         file,
         locus,
