@@ -34,8 +34,9 @@ kind_view start (rust.Multi kind lane label) =
 
 -- an annotation
 abbrev pub annotation_view : {Id : Type 0} → RustAnnotation Id → Annotation
-annotation_view e = record
-    { file_index = e.file_index; line = e.line.index; kind = kind_view e.line.start e.kind }
+annotation_view annotation = record
+    { file_index = annotation.file_index; line = annotation.line.index;
+    kind = kind_view annotation.line.start annotation.kind }
 
 -- the line is one of the file's, with its number and its range
 pub record IsLineOf (f : FileModel) (line : LineInfo) : Type 0 where
@@ -48,7 +49,8 @@ IsLineAt f l line = (line.index ≡ l) × IsLineOf f line
 
 -- the annotation's line is one of its file, where these are the ids of the files
 abbrev pub IsOfFiles : {Id : Type 0} → (Id → FileModel) → List Id → RustAnnotation Id → Type 0
-IsOfFiles {Id} file ids e = (id : Id) → IsIdAt ids e.file_index id → IsLineOf (file id) e.line
+IsOfFiles {Id} file ids annotation = (id : Id) → IsIdAt ids annotation.file_index id
+    → IsLineOf (file id) annotation.line
 
 -- these annotations were appended, and this holds of each
 pub record AppendsAnnotations {Id : Type 0} (P : RustAnnotation Id → Type 0)
@@ -62,7 +64,7 @@ pub record AppendsAnnotations {Id : Type 0} (P : RustAnnotation Id → Type 0)
 abbrev pub AppendsAnnotationsOf : {Id : Type 0} → FileModel → List (RustAnnotation Id)
     → List (RustAnnotation Id) → List Annotation → Type 0
 AppendsAnnotationsOf f old new annotations =
-    AppendsAnnotations (λ e. IsLineOf f e.line) old new annotations
+    AppendsAnnotations (λ annotation. IsLineOf f annotation.line) old new annotations
 
 -- the kind of the multi-line label mark that a label from line `s` to line `e` has on line `l`, if
 -- it is a multi-line label that has one

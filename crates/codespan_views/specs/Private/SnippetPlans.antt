@@ -22,7 +22,7 @@ use Rattle.codespan_views.specs.Private.Utf8Loci.{IsUtf8Locus}
 
 -- the lines of the snippet of the file at an index
 abbrev pub lines_at : List Annotation → ℕ → List SnippetLine
-lines_at es k = lines_of (filter (is_of_file k) es)
+lines_at annotations k = lines_of (filter (is_of_file k) annotations)
 
 -- what `image` makes of each id and its index, one after another; indices are counted from k on
 abbrev pub flat_map_indexed : {Id A : Type 0} → (ℕ → Id → List A) → ℕ → List Id → List A
@@ -32,11 +32,13 @@ flat_map_indexed image k (id ∷ ids) = image k id ++ flat_map_indexed image (k 
 -- the lookups of the numbers of lines that are filled in
 abbrev pub number_lookups_of_annotations : {Id : Type 0} → Layout → List Annotation → List Id
     → List (Id × Lookup)
-number_lookups_of_annotations layout es ids =
+number_lookups_of_annotations layout annotations ids =
     flat_map_indexed
-    (λ k id. lookups_of_file id (numbers_looked_up layout (filled_lines_of (lines_at es k)))) 0 ids
+    (λ k id. lookups_of_file id
+    (numbers_looked_up layout (filled_lines_of (lines_at annotations k)))) 0 ids
 
-module _ {Id : Type 0} (layout : Layout) (file : Id → FileModel) (es : List Annotation) where
+module _ {Id : Type 0} (layout : Layout) (file : Id → FileModel)
+    (annotations : List Annotation) where
   -- the plan is that of this file, which is at an index: its locus and its lines
   pub record IsPlanOfAnnotations (k : ℕ) (f : RustFile Id) (snippet_plan : SnippetPlan Id)
       (own_lines : List (RustLine Id)) : Type 0 where
@@ -44,7 +46,7 @@ module _ {Id : Type 0} (layout : Layout) (file : Id → FileModel) (es : List An
     pub locus_is : IsUtf8Locus (file f.file_id, locus_byte f.least_starts)
         (locus_view snippet_plan.locus)
     pub count_is : snippet_plan.snippet_line_count ≡ length own_lines
-    pub are : map snippet_line_view own_lines ≡ lines_at es k
+    pub are : map snippet_line_view own_lines ≡ lines_at annotations k
     pub each : AllByRecursion (IsSnippetLineIn layout (file f.file_id)) own_lines
 
   -- the plans are those of the files from an index on, and these are all their lines, those of the

@@ -195,8 +195,8 @@ impl<'files, F: Files<'files>> LinePlanner<'files, F> {
         annotations: &'e [Annotation<'d, F::FileId>],
         snippet_lines: &mut Vec<SnippetLine<'e, 'd, F::FileId>>,
     ) -> Result<(), Error>
-        requires lines { All (λ e. IsLineOf (model_of F.database self.now.file)
-            e.line) annotations.now }
+        requires lines { All (λ annotation. IsLineOf (model_of F.database self.now.file)
+            annotation.line) annotations.now }
         ensures added { OnOk result
             (AppendsPlannedLines F.database self.now snippet_lines.old.items
             snippet_lines.new.items (lines_of (map annotation_view annotations.now))) }

@@ -56,7 +56,8 @@ fn push_snippet<'files, 'e, 'd, F: Files<'files>>(
     annotations: &'e [Annotation<'d, F::FileId>],
     snippet_lines: &mut Vec<SnippetLine<'e, 'd, F::FileId>>,
 ) -> Result<usize, Error>
-    requires { All (λ e. IsLineOf ((F.database files.now).file id) e.line) annotations.now }
+    requires { All (λ annotation. IsLineOf ((F.database files.now).file id) annotation.line)
+        annotations.now }
     ensures added { OnOk result (AppendsSnippetLines layout ((F.database files.now).file id)
         snippet_lines.old.items snippet_lines.new.items
         (lines_of (map annotation_view annotations.now))) }
