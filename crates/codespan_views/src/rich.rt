@@ -197,11 +197,11 @@ impl<'diagnostic, 'config, FileId: Copy + Eq> RichDiagnostic<'diagnostic, 'confi
 ///
 /// From this index on, the output plan has at least as many lines as the snippet.
 #[inline(always)]
-fn lines_of_file<'p, 'e, 'd, FileId>(
-    output_plan: &'p OutputPlan<'e, 'd, FileId>,
+fn lines_of_file<'p, 'collected, 'd, FileId>(
+    output_plan: &'p OutputPlan<'collected, 'd, FileId>,
     snippet_plan: &SnippetPlan<'_, FileId>,
     start: usize,
-) -> &'p [SnippetLine<'e, 'd, FileId>]
+) -> &'p [SnippetLine<'collected, 'd, FileId>]
     requires { start + snippet_plan.now.snippet_line_count
         ≤ length output_plan.now.snippet_lines.items }
     ensures { result.now

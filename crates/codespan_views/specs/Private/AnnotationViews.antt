@@ -34,9 +34,8 @@ kind_view start (rust.Multi kind lane label) =
 
 -- an annotation
 abbrev pub annotation_view : {Id : Type 0} → RustAnnotation Id → Annotation
-annotation_view annotation = record
-    { file_index = annotation.file_index; line = annotation.line.index;
-    kind = kind_view annotation.line.start annotation.kind }
+annotation_view x = record
+    { file_index = x.file_index; line = x.line.index; kind = kind_view x.line.start x.kind }
 
 -- the line is one of the file's, with its number and its range
 pub record IsLineOf (f : FileModel) (line : LineInfo) : Type 0 where

@@ -29,9 +29,9 @@ use std::alloc::Global;
 
 /// The plan of a file's snippet.
 #[derive(Drop)]
-pub struct SnippetPlan<'e, FileId> {
+pub struct SnippetPlan<'collected, FileId> {
     /// The file.
-    pub file: &'e LabeledFile<FileId>,
+    pub file: &'collected LabeledFile<FileId>,
     /// The locus that the snippet begins with.
     pub locus: Locus,
     /// The number of the snippet's lines.
@@ -49,12 +49,12 @@ pub struct SnippetPlan<'e, FileId> {
 ///
 /// The lines of the annotations are lines of the file.
 #[inline(always)]
-fn push_snippet<'files, 'e, 'd, F: Files<'files>>(
+fn push_snippet<'files, 'collected, 'd, F: Files<'files>>(
     files: &'files F,
     id: F::FileId,
     layout: Layout,
-    annotations: &'e [Annotation<'d, F::FileId>],
-    snippet_lines: &mut Vec<SnippetLine<'e, 'd, F::FileId>>,
+    annotations: &'collected [Annotation<'d, F::FileId>],
+    snippet_lines: &mut Vec<SnippetLine<'collected, 'd, F::FileId>>,
 ) -> Result<usize, Error>
     requires { All (λ annotation. IsLineOf ((F.database files.now).file id) annotation.line)
         annotations.now }
@@ -83,12 +83,12 @@ fn push_snippet<'files, 'e, 'd, F: Files<'files>>(
 ///
 /// As [`SourceFile::locus`].
 #[inline(always)]
-fn locate_snippet<'files, 'e, F: Files<'files>>(
+fn locate_snippet<'files, 'collected, F: Files<'files>>(
     alloc: Global,
     files: &'files F,
-    file: &'e LabeledFile<F::FileId>,
+    file: &'collected LabeledFile<F::FileId>,
     snippet_line_count: usize,
-) -> Result<SnippetPlan<'e, F::FileId>, Error>
+) -> Result<SnippetPlan<'collected, F::FileId>, Error>
     ensures file { IfOk result (λ snippet_plan. snippet_plan.file.now ≡ file.now) }
     ensures locus { IfOk result (λ snippet_plan. IsUtf8Locus
         (locus_byte_of_file (F.database files.now).file file.now) (locus_view snippet_plan.locus)) }
@@ -134,13 +134,13 @@ fn first_error_of(located: Result<(), Error>, error: Error) -> Result<(), Error>
 ///
 /// `snippet_lines` is empty, the annotations are in order, and their lines are lines of their
 /// files.
-pub fn plan_snippets<'files, 'e, 'd, F: Files<'files>>(
+pub fn plan_snippets<'files, 'collected, 'd, F: Files<'files>>(
     alloc: Global,
     files: &'files F,
     layout: Layout,
-    collected: &'e Collected<'d, F::FileId>,
-    snippet_lines: &mut Vec<SnippetLine<'e, 'd, F::FileId>>,
-) -> Result<Vec<SnippetPlan<'e, F::FileId>>, Error>
+    collected: &'collected Collected<'d, F::FileId>,
+    snippet_lines: &mut Vec<SnippetLine<'collected, 'd, F::FileId>>,
+) -> Result<Vec<SnippetPlan<'collected, F::FileId>>, Error>
     requires empty { snippet_lines.now.items ≡ [] }
     requires sorted { IsSortedBy is_before (map annotation_view collected.now.annotations.items) }
     requires lines { AllByRecursion (IsOfFiles (F.database files.now).file
@@ -157,15 +157,9 @@ pub fn plan_snippets<'files, 'e, 'd, F: Files<'files>>(
     for (index, file) in collected.files.iter().enumerate() {
         let len = count_in_file(&collected.annotations[start..], index);
         let own_annotations = &collected.annotations[start..start + len];
-        let snippet_line_count = push_snippet(
-            files,
-            file.file_id,
-            layout,
-            own_annotations,
-            snippet_lines,
-        )?;
+        let line_count = push_snippet(files, file.file_id, layout, own_annotations, snippet_lines)?;
         start += len;
-        match locate_snippet(alloc, files, file, snippet_line_count) {
+        match locate_snippet(alloc, files, file, line_count) {
             Ok(snippet_plan) => snippet_plans.push(snippet_plan)?,
             Err(error) => located = first_error_of(located, error),
         }
