@@ -65,12 +65,12 @@ abbrev pub AppendsAnnotationsOf : {Id : Type 0} → FileModel → List (RustAnno
 AppendsAnnotationsOf f old new annotations =
     AppendsAnnotations (λ annotation. IsLineOf f annotation.line) old new annotations
 
--- the kind of the multi-line label mark that a label from line `s` to line `e` has on line `l`, if
--- it is a multi-line label that has one
+-- the kind of the multi-line label mark that a label from line `first` to line `last` has on line
+-- `l`, if it is a multi-line label that has one
 abbrev pub multi_label_kind : ℕ → ℕ → ℕ → Option MultiLabelKind
-multi_label_kind s e l =
-    if s == e then None
-    else if s == l then Some label_kind.Top
-    else if e == l then Some label_kind.Bottom
-    else if nat_lt s l && nat_lt l e then Some label_kind.Left
+multi_label_kind first last l =
+    if first == last then None
+    else if first == l then Some label_kind.Top
+    else if last == l then Some label_kind.Bottom
+    else if nat_lt first l && nat_lt l last then Some label_kind.Left
     else None

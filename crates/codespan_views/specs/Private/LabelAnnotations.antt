@@ -33,17 +33,17 @@ module _ (config : Config) (f : FileModel) (indices : LabelIndices) (x : LabelMo
 
 -- ---- by the lines of its ends
 
--- what a label from line `s` to line `e` does on line `l`, which starts at this byte index
+-- what a label from line `first` to line `last` does on line `l`, which starts at this byte index
 abbrev pub kind_by_ends : Config → LabelIndices → ℕ → ℕ → ℕ → ℕ → LabelModel → Option AnnotationKind
-kind_by_ends config indices s e l start x =
-    if (s == e) && (s == l) then Some (Single indices.index (from_line_start start x))
-    else if shows config s e l then Some Shown else None
+kind_by_ends config indices first last l start x =
+    if (first == last) && (first == l) then Some (Single indices.index (from_line_start start x))
+    else if shows config first last l then Some Shown else None
 
 -- what it does there as a multi-line label, if it has a lane mark there
 abbrev pub multi_kind_by_ends : LabelIndices → ℕ → ℕ → ℕ → ℕ → LabelModel → Option AnnotationKind
-multi_kind_by_ends indices s e l start x =
-    if s == e then None
-    else option_map Multi (lane_mark_of indices.lane x (multi_label_at s e l start x))
+multi_kind_by_ends indices first last l start x =
+    if first == last then None
+    else option_map Multi (lane_mark_of indices.lane x (multi_label_at first last l start x))
 
 -- ---- the lines that are looked up for it
 
