@@ -74,12 +74,12 @@ is_on_line l annotation = annotation.line == l
 
 -- the annotation is of this file
 abbrev pub is_of_file : ℕ → Annotation → Bool
-is_of_file f annotation = annotation.file_index == f
+is_of_file file_index annotation = annotation.file_index == file_index
 
 -- the annotation is a lane mark in this lane, on this line of this file
 abbrev pub IsLaneMarkOn : ℕ → ℕ → ℕ → Annotation → Type 0
-IsLaneMarkOn f l lane annotation =
-    (annotation.file_index ≡ f) × (annotation.line ≡ l) × (rank_of annotation.kind ≡ 2)
+IsLaneMarkOn file_index l lane annotation =
+    (annotation.file_index ≡ file_index) × (annotation.line ≡ l) × (rank_of annotation.kind ≡ 2)
     × (first_of annotation.kind ≡ lane) × (second_of annotation.kind ≡ 0)
     × (index_in_list annotation.kind ≡ 0)
 
