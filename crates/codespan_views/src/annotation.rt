@@ -44,7 +44,7 @@ pub enum MultiLabelKind {
 
 /// The kind of an annotation.
 pub enum AnnotationKind<'d, FileId> {
-    /// The label makes the line shown.
+    /// The label makes the line shown and is no single-line label on it.
     Shown,
     /// The label is a single-line label on the line, which is shown.
     Single {
