@@ -116,7 +116,7 @@ module _ (f : FileModel) (count : ℕ) where
   abbrev pub rows_of_lines : List SnippetLine → List Row
   rows_of_lines snippet_lines = flat_map rows_of_line snippet_lines
 
--- ---- the lookups of lines
+-- ---- the filled lines
 
 -- the line, where it is filled in
 abbrev pub filled_line_of : SnippetLine → List ℕ
