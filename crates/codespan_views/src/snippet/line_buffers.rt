@@ -24,7 +24,7 @@ pub struct LineBuffers<'d> {
     /// The lane marks: of each multi-line label its lane, its style and what it does on the line.
     pub lane_marks: Vec<(usize, LabelStyle, MultiLabel<'d>)>,
     /// The characters of the line and the pointers under them, as far as its rows reach.
-    pub metrics: LineCache,
+    pub line_cache: LineCache,
 }
 
 impl<'d> LineBuffers<'d> {
@@ -36,7 +36,7 @@ impl<'d> LineBuffers<'d> {
         LineBuffers {
             single_labels: Vec::new(alloc),
             lane_marks: Vec::new(alloc),
-            metrics: LineCache::new(alloc),
+            line_cache: LineCache::new(alloc),
         }
     }
 

@@ -154,7 +154,7 @@ impl<'context, 'files, F: Files<'files>> Snippet<'context, 'files, F> {
             lane_marks: buffers.lane_marks.as_slice(),
         };
         let line = Line::new(line.number, source, buffers.single_labels.as_slice(), lanes);
-        let cached = buffers.metrics.cache_line(renderer, line)?;
+        let cached = buffers.line_cache.cache_line(renderer, line)?;
         cached.render(renderer, self.context.padding, self.context.severity)
     }
 
