@@ -9,7 +9,7 @@ use Rattle.codespan_picture.specs.Lines.{drawn_lines}
 use Rattle.codespan_picture.specs.Rows.{Locus, HeaderText, Lanes, Line, Row, HeaderRow, SnippetStartRow, EmptyRow, BreakRow, FirstNoteRow, LaterNoteRow, FinalRow, rows_of}
 use Rattle.codespan_picture.specs.Sequences.{break_between, gap_between, in_sequence}
 
--- a file with its labels, in the order given
+-- a file with its labels, in the order given; not the model of `LabeledFile`, which keeps less
 pub record LabeledFileModel : Type 0 where
   pub file : FileModel
   pub labels : List LabelModel

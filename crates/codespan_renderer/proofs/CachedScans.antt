@@ -8,7 +8,7 @@ use Rattle.codespan_picture.specs.CharMetrics.{metrics_then}
 use Rattle.codespan_picture.specs.RowParts.{metrics_up_to}
 use Rattle.codespan_picture.proofs.Consecutive.{char_metrics-consecutive}
 use Rattle.codespan_renderer.specs.declared.term.renderer.char_metrics.CharMetrics.{CharMetrics}
-use Rattle.codespan_renderer.specs.Private.MetricsLeft.{MetricsAfterEnd, GoesOver, after_last, metrics_from, metrics_left, no_more}
+use Rattle.codespan_renderer.specs.Private.RemainingMetrics.{MetricsAfterEnd, GoesOver, after_last, metrics_from, remaining_metrics, no_more}
 use Rattle.codespan_renderer.specs.Private.CachedMetrics.{AreCached}
 use Rattle.codespan_picture.proofs.Pieces.{taken-dropped}
 use Rattle.codespan_renderer.proofs.WidthSearch.{past-none}
@@ -19,7 +19,7 @@ cached-after : (tab : ℕ) (text : List ℕ) (cached : List Metrics) (rest fork 
     → AreCached tab text cached rest
     → ((after : MetricsAfterEnd) → metrics_from after fork ≡ metrics_from after rest)
     → fork.has_placeholder ≡ has_placeholder
-    → cached ++ metrics_left fork ≡ metrics_then (after_last has_placeholder) tab 0 0 (chars text)
+    → cached ++ remaining_metrics fork ≡ metrics_then (after_last has_placeholder) tab 0 0 (chars text)
 cached-after tab text cached rest fork has_placeholder are same end =
     ap (λ (e : Bool). cached ++ metrics_from (after_last e) fork) end
     ∙ ap (λ (cs : List Metrics). cached ++ cs) (same (after_last has_placeholder))
@@ -32,11 +32,11 @@ pub cached-from : (tab : ℕ) (text : List ℕ) (cached : List Metrics) (rest fo
     → ((after : MetricsAfterEnd) → metrics_from after fork ≡ metrics_from after rest)
     → fork.has_placeholder ≡ has_placeholder
     → take n
-    cached ++ (take (length cached - n) (drop n cached) ++ metrics_left fork)
+    cached ++ (take (length cached - n) (drop n cached) ++ remaining_metrics fork)
     ≡ metrics_then (after_last has_placeholder) tab 0 0 (chars text)
 cached-from tab text cached rest fork has_placeholder n are same end =
-    sym (append_assoc (take n cached) (take (length cached - n) (drop n cached)) (metrics_left fork))
-    ∙ ap (λ (cs : List Metrics). cs ++ metrics_left fork) (taken-dropped n cached)
+    sym (append_assoc (take n cached) (take (length cached - n) (drop n cached)) (remaining_metrics fork))
+    ∙ ap (λ (cs : List Metrics). cs ++ remaining_metrics fork) (taken-dropped n cached)
     ∙ cached-after tab text cached rest fork has_placeholder are same end
 
 -- one more character is cached
@@ -63,4 +63,4 @@ past-scan byte_index c old new over far =
     past-none byte_index new.byte_index new.column (metrics_from no_more new)
     (char_metrics-consecutive new.tab_width new.byte_index new.column
     (chars (chars_rest new.chars)))
-    (omega (arith, over.byte_index, over.here, far))
+    (omega (arith, over.byte_index, over.starts_at_byte, far))

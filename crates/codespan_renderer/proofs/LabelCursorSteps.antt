@@ -14,11 +14,11 @@ use Rattle.std.specs.Str.{chars}
 use Rattle.std.proofs.lemmas.Str.{len_utf8_bounds}
 use Rattle.codespan_renderer.specs.declared.term.renderer.cached.label_cursor.LabelCursor.{LabelCursor}
 use Rattle.codespan_picture.specs.CharMetrics.{metrics_then, placeholder, width_at}
-use Rattle.codespan_renderer.specs.Private.MetricsLeft.{after_last, no_more}
+use Rattle.codespan_renderer.specs.Private.RemainingMetrics.{after_last, no_more}
 use Rattle.codespan_picture.specs.Carets.{covers}
 use Rattle.codespan_picture.specs.Arguments.{SingleLabelTuple, single_label_view, single_label_views, starts_from}
-use Rattle.codespan_renderer.specs.declared.term.renderer.cached.cached_metrics.CachedMetrics.{CachedMetrics}
-use Rattle.codespan_renderer.specs.Private.CachedMetrics.{cached_left}
+use Rattle.codespan_renderer.specs.declared.term.renderer.cached.cached_metrics.MetricsFromCache.{MetricsFromCache}
+use Rattle.codespan_renderer.specs.Private.CachedMetrics.{remaining_from_cache}
 use Rattle.codespan_picture.specs.Private.CharCursors.{AreContiguous, is_covered}
 use Rattle.codespan_renderer.specs.Private.CursorStates.{IsBefore, HasReturned}
 use Rattle.codespan_renderer.specs.Private.LabelCursors.{end_with, IsCoverEnd, HasPassedLabels}
@@ -208,11 +208,11 @@ pub cursor-start : (s : LabelCursor) (before left : List Metrics) → HasPassedL
     → AreContiguous 0 (before ++ left) → ∥ IsBefore s left ∥₁
 cursor-start s before left passed follow =
     let later = follow-rest 0 before left follow in
-    ∣ record { byte_index = later.0; passed = passed-later s 0 later.0 later.1 passed; follow = later.2 } ∣₁
+    ∣ record { byte_index = later.0; passed = passed-later s 0 later.0 later.1 passed; contiguous = later.2 } ∣₁
 
 module _ (s : LabelCursor) (left rest : List Metrics) (c : Metrics) (step : left ≡ c ∷ rest) where
   here : (w : IsBefore s left) → AreContiguous w.byte_index (c ∷ rest)
-  here w = rw step at w.follow
+  here w = rw step at w.contiguous
 
   -- it returns the next character
   pub cursor-returns : ∥ IsBefore s left ∥₁ → ∥ HasReturned c s rest ∥₁
@@ -220,10 +220,10 @@ module _ (s : LabelCursor) (left rest : List Metrics) (c : Metrics) (step : left
       ∥∥₁_elim before_it (Prim.hlevel props)
       (λ w. ∣
       record {
-        some =
+        has_byte =
             (here w).1;
         passed = rw (here w).0 w.passed;
-        follow = rw (here w).0 (here w).2;
+        contiguous = rw (here w).0 (here w).2;
       }
       ∣₁)
 
@@ -238,34 +238,34 @@ cursor-goes_on s rest c returned =
           c.byte_index + c.bytes;
       passed =
           passed-later s c.byte_index (c.byte_index + c.bytes) (omega arith) g.passed;
-      follow =
-          g.follow;
+      contiguous =
+          g.contiguous;
     }
     ∣₁)
 
 -- as it does where none is left
-pub cursor-next : (s : LabelCursor) (old new : CachedMetrics) (r : Option Metrics)
-    → YieldsFirst cached_left old r new → ∥ IsBefore s (cached_left old) ∥₁
-    → ∥ IsBefore s (cached_left new) ∥₁
+pub cursor-next : (s : LabelCursor) (old new : MetricsFromCache) (r : Option Metrics)
+    → YieldsFirst remaining_from_cache old r new → ∥ IsBefore s (remaining_from_cache old) ∥₁
+    → ∥ IsBefore s (remaining_from_cache new) ∥₁
 cursor-next s old new (Some c) step before_it =
-    cursor-goes_on s (cached_left new) c
-    (cursor-returns s (cached_left old) (cached_left new) c step before_it)
+    cursor-goes_on s (remaining_from_cache new) c
+    (cursor-returns s (remaining_from_cache old) (remaining_from_cache new) c step before_it)
 cursor-next s old new None ends before_it =
     subst (λ (cs : List Metrics). ∥ IsBefore s cs ∥₁) (ends.0 ∙ sym ends.1) before_it
 
 -- what it has returned
-pub cursor-next_returned : (s : LabelCursor) (old new : CachedMetrics) (r : Option Metrics)
-    → YieldsFirst cached_left old r new → ∥ IsBefore s (cached_left old) ∥₁
-    → IfSome r (λ c. ∥ HasReturned c s (cached_left new) ∥₁)
+pub cursor-next_returned : (s : LabelCursor) (old new : MetricsFromCache) (r : Option Metrics)
+    → YieldsFirst remaining_from_cache old r new → ∥ IsBefore s (remaining_from_cache old) ∥₁
+    → IfSome r (λ c. ∥ HasReturned c s (remaining_from_cache new) ∥₁)
 cursor-next_returned s old new (Some c) step before_it =
-    cursor-returns s (cached_left old) (cached_left new) c step before_it
+    cursor-returns s (remaining_from_cache old) (remaining_from_cache new) c step before_it
 cursor-next_returned s old new None ends before_it = tt
 
 pub cursor-passed : (s t : LabelCursor) (rest : List Metrics) (c : Metrics)
     → ∥ HasReturned c s rest ∥₁ → HasPassedLabels (c.byte_index + c.bytes) t → ∥ IsBefore t rest ∥₁
 cursor-passed s t rest c returned passed =
     ∥∥₁_elim returned (Prim.hlevel props)
-    (λ g. ∣ record { byte_index = c.byte_index + c.bytes; passed = passed; follow = g.follow } ∣₁)
+    (λ g. ∣ record { byte_index = c.byte_index + c.bytes; passed = passed; contiguous = g.contiguous } ∣₁)
 
 -- the labels that it has passed, and the character that it has returned
 pub returned-passed : (s : LabelCursor) (rest : List Metrics) (c : Metrics)
@@ -274,4 +274,4 @@ returned-passed s rest c returned = ∥∥₁_elim returned (passed-prop c.byte_
 
 pub returned-some : (s : LabelCursor) (rest : List Metrics) (c : Metrics)
     → ∥ HasReturned c s rest ∥₁ → 1 ≤ c.bytes
-returned-some s rest c returned = ∥∥₁_elim returned (Prim.hlevel props) (λ g. g.some)
+returned-some s rest c returned = ∥∥₁_elim returned (Prim.hlevel props) (λ g. g.has_byte)

@@ -12,7 +12,7 @@ use Rattle.codespan_picture.specs.CharMetrics.{width_of}
 use Rattle.codespan_picture.specs.Arguments.{SingleLabelTuple, single_label_view, single_label_views, starts_from, starts_in_order}
 use Rattle.codespan_picture.proofs.Consecutive.{AreConsecutive, char_metrics-consecutive}
 use Rattle.codespan_renderer.specs.declared.term.renderer.char_metrics.CharMetrics.{CharMetrics}
-use Rattle.codespan_renderer.specs.Private.MetricsLeft.{metrics_from, no_more}
+use Rattle.codespan_renderer.specs.Private.RemainingMetrics.{metrics_from, no_more}
 use Rattle.codespan_renderer.specs.Private.CachedMetrics.{AreCached}
 use Rattle.codespan_picture.specs.Private.LineCharacters.{EndBy}
 use Rattle.codespan_picture.specs.Private.Runs.{least_start}

@@ -14,7 +14,7 @@ use Rattle.codespan_picture.specs.CharMetrics.{char_metrics, metrics_then, place
 use Rattle.codespan_picture.specs.RowParts.{metrics_up_to}
 use Rattle.codespan_picture.proofs.Consecutive.{AreConsecutive, char_metrics-consecutive, none-before}
 use Rattle.codespan_renderer.specs.declared.term.renderer.char_metrics.CharMetrics.{CharMetrics}
-use Rattle.codespan_renderer.specs.Private.MetricsLeft.{metrics_from, no_more}
+use Rattle.codespan_renderer.specs.Private.RemainingMetrics.{metrics_from, no_more}
 use Rattle.codespan_renderer.specs.Private.CachedMetrics.{AreCached}
 use Rattle.codespan_picture.proofs.Widths.{width-in}
 

@@ -1,6 +1,6 @@
 -- Definitions that private calls and proofs use: a reader of the public contracts needs none of
 -- them.
-pub mod MetricsLeft
+pub mod RemainingMetrics
 pub mod CursorStates
 pub mod CachedMetrics
 pub mod PointerLists

@@ -1,4 +1,4 @@
--- the definitions of the crates below: files, labels, streams, writers, tables
+-- the definitions of the crates below: files, labels, streams, writers, style tables
 pub use Rattle.codespan_base.specs.FileModel
 pub use Rattle.codespan_base.specs.LawfulFiles
 pub use Rattle.codespan_base.specs.SimpleModel

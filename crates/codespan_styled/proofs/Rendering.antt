@@ -46,7 +46,7 @@ module _ {Id : Type 0} {config : Config} {files : FileDatabase Id} {d : Diagnost
       let loci = rendered.writes.loci in
       let stream : Stream = output_at config files d loci in
       let utf8 = (text-output files d lawful config.display_style config config characters loci
-      rendered.writes.on_end.1.texts).utf8 in
+      rendered.writes.on_end.1.names_are_utf8).utf8 in
       let whole =
       bytes_after style_spelling old new stream (style_number Plain ∷ []) last fresh contents
       rendered.writes.received in

@@ -14,7 +14,7 @@ use Rattle.codespan_views.specs.declared.annotation.Annotation.{Annotation as Ru
 use Rattle.codespan_views.specs.declared.annotation.LineInfo.{LineInfo}
 use Rattle.codespan_views.specs.Private.LabelsToCollect.{LabelToCollect}
 use Rattle.codespan_views.specs.Private.Annotations.{Annotation, AnnotationKind, Single, annotation_if_any}
-use Rattle.codespan_views.specs.Private.LabelAnnotations.{line_annotations, kind_on, lane_mark_by_ends, kind_by_ends}
+use Rattle.codespan_views.specs.Private.LabelAnnotations.{line_annotations, kind_on, multi_kind_by_ends, kind_by_ends}
 use Rattle.codespan_views.specs.Private.AnnotationViews.{AppendsAnnotations, IsLineOf, annotation_view, kind_view}
 use Rattle.codespan_views.specs.Private.LabelSpans.{IsFarInside}
 use Rattle.codespan_views.specs.declared.annotation.AnnotationKind.TheVariants as rust
@@ -118,7 +118,7 @@ module _ {Id : Type 0} (x : LabelToCollect Id) where
       {kind lane_mark : Option AnnotationKind}
       → first_line x.file x.label ≡ first → last_line x.file x.label ≡ last → IsLineOf x.file line
       → kind ≡ kind_by_ends x.config x.indices first last line.index line.start x.label
-      → lane_mark ≡ lane_mark_by_ends x.indices first last line.index line.start x.label
+      → lane_mark ≡ multi_kind_by_ends x.indices first last line.index line.start x.label
       → line_annotations x.config x.file x.indices x.label line.index ≡ annotation_if_any
       x.indices.file line.index kind ++ annotation_if_any x.indices.file line.index lane_mark
   annotation_if_any-line {line} is_first is_last is kind_is multi_is =
@@ -128,7 +128,7 @@ module _ {Id : Type 0} (x : LabelToCollect Id) where
       ∙ (λ i. kind_by_ends x.config x.indices (is_first i) (is_last i) l line.start x.label)
       ∙ sym kind_is in
       let by_lane_mark =
-      (λ i. lane_mark_by_ends x.indices (is_first i) (is_last i) l (sym is.range_is.start_is i)
+      (λ i. multi_kind_by_ends x.indices (is_first i) (is_last i) l (sym is.range_is.start_is i)
       x.label)
       ∙ sym multi_is in
       λ i. annotation_if_any f l (by_kind i) ++ annotation_if_any f l (by_lane_mark i)
@@ -142,6 +142,6 @@ far-kind config indices s e l start x far = grind (arith, nat_tests)
 pub far-multi_label : {Id : Type 0} (config : Config) (indices : LabelIndices) (s e l start : ℕ)
     (label : Bor (Label Id))
     → IsFarInside config s e l
-    → Some (kind_view start (rust.Multi label_kind.Left indices.lane label)) ≡ lane_mark_by_ends indices
+    → Some (kind_view start (rust.Multi label_kind.Left indices.lane label)) ≡ multi_kind_by_ends indices
     s e l start (label_of label.now).label
 far-multi_label config indices s e l start label far = grind (arith, nat_tests)

@@ -111,7 +111,7 @@ module _ {Id : Type 0} {config : Config} {files : FileDatabase Id} {d : Diagnost
   text_is_utf8 rendered fresh contents characters lawful =
       subst IsUtf8 (sym (written_text _ fresh contents rendered.writes.received))
       (text-output files d lawful config.display_style config config characters
-      rendered.writes.loci rendered.writes.on_end.1.texts).utf8
+      rendered.writes.loci rendered.writes.on_end.1.names_are_utf8).utf8
 
   -- the error of a string call: an allocation failed, or the writer has not failed
   pub string_failed : (has_failed : Bool) {old new : Sink} {e : Error}

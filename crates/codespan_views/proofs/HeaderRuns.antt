@@ -17,7 +17,7 @@ use Rattle.codespan_core.specs.WriterLaw.{Sink, with_written, is_known, PrefixWr
 use Rattle.codespan_core.proofs.Writes.{is_known-with_written, with_written-append, with_written-nil, PrefixWritten-first, PrefixWritten-last}
 use Rattle.codespan_picture.specs.Lookups.{first_error, header_lookups_of}
 use Rattle.codespan_picture.specs.OutputStreams.{AreLoci, IsLocus, header_text_of, label_locus_byte, notes_of}
-use Rattle.codespan_views.specs.Private.TextLoci.{IsLocusOfLabel}
+use Rattle.codespan_views.specs.Private.Utf8Loci.{IsLocusOfLabel}
 use Rattle.codespan_picture.specs.Rows.{Locus, Row}
 use Rattle.codespan_picture.specs.RowStreams.{stream_of_rows}
 use Rattle.codespan_picture.specs.Snippets.{LabelInFile, has_any, header_rows, note_rows}
@@ -168,7 +168,7 @@ module _ {Id : Type 0} {config : Config} (files : FileDatabase Id) {d : Diagnost
   all_lookups_succeed : Succeeds config files d Short written.loci
   all_lookups_succeed = record {
     lookups_succeed = all_succeed files.failure (flat_map header_lookups_of (primary_labels d)) written.succeeded;
-    texts = label_texts files d written.loci written.are;
+    names_are_utf8 = label_texts files d written.loci written.are;
   }
 
   -- there are some
@@ -269,7 +269,7 @@ module _ {Id : Type 0} {config : Config} {files : FileDatabase Id} {d : Diagnost
             writes.1 (ap is_known is ∙ is_known-with_written old before ∙ known)
             ∙ ap (λ (y : Sink). with_written y notes) is
             ∙ sym (with_written-append old before notes) ∙ ap (with_written old) (sym rows);
-        on_end = (writes.0 ∙ rendered.on_end.0, record { lookups_succeed = rendered.on_end.1.lookups_succeed; texts = rendered.on_end.1.texts });
+        on_end = (writes.0 ∙ rendered.on_end.0, record { lookups_succeed = rendered.on_end.1.lookups_succeed; names_are_utf8 = rendered.on_end.1.names_are_utf8 });
       }
       by (Err e) writes io = record {
         loci = rendered.loci;

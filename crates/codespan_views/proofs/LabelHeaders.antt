@@ -16,7 +16,7 @@ use Rattle.codespan_core.specs.WriterLaw.{Sink, with_written, is_known, PrefixWr
 use Rattle.codespan_core.proofs.Writes.{is_known-with_written, with_written-append, with_written-nil}
 use Rattle.codespan_picture.specs.Lookups.{Failures, first_error, header_lookups_of}
 use Rattle.codespan_picture.specs.OutputStreams.{label_of}
-use Rattle.codespan_views.specs.Private.TextLoci.{IsLocusOfLabel}
+use Rattle.codespan_views.specs.Private.Utf8Loci.{IsLocusOfLabel}
 use Rattle.codespan_picture.specs.Rows.{Locus}
 use Rattle.codespan_picture.specs.Snippets.{LabelInFile, has_any, primary_of}
 use Rattle.codespan_views.specs.Private.Headers.{HeadersWritten, HeadersFailed}

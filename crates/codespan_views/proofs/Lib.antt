@@ -6,7 +6,7 @@ pub mod FileSearch
 pub mod AnnotationOrder
 pub mod FileLengths
 pub mod KeptElements
-pub mod TextLoci
+pub mod Utf8Loci
 -- what is collected, planned and rendered
 pub mod FewDigits
 pub mod FirstErrors

@@ -8,7 +8,7 @@ use Rattle.codespan_picture.specs.OutputStreams.{AreLoci, IsLocus, NamesAreUtf8,
 use Rattle.codespan_picture.specs.Rows.{Locus}
 use Rattle.codespan_picture.specs.Snippets.{LabelInFile, LabeledFileModel, primary_of}
 use Rattle.codespan_picture.proofs.Loci.{zip_map, zip_texts, zip_weaker}
-use Rattle.codespan_views.specs.Private.TextLoci.{IsLocusOfFile, IsLocusOfLabel}
+use Rattle.codespan_views.specs.Private.Utf8Loci.{IsLocusOfFile, IsLocusOfLabel}
 use Rattle.codespan_core.specs.FileModel.{FileDatabase}
 
 module _ {Id : Type 0} (files : FileDatabase Id) (d : Diagnostic Id) (loci : List Locus) where

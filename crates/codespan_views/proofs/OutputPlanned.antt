@@ -7,7 +7,7 @@ use Rattle.codespan_core.specs.FileModel.{FileDatabase, Lookup, or_failure}
 use Rattle.codespan_picture.specs.Lookups.{early_lookups, first_error, label_lookups}
 use Rattle.codespan_picture.specs.Snippets.{LabelInFile}
 use Rattle.codespan_views.specs.Private.LabelsToCollect.{labels_failure}
-use Rattle.codespan_views.specs.Private.OutputPlans.{output_plan_lookups, padding_lookups, file_locus_lookups, output_plan_failure}
+use Rattle.codespan_views.specs.Private.OutputPlans.{output_plan_lookups, number_lookups_of_labels, locus_lookups_of_labels, output_plan_failure}
 use Rattle.codespan_views.proofs.FirstErrors.{first_error-append}
 
 module _ {Id : Type 0} (database : FileDatabase Id) (config : Config) (xs : List (LabelInFile Id)) where
@@ -25,8 +25,8 @@ module _ {Id : Type 0} (database : FileDatabase Id) (config : Config) (xs : List
   early-is =
       let of_labels = label_lookups config database xs in
       ap failed
-      (append_assoc of_labels (padding_lookups config database xs)
-      (file_locus_lookups database xs))
+      (append_assoc of_labels (number_lookups_of_labels config database xs)
+      (locus_lookups_of_labels database xs))
       ∙ first_error-append database.failure of_labels (output_plan_lookups config database xs)
 
   -- a lookup of a label fails

@@ -15,23 +15,23 @@ use Rattle.codespan_picture.specs.Arguments.{locus_view}
 use Rattle.codespan_picture.specs.Lines.{drawn_lines}
 use Rattle.codespan_picture.specs.Lookups.{lookups_of_file, filled_lines, first_error, locus_lookups, numbers_for_padding, filled_line_lookups}
 use Rattle.codespan_picture.specs.Padding.{digits_of, numbered_lines, padding_of}
-use Rattle.codespan_views.specs.Private.TextLoci.{IsTextLocus}
+use Rattle.codespan_views.specs.Private.Utf8Loci.{IsUtf8Locus}
 use Rattle.codespan_picture.specs.Snippets.{LabelInFile, LabeledFileModel, labeled_file_model, labeled_file_models, num_multi_labels, locus_byte_of, rows_of_drawn, file_ids}
 use Rattle.codespan_views.specs.declared.collected.Collected.{Collected}
 use Rattle.codespan_views.specs.declared.labeled_files.LabeledFile.{LabeledFile as RustFile}
 use Rattle.codespan_views.specs.declared.plan.snippet_plans.SnippetPlan.{SnippetPlan}
 use Rattle.codespan_views.specs.declared.plan.snippet_lines.SnippetLine.{SnippetLine as RustLine}
 use Rattle.codespan_views.specs.Private.Annotations.{Annotation}
-use Rattle.codespan_views.specs.Private.OutputPlans.{ArePlansOfLabels, IsOutputPlan, IsPlanOfLabels, ids_of, padding_lookups, file_locus_lookups, output_plan_failure}
+use Rattle.codespan_views.specs.Private.OutputPlans.{ArePlansOfLabels, IsOutputPlan, IsPlanOfLabels, ids_of, number_lookups_of_labels, locus_lookups_of_labels, output_plan_failure}
 use Rattle.codespan_views.specs.Private.Collections.{IsCollected}
 use Rattle.codespan_views.specs.Private.AnnotationViews.{annotation_view}
 use Rattle.codespan_views.specs.Private.LabeledFiles.{HasLabels, ids_view}
 use Rattle.codespan_views.specs.declared.plan.OutputPlan.{OutputPlan}
 use Rattle.codespan_views.specs.Private.SnippetLineViews.{IsSnippetLineIn, numbers_looked_up}
-use Rattle.codespan_views.specs.Private.Loci.{loci_lookups}
+use Rattle.codespan_views.specs.Private.Loci.{locus_lookups_of_files}
 use Rattle.codespan_views.specs.Private.LocusBytes.{locus_byte}
 use Rattle.codespan_views.specs.Private.FileIndices.{IsIdAt}
-use Rattle.codespan_views.specs.Private.SnippetPlans.{ArePlansOfAnnotations, ArePlansOfCollected, IsPlanOfAnnotations, number_lookups, collected_plan_failure, line_digit_counts, lines_at, padding_width}
+use Rattle.codespan_views.specs.Private.SnippetPlans.{ArePlansOfAnnotations, ArePlansOfCollected, IsPlanOfAnnotations, number_lookups_of_annotations, collected_plan_failure, line_digit_counts, lines_at, padding_width}
 use Rattle.codespan_views.specs.Private.SnippetLines.{SnippetLine, filled_lines_of, rows_of_lines, AreInOrder}
 use Rattle.codespan_views.proofs.FileTurns.{flat_map_indexed-same}
 use Rattle.codespan_views.proofs.SpannedPadding.{spanned-padding_width}
@@ -86,10 +86,10 @@ module _ {Id : Type 0} {database : FileDatabase Id} (lawful : AreFiles database)
   }
 
   -- the numbers that are looked up before the header are those of the padding
-  numbers-are : number_lookups config.layout es (ids_view collected.files.items) ≡ padding_lookups
+  numbers-are : number_lookups_of_annotations config.layout es (ids_view collected.files.items) ≡ number_lookups_of_labels
       config database xs
   numbers-are =
-      ap (number_lookups config.layout es) all.files.ids_are
+      ap (number_lookups_of_annotations config.layout es) all.files.ids_are
       ∙ flat_map_indexed-same (λ k id. lookups_of_file id
       (numbers_looked_up config.layout (filled_lines_of (lines_at es k))))
       (λ id. lookups_of_file id (numbers_for_padding database xs config config.layout id)) 0
@@ -112,13 +112,13 @@ module _ {Id : Type 0} {database : FileDatabase Id} (lawful : AreFiles database)
 
   -- the lookups of the loci of files are those of their snippets
   loci-lookups : (fs : List (RustFile Id)) → AllByRecursion (HasLabels same file xs) fs
-      → loci_lookups fs ≡ flat_map (λ id. lookups_of_file id (locus_lookups database xs id))
+      → locus_lookups_of_files fs ≡ flat_map (λ id. lookups_of_file id (locus_lookups database xs id))
       (ids_view fs)
   loci-lookups [] known = refl
   loci-lookups (f ∷ fs) known = λ i. lookups_of_file f.file_id (Name ∷ LocationAt (file_locus_byte-is known.0 i) ∷ []) ++ loci-lookups fs known.1 i
 
   -- so are those of all files
-  loci-are : loci_lookups collected.files.items ≡ file_locus_lookups database xs
+  loci-are : locus_lookups_of_files collected.files.items ≡ locus_lookups_of_labels database xs
   loci-are =
       loci-lookups collected.files.items all.files.labels_are
       ∙ ap (flat_map (λ id. lookups_of_file id (locus_lookups database xs id))) all.files.ids_are
@@ -130,7 +130,7 @@ module _ {Id : Type 0} {database : FileDatabase Id} (lawful : AreFiles database)
     file-plan : IsPlanOfLabels config (labeled f.file_id) snippet_plan own
     file-plan = record {
       lanes_are = ap (λ (g : RustFile Id). g.num_multi_labels) is.file_is ∙ known.lanes_are;
-      locus_is = subst (λ n. IsTextLocus (file f.file_id, n) (locus_view snippet_plan.locus)) (file_locus_byte-is known) is.locus_is;
+      locus_is = subst (λ n. IsUtf8Locus (file f.file_id, n) (locus_view snippet_plan.locus)) (file_locus_byte-is known) is.locus_is;
       count_is = is.count_is;
       each = lines_of-file config.layout (file f.file_id) own is.each;
       in_order = subst (AreInOrder (num_multi_labels (labeled f.file_id))) (sym is.are) (snippet k f.file_id at).in_order;
@@ -181,7 +181,7 @@ module _ {Id : Type 0} {database : FileDatabase Id} (lawful : AreFiles database)
   ids-from k (f ∷ fs) [] snippet_lines h = absurd h
   ids-from k (f ∷ fs) (snippet_plan ∷ snippet_plans) snippet_lines h =
       λ i. (h.0.file_is i).file_id
-      ∷ ids-from (k + 1) fs snippet_plans (drop snippet_plan.line_total snippet_lines) h.1 i
+      ∷ ids-from (k + 1) fs snippet_plans (drop snippet_plan.snippet_line_count snippet_lines) h.1 i
 
   -- plans are those of their files
   plans-from : (k : ℕ) (fs : List (RustFile Id)) (snippet_plans : List (SnippetPlan Id))
@@ -194,9 +194,9 @@ module _ {Id : Type 0} {database : FileDatabase Id} (lawful : AreFiles database)
   plans-from k (f ∷ fs) [] snippet_lines at known h = absurd h
   plans-from k (f ∷ fs) (snippet_plan ∷ snippet_plans) snippet_lines at known h = (
     subst (λ (g : RustFile Id). IsPlanOfLabels config (labeled g.file_id) snippet_plan
-        (take snippet_plan.line_total snippet_lines))
+        (take snippet_plan.snippet_line_count snippet_lines))
         (sym h.0.file_is) (file-plan (are_at-here k f.file_id (ids_view fs) at) known.0 h.0),
-    plans-from (k + 1) fs snippet_plans (drop snippet_plan.line_total snippet_lines) (are_at-next k f.file_id (ids_view fs) at) known.1 h.1,
+    plans-from (k + 1) fs snippet_plans (drop snippet_plan.snippet_line_count snippet_lines) (are_at-next k f.file_id (ids_view fs) at) known.1 h.1,
   )
 
   -- in the unbroken layout the digits of their snippet lines are those that the padding fits
@@ -212,9 +212,9 @@ module _ {Id : Type 0} {database : FileDatabase Id} (lawful : AreFiles database)
   digits-from unbroken k [] (snippet_plan ∷ snippet_plans) snippet_lines at known h = absurd h
   digits-from unbroken k (f ∷ fs) [] snippet_lines at known h = absurd h
   digits-from unbroken k (f ∷ fs) (snippet_plan ∷ snippet_plans) snippet_lines at known h =
-      let own = take snippet_plan.line_total snippet_lines in
-      let later = drop snippet_plan.line_total snippet_lines in
-      ap (flat_map line_digit_counts) (sym (take-append-drop snippet_plan.line_total snippet_lines)) ∙ flat_map-append line_digit_counts own later
+      let own = take snippet_plan.snippet_line_count snippet_lines in
+      let later = drop snippet_plan.snippet_line_count snippet_lines in
+      ap (flat_map line_digit_counts) (sym (take-append-drop snippet_plan.snippet_line_count snippet_lines)) ∙ flat_map-append line_digit_counts own later
       ∙ (λ i. file-digits (are_at-here k f.file_id (ids_view fs) at) known.0 h.0 unbroken i
       ++ digits-from unbroken (k + 1) fs snippet_plans later
       (are_at-next k f.file_id (ids_view fs) at) known.1 h.1 i)

@@ -91,8 +91,8 @@ module _ {Id : Type 0} (database : FileDatabase Id) (config : Config) (xs : List
       IsPlanOfLabels config
       (labeled_file_model database.same database.file xs snippet_plan.file.now.file_id)
       snippet_plan
-      (take snippet_plan.line_total snippet_lines)
-      × ArePlansOfLabels database config xs later (drop snippet_plan.line_total snippet_lines)
+      (take snippet_plan.snippet_line_count snippet_lines)
+      × ArePlansOfLabels database config xs later (drop snippet_plan.snippet_line_count snippet_lines)
 
   -- the files from an index on are those of their labels, with the snippet lines from an index on
   pub record AreFilesFrom (snippet_plans : List (SnippetPlan Id)) (k : ℕ)
@@ -115,7 +115,7 @@ module _ {Id : Type 0} {database : FileDatabase Id} {config : Config} {xs : List
       (drop-one snippet_plans k snippet_plan at.inside at.is) from.are
 
   -- there are as many snippet lines as it counts
-  pub own-inside : start + snippet_plan.line_total ≤ length snippet_lines
+  pub own-inside : start + snippet_plan.snippet_line_count ≤ length snippet_lines
   own-inside =
       let count = files-at.0.count_is in
       let inside = from.inside in
@@ -123,13 +123,13 @@ module _ {Id : Type 0} {database : FileDatabase Id} {config : Config} {xs : List
         arith,
         count,
         inside,
-        length-take snippet_plan.line_total (drop start snippet_lines),
+        length-take snippet_plan.snippet_line_count (drop start snippet_lines),
         length-drop start snippet_lines,
       )
 
   -- it is the file of its labels, with these snippet lines
   pub own-snippet_lines : {own : List (RustLine Id)}
-      → own ≡ take snippet_plan.line_total (drop start snippet_lines)
+      → own ≡ take snippet_plan.snippet_line_count (drop start snippet_lines)
       → IsPlanOfLabels config
       (labeled_file_model database.same database.file xs
       snippet_plan.file.now.file_id) snippet_plan own
@@ -142,12 +142,12 @@ module _ {Id : Type 0} {database : FileDatabase Id} {config : Config} {xs : List
 
   -- the later files are those of their labels, with the snippet lines after these
   pub later-files : AreFilesFrom database config xs snippet_plans (k + 1) snippet_lines
-      (start + snippet_plan.line_total)
+      (start + snippet_plan.snippet_line_count)
   later-files = record {
     inside = own-inside;
     are =
         subst (ArePlansOfLabels database config xs (drop (k + 1) snippet_plans))
-        (drop-drop snippet_plan.line_total start snippet_lines) files-at.1;
+        (drop-drop snippet_plan.snippet_line_count start snippet_lines) files-at.1;
   }
 
 module _ {Id : Type 0} {config : Config} {own : LabeledFileModel} {snippet_plan : SnippetPlan Id}

@@ -21,9 +21,9 @@ use Rattle.codespan_views.specs.Private.Annotations.{Annotation}
 use Rattle.codespan_views.specs.Private.AnnotationViews.{annotation_view}
 use Rattle.codespan_views.specs.Private.SnippetLineViews.{AppendsSnippetLines, numbers_looked_up}
 use Rattle.codespan_views.specs.Private.LabeledFiles.{ids_view}
-use Rattle.codespan_views.specs.Private.Loci.{locus_lookups_of, loci_lookups, locus_start_of}
-use Rattle.codespan_views.specs.Private.TextLoci.{IsTextLocus}
-use Rattle.codespan_views.specs.Private.SnippetPlans.{ArePlansOfAnnotations, IsPlanOfAnnotations, number_lookups, lines_at}
+use Rattle.codespan_views.specs.Private.Loci.{locus_lookups_of, locus_lookups_of_files, locus_byte_of_file}
+use Rattle.codespan_views.specs.Private.Utf8Loci.{IsUtf8Locus}
+use Rattle.codespan_views.specs.Private.SnippetPlans.{ArePlansOfAnnotations, IsPlanOfAnnotations, number_lookups_of_annotations, lines_at}
 use Rattle.codespan_views.specs.Private.SnippetLines.{SnippetLine, filled_lines_of, lines_of}
 use Rattle.codespan_views.proofs.FirstErrors.{first_error-append, or_failure-succeeded, or_failure-none, or_failure-some, first_error-none, first_error-some}
 use Rattle.codespan_views.proofs.FileSlices.{next_slice}
@@ -51,8 +51,8 @@ pub plan_found : {Id : Type 0} {files : List (RustFile Id)} {xs zs : List (RustA
     ≡ xs
     → {count : ℕ} → count ≡ length new - length old → {snippet_plan : SnippetPlan Id}
     → snippet_plan.file.now ≡ f
-    → IsTextLocus (locus_start_of file f) (locus_view snippet_plan.locus)
-    → snippet_plan.line_total ≡ count
+    → IsUtf8Locus (locus_byte_of_file file f) (locus_view snippet_plan.locus)
+    → snippet_plan.snippet_line_count ≡ count
     → IsPlanOfAnnotations layout file (map annotation_view xs) k f snippet_plan added.more
 plan_found turn added zs_are counted same locus total = record {
   file_is = same;
@@ -65,10 +65,10 @@ plan_found turn added zs_are counted same locus total = record {
 -- there are at least as many snippet lines as a plan counts in front
 count-within : {Id : Type 0} {layout : Layout} {file : Id → FileModel} {es : List Annotation}
     {k : ℕ} {f : RustFile Id} {snippet_plan : SnippetPlan Id} (snippet_lines : List (RustLine Id))
-    → IsPlanOfAnnotations layout file es k f snippet_plan (take snippet_plan.line_total snippet_lines)
-    → snippet_plan.line_total ≤ length snippet_lines
+    → IsPlanOfAnnotations layout file es k f snippet_plan (take snippet_plan.snippet_line_count snippet_lines)
+    → snippet_plan.snippet_line_count ≤ length snippet_lines
 count-within {snippet_plan = snippet_plan} snippet_lines is =
-    omega (arith, is.count_is, length-take snippet_plan.line_total snippet_lines)
+    omega (arith, is.count_is, length-take snippet_plan.snippet_line_count snippet_lines)
 
 module _ {Id : Type 0} {layout : Layout} {file : Id → FileModel} {es : List Annotation}
     {f : RustFile Id} {snippet_plan : SnippetPlan Id} {own : List (RustLine Id)} where
@@ -78,8 +78,8 @@ module _ {Id : Type 0} {layout : Layout} {file : Id → FileModel} {es : List An
   plan-alone k is =
       let count = is.count_is in (
         subst (IsPlanOfAnnotations layout file es k f snippet_plan)
-            (sym (take_all snippet_plan.line_total own (omega (arith, count)))) is,
-        drop_all snippet_plan.line_total own (omega (arith, count)),
+            (sym (take_all snippet_plan.snippet_line_count own (omega (arith, count)))) is,
+        drop_all snippet_plan.snippet_line_count own (omega (arith, count)),
       )
 
   -- plans from an index on, and then one more
@@ -101,10 +101,10 @@ module _ {Id : Type 0} {layout : Layout} {file : Id → FileModel} {es : List An
       let e : k + suc (length fs) ≡ k + 1 + length fs = omega arith in
       let within = count-within snippet_lines h.0 in (
         subst (IsPlanOfAnnotations layout file es k g first)
-            (sym (take-append-le first.line_total snippet_lines own within)) h.0,
+            (sym (take-append-le first.snippet_line_count snippet_lines own within)) h.0,
         subst (ArePlansOfAnnotations layout file es (k + 1) (fs ++ f ∷ []) (snippet_plans ++ snippet_plan ∷ []))
-            (sym (drop-append-le first.line_total snippet_lines own within))
-            (plans-more (k + 1) fs snippet_plans (drop first.line_total snippet_lines) h.1
+            (sym (drop-append-le first.snippet_line_count snippet_lines own within))
+            (plans-more (k + 1) fs snippet_plans (drop first.snippet_line_count snippet_lines) h.1
             (subst (λ n. IsPlanOfAnnotations layout file es n f snippet_plan own) e is)),
       )
 
@@ -129,8 +129,8 @@ module _ {Id : Type 0} (layout : Layout) (file : Id → FileModel) (es : List An
   -- where no locus fails these are their plans
   pub record ArePlanned (files : List (RustFile Id)) (now : List (SnippetPlan Id))
       (snippet_lines : List (RustLine Id)) (located : Result (Unit {0}) Error) : Type 0 where
-    pub succeeded : first_error failure (number_lookups layout es (ids_view files)) ≡ None
-    pub located_fails : FailsByOrFormatError (first_error failure (loci_lookups files)) located
+    pub succeeded : first_error failure (number_lookups_of_annotations layout es (ids_view files)) ≡ None
+    pub located_fails : FailsByOrFormatError (first_error failure (locus_lookups_of_files files)) located
     pub plans : IfOk located (λ _. ArePlansOfAnnotations layout file es 0 files now snippet_lines)
 
 module _ {Id : Type 0} {layout : Layout} {file : Id → FileModel} {es : List Annotation}
@@ -140,16 +140,16 @@ module _ {Id : Type 0} {layout : Layout} {file : Id → FileModel} {es : List An
   pub plans-add : (files : List (RustFile Id)) (k : ℕ) → length files ≤ k
       → ArePlanned layout file es failure (take k files) now snippet_lines located
       → FailsByOrFormatError
-      (first_error failure (number_lookups layout es (ids_view files) ++ loci_lookups files))
+      (first_error failure (number_lookups_of_annotations layout es (ids_view files) ++ locus_lookups_of_files files))
       located
   plans-add files k past found =
       let all = subst
       (λ (fs : List (RustFile Id)). ArePlanned layout file es failure fs now snippet_lines
       located)
       (take_all k files past) found in
-      let numbers = number_lookups layout es (ids_view files) in
+      let numbers = number_lookups_of_annotations layout es (ids_view files) in
       subst (λ o. FailsByOrFormatError o located)
-      (sym (first_error-none failure numbers (loci_lookups files) all.succeeded))
+      (sym (first_error-none failure numbers (locus_lookups_of_files files) all.succeeded))
       all.located_fails
 
   -- and the plans are those of all, where no error is kept
@@ -174,20 +174,20 @@ module _ {Id : Type 0} {files : List (RustFile Id)} {k : ℕ} {f : RustFile Id}
       ∙ map-append (λ (g : RustFile Id). g.file_id) (take k files) (f ∷ [])
 
   -- the loci of these, and its own
-  loci-more : loci_lookups (take (k + 1) files) ≡ loci_lookups (take k files) ++ locus_lookups_of f
+  loci-more : locus_lookups_of_files (take (k + 1) files) ≡ locus_lookups_of_files (take k files) ++ locus_lookups_of f
   loci-more =
-      ap (λ (fs : List (RustFile Id)). loci_lookups fs) (take-at here)
+      ap (λ (fs : List (RustFile Id)). locus_lookups_of_files fs) (take-at here)
       ∙ flat_map-append locus_lookups_of (take k files) (f ∷ [])
-      ∙ ap (λ (ls : List (Id × Lookup)). loci_lookups (take k files) ++ ls)
+      ∙ ap (λ (ls : List (Id × Lookup)). locus_lookups_of_files (take k files) ++ ls)
       (append-nil (locus_lookups_of f))
 
   -- the error of these lookups, or else that of its own
   locus-fails : (failure : Failures Id)
-      → first_error failure (loci_lookups (take (k + 1) files)) ≡ or_failure
-      (first_error failure (loci_lookups (take k files))) (first_error failure (locus_lookups_of f))
+      → first_error failure (locus_lookups_of_files (take (k + 1) files)) ≡ or_failure
+      (first_error failure (locus_lookups_of_files (take k files))) (first_error failure (locus_lookups_of f))
   locus-fails failure =
       ap (first_error failure) loci-more
-      ∙ first_error-append failure (loci_lookups (take k files)) (locus_lookups_of f)
+      ∙ first_error-append failure (locus_lookups_of_files (take k files)) (locus_lookups_of f)
 
   module _ {layout : Layout} {file : Id → FileModel} {es : List Annotation} {failure : Failures Id}
       {now : List (SnippetPlan Id)} {snippet_lines : List (RustLine Id)}
@@ -201,14 +201,14 @@ module _ {Id : Type 0} {files : List (RustFile Id)} {k : ℕ} {f : RustFile Id}
 
       -- the lookups with this one's
       lookups-more : first_error failure
-          (number_lookups layout es (ids_view (take (k + 1) files)))
+          (number_lookups_of_annotations layout es (ids_view (take (k + 1) files)))
           ≡ first_error failure (lookups_at k f.file_id)
       lookups-more =
           ap (first_error failure)
           (flat_map_indexed-more lookups_at k (ids_view (take k files))
           (ids_view (take (k + 1) files)) f.file_id (length-map (take k files) _ ∙ files_before)
           ids-more)
-          ∙ first_error-none failure (number_lookups layout es (ids_view (take k files)))
+          ∙ first_error-none failure (number_lookups_of_annotations layout es (ids_view (take k files)))
           (lookups_at k f.file_id) before.succeeded
 
       -- the plans with this one
@@ -237,7 +237,7 @@ module _ {Id : Type 0} {files : List (RustFile Id)} {k : ℕ} {f : RustFile Id}
       planned-more {new} {all = all} whole whole_steps is succeeded there = record {
         succeeded = lookups-more ∙ succeeded;
         located_fails =
-            let others = first_error failure (loci_lookups (take k files)) in
+            let others = first_error failure (locus_lookups_of_files (take k files)) in
             subst (λ o. FailsByOrFormatError o located)
             (sym (locus-fails failure ∙ ap (or_failure others) there ∙ or_failure-none others))
             before.located_fails;
@@ -267,14 +267,14 @@ module _ {Id : Type 0} {files : List (RustFile Id)} {k : ℕ} {f : RustFile Id}
       -- an error of the lookups of its numbers is that of all
       pub planned-fails : {e : Error} → first_error failure (lookups_at k f.file_id) ≡ Some e
           → first_error failure
-          (number_lookups layout es (ids_view files) ++ loci_lookups files) ≡ Some e
+          (number_lookups_of_annotations layout es (ids_view files) ++ locus_lookups_of_files files) ≡ Some e
       planned-fails {e} known =
           let rest = drop (k + 1) files in
           let whole = ap ids_view (sym (take-append-drop (k + 1) files))
           ∙ map-append (λ (g : RustFile Id). g.file_id) (take (k + 1) files) rest in
-          first_error-some failure (number_lookups layout es (ids_view files)) (loci_lookups files) e
-          (ap (λ ids. first_error failure (number_lookups layout es ids)) whole
+          first_error-some failure (number_lookups_of_annotations layout es (ids_view files)) (locus_lookups_of_files files) e
+          (ap (λ ids. first_error failure (number_lookups_of_annotations layout es ids)) whole
           ∙ ap (first_error failure)
           (flat_map_indexed-append lookups_at 0 (ids_view (take (k + 1) files)) (ids_view rest))
-          ∙ first_error-some failure (number_lookups layout es (ids_view (take (k + 1) files))) _ e
+          ∙ first_error-some failure (number_lookups_of_annotations layout es (ids_view (take (k + 1) files))) _ e
           (lookups-more ∙ known))

@@ -16,7 +16,7 @@ use Rattle.codespan_core.specs.declared.term.config.DisplayStyle.TheVariants.{Ri
 use Rattle.codespan_picture.specs.OutputStreams.{files_of, labels_of, output}
 use Rattle.codespan_picture.specs.Picture.{stated_loci}
 use Rattle.codespan_picture.specs.Rows.{Locus}
-use Rattle.codespan_views.specs.Private.TextLoci.{IsLocusOfFile}
+use Rattle.codespan_views.specs.Private.Utf8Loci.{IsLocusOfFile}
 use Rattle.std.specs.List.{AllZip}
 use Rattle.codespan_picture.specs.Lookups.{early_lookups, late_lookups, first_error}
 use Rattle.codespan_views.specs.WriteCalls.{WritesOutput}
@@ -160,7 +160,7 @@ module _ {Id : Type 0} {renderer_config view_config : Config} {files : FileDatab
             (first_error-none files.failure (before_header view_config files d)
             (after_header view_config files d)
             succeeded_early ∙ succeeded_late);
-        texts = file_texts files d written.loci written.are;
+        names_are_utf8 = file_texts files d written.loci written.are;
       },
     );
   }

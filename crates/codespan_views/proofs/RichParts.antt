@@ -27,7 +27,7 @@ use Rattle.codespan_picture.specs.Lookups.{early_lookups, first_error, late_look
 use Rattle.codespan_picture.specs.OutputStreams.{header_text_of, label_of, labels_of, context_of, notes_of}
 use Rattle.codespan_picture.specs.Padding.{padding_of}
 use Rattle.codespan_picture.specs.Snippets.{snippets, LabelInFile, has_any, labeled_file_model, labeled_file_models, note_rows}
-use Rattle.codespan_views.specs.Private.TextLoci.{IsLocusOfFile}
+use Rattle.codespan_views.specs.Private.Utf8Loci.{IsLocusOfFile}
 use Rattle.codespan_picture.specs.Rows.{FinalRow, HeaderRow, Row}
 use Rattle.codespan_picture.specs.RowStreams.{header_row, stream_of, stream_of_rows}
 use Rattle.codespan_core.proofs.Chains.{written-then, failed-before, failed-then, known-after}
@@ -206,7 +206,7 @@ module _ {Id : Type 0} {view_config : Config} {database : FileDatabase Id} {d : 
           (loci_of snippet_plans)
       from [] snippet_lines are = tt
       from (snippet_plan ∷ snippet_plans) snippet_lines are =
-          (are.0.locus_is, from snippet_plans (drop snippet_plan.line_total snippet_lines) are.1)
+          (are.0.locus_is, from snippet_plans (drop snippet_plan.snippet_line_count snippet_lines) are.1)
 
   -- the output with these loci is all of these
   output-is : (renderer_config : Config)

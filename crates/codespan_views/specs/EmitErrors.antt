@@ -21,11 +21,11 @@ pub record FailsWith {Id : Type 0} (files : FileDatabase Id) (lookups : List (Id
 abbrev pub SomeFails : {Id : Type 0} → FileDatabase Id → List (Id × Lookup) → Type 0
 SomeFails files lookups = (error : Error) × FailsWith files lookups error
 
--- ---- what has been written by then: `unchanged` says that nothing has, and `Wrote loci` that the
--- headers with these loci have, and nothing else
+-- ---- what has been written by then: `nothing_written` says that nothing has, and `Wrote loci`
+-- that the headers with these loci have, and nothing else
 
 module _ {Id : Type 0} (view_config : Config) (files : FileDatabase Id) (d : Diagnostic Id)
-    (loci : List Locus) (unchanged : Type 0) (Wrote : List Locus → Type 0) (e : Error) where
+    (loci : List Locus) (nothing_written : Type 0) (Wrote : List Locus → Type 0) (e : Error) where
   -- in short and medium style a lookup for the header of a primary label fails, and the headers of
   -- the labels before it have been written, whole
   pub record FailsAtLabel : Type 0 where
@@ -42,16 +42,17 @@ module _ {Id : Type 0} (view_config : Config) (files : FileDatabase Id) (d : Dia
   abbrev pub WrittenBefore : DisplayStyle → Type 0
   WrittenBefore Rich =
       e ≡ FormatError
-      → unchanged
+      → nothing_written
       ⊎ (first_error files.failure (late_lookups files (labels_of d) view_config) ≡ Some e)
   WrittenBefore Medium = FailsAtLabel
   WrittenBefore Short = FailsAtLabel
 
   -- the call fails: with `Io`, and then the writer has failed, or with an error of lookups, and
   -- then it has not; in rich style nothing has been written where a lookup before the header fails
-  pub record FailsAs (style : DisplayStyle) (writer_failed writer_unchanged : Type 0) : Type 0 where
+  pub record FailsAs (style : DisplayStyle) (writer_failed writer_not_failed : Type 0)
+      : Type 0 where
     pub error_is : (IsIo e × writer_failed)
-        ⊎ (writer_unchanged × IsLookupError files (lookups_in style view_config files d) e
+        ⊎ (writer_not_failed × IsLookupError files (lookups_in style view_config files d) e
         × WrittenBefore style)
     pub early : style ≡ Rich
-        → SomeFails files (early_lookups files (labels_of d) view_config) → unchanged
+        → SomeFails files (early_lookups files (labels_of d) view_config) → nothing_written

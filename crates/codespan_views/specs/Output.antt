@@ -13,7 +13,7 @@ module _ {Id : Type 0} (view_config : Config) (files : FileDatabase Id) (d : Dia
   -- no lookup failed, and each name is a text
   pub record Succeeds (loci : List Locus) : Type 0 where
     pub lookups_succeed : AllSucceed files.failure (lookups_in style view_config files d)
-    pub texts : NamesAreUtf8 loci
+    pub names_are_utf8 : NamesAreUtf8 loci
 
 module _ {Id : Type 0} (config : Config) (files : FileDatabase Id) (d : Diagnostic Id) where
   -- the text of the output with these loci, in the configuration's style

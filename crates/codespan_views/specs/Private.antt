@@ -1,7 +1,7 @@
 -- Definitions that private calls and proofs use: a reader of the public contracts needs none of
 -- them.
 -- what is looked up in a file, and what a label does on a line
-pub mod TextLoci
+pub mod Utf8Loci
 pub mod FileLookups
 pub mod SourceFiles
 pub mod LabelSpans

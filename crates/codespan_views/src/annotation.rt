@@ -44,7 +44,7 @@ pub enum MultiLabelKind {
 
 /// The kind of an annotation.
 pub enum AnnotationKind<'d, FileId> {
-    /// The label makes the line shown.
+    /// The label makes the line shown and is no single-line label on it.
     Shown,
     /// The label is a single-line label on the line, which is shown.
     Single {
@@ -113,7 +113,8 @@ pub fn push_annotation<'d, FileId>(
     annotations: &mut Vec<Annotation<'d, FileId>>,
 ) -> Result<(), Error>
     ensures added { OnOk result
-        (AppendsAnnotations (λ e. e.line ≡ line) annotations.old.items annotations.new.items
+        (AppendsAnnotations (λ annotation. annotation.line ≡ line) annotations.old.items
+        annotations.new.items
         (annotation_if_any file_index line.index (option_map (kind_view line.start) kind.entry))) }
     ensures failed { OnErr result (IsErrOf result Error.OutOfMemory) }
 {

@@ -3,7 +3,7 @@
 ghost use Rattle.std.specs.Prelude.{◌≡◌, ◌≢◌, true, None, IfErr, IfOk, OnOk, OnErr, IsErrOf};
 ghost use Rattle.std.specs.Option.{option_map};
 ghost use Rattle.codespan_core.specs.LawfulFiles.{FailsBy};
-ghost use Rattle.codespan_views.specs.Private.LabelsToCollect.{AppendsLineAnnotations, FindsLineAnnotations, FindsLabelAnnotations, HasLineIfLookedUp, IfEnded, IfContinues, WidensPadding, WidensPaddingForLine, FailsAtLine, HasLabelLines, label_of_collector, label_to_collect, label_failure, lines_failure, failure_if_looked_up, lane_mark_by_collector, kind_by_collector};
+ghost use Rattle.codespan_views.specs.Private.LabelsToCollect.{AppendsLineAnnotations, FindsLineAnnotations, FindsLabelAnnotations, HasLineIfLookedUp, IfEnded, IfContinues, WidensPadding, WidensPaddingForLine, FailsAtLine, HasLabelLines, label_of_collector, label_to_collect, label_failure, lines_failure, failure_if_looked_up, multi_kind_by_collector, kind_by_collector};
 ghost use Rattle.codespan_views.specs.Private.SourceFiles.{EndsBefore, model_of};
 ghost use Rattle.codespan_views.specs.Private.AnnotationViews.{IsLineOf, kind_view};
 ghost use Rattle.codespan_views.specs.Private.LabelSpans.{IsFarInside, line_of_end, line_of_start};
@@ -69,9 +69,9 @@ impl<'a, 'c, 'd, 'files, F: Files<'files>> LabelCollector<'a, 'c, 'd, 'files, F>
         }
     }
 
-    /// Returns the label's lane mark on a line, if it is a multi-line label that has one.
-    fn lane_mark_on_line(&self, line: LineInfo) -> Option<AnnotationKind<'d, F::FileId>>
-        ensures { option_map (kind_view line.start) result ≡ lane_mark_by_collector self.now line }
+    /// Returns the label's annotation as a multi-line label on a line, if it has a lane mark there.
+    fn multi_kind_on_line(&self, line: LineInfo) -> Option<AnnotationKind<'d, F::FileId>>
+        ensures { option_map (kind_view line.start) result ≡ multi_kind_by_collector self.now line }
     {
         match self.span.multi_label_kind(line.index) {
             None => None,
@@ -146,7 +146,7 @@ impl<'a, 'c, 'd, 'files, F: Files<'files>> LabelCollector<'a, 'c, 'd, 'files, F>
         }
         let file_index = self.indices.file_index;
         push_annotation(file_index, line, self.kind_on_line(line), annotations)?;
-        push_annotation(file_index, line, self.lane_mark_on_line(line), annotations)?;
+        push_annotation(file_index, line, self.multi_kind_on_line(line), annotations)?;
         Ok(())
     }
 

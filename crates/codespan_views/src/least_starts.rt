@@ -15,7 +15,7 @@ pub fn is_primary<FileId>(label: &Label<FileId>) -> bool
 }
 
 /// Returns the lesser of a byte index and a known one; the index itself if none is known.
-fn least(known: Option<usize>, start: usize) -> usize
+fn least_with(known: Option<usize>, start: usize) -> usize
     ensures { result ≡ least_with known start }
 {
     known.map_or(start, |byte| byte.min(start))
@@ -47,19 +47,19 @@ impl LeastStarts {
     {
         let start = label.range.start;
         let primary = if is_primary(label) {
-            Some(least(self.primary, start))
+            Some(least_with(self.primary, start))
         } else {
             self.primary
         };
         LeastStarts {
             primary,
-            any: Some(least(self.any, start)),
+            any: Some(least_with(self.any, start)),
         }
     }
 
     /// Returns the byte index of the locus: the least start of a primary label, or of any label
     /// where none is primary; 0 without labels.
-    pub fn byte(self) -> usize
+    pub fn locus_byte(self) -> usize
         ensures { result ≡ locus_byte self }
     {
         self.primary.or(self.any).unwrap_or(0)

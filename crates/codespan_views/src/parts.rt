@@ -6,7 +6,7 @@ ghost use Rattle.codespan_picture.specs.OutputStreams.{notes_of};
 ghost use Rattle.codespan_picture.specs.Snippets.{note_rows};
 ghost use Rattle.codespan_renderer.specs.Renderers.{Renders};
 ghost use Rattle.codespan_views.specs.Private.Rendering.{RendersRows};
-ghost use Rattle.codespan_views.specs.Private.ViewRendering.{header_line};
+ghost use Rattle.codespan_views.specs.Private.ViewRendering.{header_row_with_newline};
 
 use codespan_core::diagnostic::Diagnostic;
 use codespan_core::files::Error;
@@ -24,8 +24,8 @@ pub fn render_diagnostic_header<FileId, W: WriteStyle>(
     locus: Option<&Locus>,
 ) -> Result<(), Error>
     ensures { Renders W.sink
-        (header_line diagnostic.now (option_map (λ at. locus_view at.now) locus.entry)) renderer.old
-        result renderer.new }
+        (header_row_with_newline diagnostic.now (option_map (λ at. locus_view at.now) locus.entry))
+        renderer.old result renderer.new }
 {
     renderer.render_header(
         locus,

@@ -24,11 +24,11 @@ const SHOWN_LINES_PER_LABEL: usize = 6;
 
 /// The plan of an output.
 #[derive(Drop)]
-pub struct OutputPlan<'e, 'd, FileId> {
+pub struct OutputPlan<'collected, 'd, FileId> {
     /// The plans of the files' snippets, in the order of the files' first labels.
-    pub snippet_plans: Vec<SnippetPlan<'e, FileId>>,
+    pub snippet_plans: Vec<SnippetPlan<'collected, FileId>>,
     /// The lines of all snippets: those of the first file, then those of the next.
-    pub snippet_lines: Vec<SnippetLine<'e, 'd, FileId>>,
+    pub snippet_lines: Vec<SnippetLine<'collected, 'd, FileId>>,
     /// The padding width, in characters.
     pub padding: usize,
 }
@@ -50,12 +50,12 @@ fn line_capacity<FileId>(collected: &Collected<'_, FileId>) -> usize {
 /// # Requires
 ///
 /// `collected` was collected from the same files, by the same configuration.
-pub fn plan_output<'files, 'e, 'd, F: Files<'files>>(
+pub fn plan_output<'files, 'collected, 'd, F: Files<'files>>(
     alloc: Global,
     files: &'files F,
     config: &Config<'_>,
-    collected: &'e Collected<'d, F::FileId>,
-) -> Result<OutputPlan<'e, 'd, F::FileId>, Error>
+    collected: &'collected Collected<'d, F::FileId>,
+) -> Result<OutputPlan<'collected, 'd, F::FileId>, Error>
     requires { IsCollected (F.database files.now) config.now (map label_of collected.now.labels.now)
         collected.now }
     ensures planned { IfOk result (IsOutputPlan (F.database files.now) config.now

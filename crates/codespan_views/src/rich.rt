@@ -175,7 +175,7 @@ impl<'diagnostic, 'config, FileId: Copy + Eq> RichDiagnostic<'diagnostic, 'confi
         let mut start = 0;
         for (index, snippet_plan) in output_plan.snippet_plans.iter().enumerate() {
             let snippet_lines = lines_of_file(output_plan, snippet_plan, start);
-            start += snippet_plan.line_total;
+            start += snippet_plan.snippet_line_count;
             let is_followed = notes_follow || index + 1 < output_plan.snippet_plans.len();
             render_snippet(
                 &context,
@@ -197,16 +197,18 @@ impl<'diagnostic, 'config, FileId: Copy + Eq> RichDiagnostic<'diagnostic, 'confi
 ///
 /// From this index on, the output plan has at least as many lines as the snippet.
 #[inline(always)]
-fn lines_of_file<'p, 'e, 'd, FileId>(
-    output_plan: &'p OutputPlan<'e, 'd, FileId>,
+fn lines_of_file<'p, 'collected, 'd, FileId>(
+    output_plan: &'p OutputPlan<'collected, 'd, FileId>,
     snippet_plan: &SnippetPlan<'_, FileId>,
     start: usize,
-) -> &'p [SnippetLine<'e, 'd, FileId>]
-    requires { start + snippet_plan.now.line_total ≤ length output_plan.now.snippet_lines.items }
+) -> &'p [SnippetLine<'collected, 'd, FileId>]
+    requires { start + snippet_plan.now.snippet_line_count
+        ≤ length output_plan.now.snippet_lines.items }
     ensures { result.now
-        ≡ take snippet_plan.now.line_total (drop start output_plan.now.snippet_lines.items) }
+        ≡ take snippet_plan.now.snippet_line_count
+        (drop start output_plan.now.snippet_lines.items) }
 {
-    &output_plan.snippet_lines[start..start + snippet_plan.line_total]
+    &output_plan.snippet_lines[start..start + snippet_plan.snippet_line_count]
 }
 
 /// Returns whether the diagnostic has a note.

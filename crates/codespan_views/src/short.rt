@@ -2,7 +2,7 @@
 
 ghost use Rattle.std.specs.Prelude.{◌≡◌, ◌∷◌, [], IfOk};
 ghost use Rattle.codespan_views.specs.Private.FileLookups.{FailsByOrFormatError};
-ghost use Rattle.codespan_views.specs.Private.TextLoci.{IsLocusOfLabel};
+ghost use Rattle.codespan_views.specs.Private.Utf8Loci.{IsLocusOfLabel};
 ghost use Rattle.codespan_core.specs.declared.term.config.DisplayStyle.TheVariants.{Short, Medium};
 ghost use Rattle.codespan_picture.specs.Arguments.{locus_view};
 ghost use Rattle.codespan_picture.specs.Lookups.{first_error, header_lookups_of};

@@ -75,7 +75,7 @@ pub fn render_snippet<'files, 'd, F: Files<'files>, W: WriteStyle>(
             files: context.files,
             file_id: snippet_plan.file.file_id,
         },
-        text: source.as_str(),
+        source: source.as_str(),
         num_multi_labels: snippet_plan.file.num_multi_labels,
     };
     snippet.render_lines(renderer, buffers, snippet_lines)

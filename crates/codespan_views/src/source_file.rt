@@ -8,7 +8,7 @@ ghost use Rattle.codespan_picture.specs.Lookups.{line_lookups};
 ghost use Rattle.codespan_views.specs.Private.AnnotationViews.{IsLineAt};
 ghost use Rattle.codespan_views.specs.Private.FileLookups.{FailsByOrFormatError};
 ghost use Rattle.codespan_views.specs.Private.SourceFiles.{lookups_of_filled, EndsBefore, failure_of, failure_unless_past_end, model_of};
-ghost use Rattle.codespan_views.specs.Private.TextLoci.{IsTextLocus};
+ghost use Rattle.codespan_views.specs.Private.Utf8Loci.{IsUtf8Locus};
 
 use crate::annotation::LineInfo;
 use codespan_core::diagnostic::text::display_text;
@@ -109,7 +109,7 @@ impl<'files, F: Files<'files>> SourceFile<'files, F> {
     /// - Any other error: that of the first lookup that fails, the name before the location.
     #[inline(always)]
     pub fn locus(&self, alloc: Global, byte_index: usize) -> Result<Locus, Error>
-        ensures locus { IfOk result (λ locus. IsTextLocus
+        ensures locus { IfOk result (λ locus. IsUtf8Locus
             (model_of F.database self.now, byte_index) (locus_view locus)) }
         ensures failed { FailsByOrFormatError (failure_of F.database self.now
             (NameLookup ∷ LocationAt byte_index ∷ [])) result }

@@ -5,7 +5,7 @@ use Rattle.codespan_core.specs.Labels.{LabelModel}
 use Rattle.codespan_picture.specs.declared.char_metrics.Metrics.{Metrics}
 use Rattle.codespan_picture.specs.Carets.{covers}
 
--- one of the labels that pass the test has a byte of the character
+-- one of the labels that meet the test has a byte of the character
 abbrev pub is_covered : (LabelModel → Bool) → List LabelModel → Metrics → Bool
 is_covered passes xs c = list_any (λ x. passes x && covers x c) xs
 

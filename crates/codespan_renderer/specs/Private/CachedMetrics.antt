@@ -6,12 +6,12 @@ use Rattle.codespan_picture.specs.declared.char_metrics.Metrics.{Metrics}
 use Rattle.codespan_picture.specs.CharMetrics.{metrics_then}
 use Rattle.codespan_picture.specs.RowParts.{metrics_up_to}
 use Rattle.codespan_renderer.specs.declared.term.renderer.char_metrics.CharMetrics.{CharMetrics}
-use Rattle.codespan_renderer.specs.declared.term.renderer.cached.cached_metrics.CachedMetrics.{CachedMetrics}
-use Rattle.codespan_renderer.specs.Private.MetricsLeft.{MetricsAfterEnd, metrics_from, metrics_left, no_more}
+use Rattle.codespan_renderer.specs.declared.term.renderer.cached.cached_metrics.MetricsFromCache.{MetricsFromCache}
+use Rattle.codespan_renderer.specs.Private.RemainingMetrics.{MetricsAfterEnd, metrics_from, remaining_metrics, no_more}
 
 -- the characters that are left: the cached ones, and then those of the iterator
-abbrev pub cached_left : CachedMetrics → List Metrics
-cached_left s = s.cached.now ++ metrics_left s.rest
+abbrev pub remaining_from_cache : MetricsFromCache → List Metrics
+remaining_from_cache s = s.cached.now ++ remaining_metrics s.rest
 
 -- the cached characters and those of the iterator are all characters of the text, whatever is after
 -- the last one

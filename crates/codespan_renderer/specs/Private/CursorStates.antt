@@ -10,11 +10,11 @@ use Rattle.codespan_picture.specs.Private.CharCursors.{AreContiguous}
 pub record IsBefore (s : LabelCursor) (left : List Metrics) : Type 0 where
   pub byte_index : ℕ
   pub passed : HasPassedLabels byte_index s
-  pub follow : AreContiguous byte_index left
+  pub contiguous : AreContiguous byte_index left
 
 -- the cursor has just returned this character and is before these; it has passed the labels that
 -- start before the character
 pub record HasReturned (c : Metrics) (s : LabelCursor) (left : List Metrics) : Type 0 where
-  pub some : 1 ≤ c.bytes
+  pub has_byte : 1 ≤ c.bytes
   pub passed : HasPassedLabels c.byte_index s
-  pub follow : AreContiguous (c.byte_index + c.bytes) left
+  pub contiguous : AreContiguous (c.byte_index + c.bytes) left

@@ -6,26 +6,26 @@ use Rattle.codespan_renderer.specs.declared.term.renderer.cached.label_cursor.La
 use Rattle.codespan_picture.specs.Arguments.{single_label_views, starts_in_order}
 use Rattle.codespan_picture.specs.Private.CharCursors.{is_covered}
 
--- the greatest end with that of a label that counts; one that covers no byte has none
+-- the greatest end with that of a label that counts; one that covers no byte does not count
 abbrev pub end_with : Bool → ℕ → LabelModel → ℕ
 end_with counts end x = if counts && nat_lt x.start x.end then max end x.end else end
 
--- a character that ends at this byte index or later is covered by a label that passes the test,
--- exactly where it begins before `end` or is covered by a remaining label that passes
+-- a character that ends at this byte index or later is covered by a label that meets the test,
+-- exactly where it begins before `end` or is covered by a remaining label that meets it
 pub record IsCoverEnd (test : LabelModel → Bool) (labels left : List LabelModel)
     (byte_index end : ℕ) : Type 0 where
   pub is : (c : Metrics) → byte_index ≤ c.byte_index + c.bytes → 1 ≤ c.bytes
       → is_covered test labels c ≡ (nat_lt c.byte_index end || is_covered test left c)
 
--- the labels that a cursor has not passed
-abbrev pub labels_left : LabelCursor → List LabelModel
-labels_left s = single_label_views (drop s.next s.labels.now)
+-- the labels that a cursor over the labels of a line has not passed
+abbrev pub remaining_labels : LabelCursor → List LabelModel
+remaining_labels s = single_label_views (drop s.next s.labels.now)
 
 -- a cursor has passed the labels that start before this byte index
 pub record HasPassedLabels (byte_index : ℕ) (s : LabelCursor) : Type 0 where
   pub primary :
-      IsCoverEnd is_primary (single_label_views s.labels.now) (labels_left s) byte_index
+      IsCoverEnd is_primary (single_label_views s.labels.now) (remaining_labels s) byte_index
       s.primary_end
   pub any :
-      IsCoverEnd (λ _. true) (single_label_views s.labels.now) (labels_left s) byte_index s.end
-  pub ordered : starts_in_order (labels_left s) ≡ true
+      IsCoverEnd (λ _. true) (single_label_views s.labels.now) (remaining_labels s) byte_index s.end
+  pub ordered : starts_in_order (remaining_labels s) ≡ true

@@ -39,14 +39,14 @@ spaced context edge column (p ∷ ps) =
     spaces (p.column - column) ++ label_glyph context.severity p.style context.chars.pointer_left
     ++ spaced context edge p.end_column ps
 
--- the labels that a cursor has not passed
-abbrev pub label_starts_left : StartCursor → List LabelModel
-label_starts_left s = single_label_views (drop s.next s.labels.now)
+-- the labels that a cursor over starts of labels has not passed
+abbrev pub remaining_start_labels : StartCursor → List LabelModel
+remaining_start_labels s = single_label_views (drop s.next s.labels.now)
 
 -- the cursor has passed the labels that start before this byte index: none of them starts in a
 -- later character
 pub record HasPassedStarts (byte_index : ℕ) (s : StartCursor) : Type 0 where
   pub is : (c : Metrics) (found : Option LabelStyle) → byte_index ≤ c.byte_index
       → preferred_style (starts_in c) found (filter has_message (single_label_views s.labels.now))
-      ≡ preferred_style (starts_in c) found (filter has_message (label_starts_left s))
-  pub ordered : starts_from byte_index (label_starts_left s) ≡ true
+      ≡ preferred_style (starts_in c) found (filter has_message (remaining_start_labels s))
+  pub ordered : starts_from byte_index (remaining_start_labels s) ≡ true

@@ -12,7 +12,7 @@ abbrev pub prefer_primary : Option LabelStyle → LabelStyle → Option LabelSty
 prefer_primary (Some Primary) style = Some Primary
 prefer_primary _ style = Some style
 
--- the style that takes precedence among what was found and those of the labels that pass the test
+-- the style that takes precedence among what was found and those of the labels that meet the test
 abbrev pub preferred_style : (LabelModel → Bool) → Option LabelStyle → List LabelModel
     → Option LabelStyle
 preferred_style test found xs =

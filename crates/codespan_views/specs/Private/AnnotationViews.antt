@@ -34,8 +34,8 @@ kind_view start (rust.Multi kind lane label) =
 
 -- an annotation
 abbrev pub annotation_view : {Id : Type 0} → RustAnnotation Id → Annotation
-annotation_view e = record
-    { file_index = e.file_index; line = e.line.index; kind = kind_view e.line.start e.kind }
+annotation_view x = record
+    { file_index = x.file_index; line = x.line.index; kind = kind_view x.line.start x.kind }
 
 -- the line is one of the file's, with its number and its range
 pub record IsLineOf (f : FileModel) (line : LineInfo) : Type 0 where
@@ -48,7 +48,8 @@ IsLineAt f l line = (line.index ≡ l) × IsLineOf f line
 
 -- the annotation's line is one of its file, where these are the ids of the files
 abbrev pub IsOfFiles : {Id : Type 0} → (Id → FileModel) → List Id → RustAnnotation Id → Type 0
-IsOfFiles {Id} file ids e = (id : Id) → IsIdAt ids e.file_index id → IsLineOf (file id) e.line
+IsOfFiles {Id} file ids annotation = (id : Id) → IsIdAt ids annotation.file_index id
+    → IsLineOf (file id) annotation.line
 
 -- these annotations were appended, and this holds of each
 pub record AppendsAnnotations {Id : Type 0} (P : RustAnnotation Id → Type 0)
@@ -62,14 +63,14 @@ pub record AppendsAnnotations {Id : Type 0} (P : RustAnnotation Id → Type 0)
 abbrev pub AppendsAnnotationsOf : {Id : Type 0} → FileModel → List (RustAnnotation Id)
     → List (RustAnnotation Id) → List Annotation → Type 0
 AppendsAnnotationsOf f old new annotations =
-    AppendsAnnotations (λ e. IsLineOf f e.line) old new annotations
+    AppendsAnnotations (λ annotation. IsLineOf f annotation.line) old new annotations
 
--- the kind of the multi-line label mark that a label from line `s` to line `e` has on line `l`, if
--- it is a multi-line label that has one
+-- the kind of the multi-line label mark that a label from line `first` to line `last` has on line
+-- `l`, if it is a multi-line label that has one
 abbrev pub multi_label_kind : ℕ → ℕ → ℕ → Option MultiLabelKind
-multi_label_kind s e l =
-    if s == e then None
-    else if s == l then Some label_kind.Top
-    else if e == l then Some label_kind.Bottom
-    else if nat_lt s l && nat_lt l e then Some label_kind.Left
+multi_label_kind first last l =
+    if first == last then None
+    else if first == l then Some label_kind.Top
+    else if last == l then Some label_kind.Bottom
+    else if nat_lt first l && nat_lt l last then Some label_kind.Left
     else None

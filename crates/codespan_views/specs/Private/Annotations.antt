@@ -66,21 +66,22 @@ is_before x y = is_lt (annotation_cmp x y)
 
 -- the annotation makes its line shown
 abbrev pub shows_line : Annotation → Bool
-shows_line e = nat_lt (rank_of e.kind) 2
+shows_line annotation = nat_lt (rank_of annotation.kind) 2
 
 -- the annotation is of this line
 abbrev pub is_on_line : ℕ → Annotation → Bool
-is_on_line l e = e.line == l
+is_on_line l annotation = annotation.line == l
 
 -- the annotation is of this file
 abbrev pub is_of_file : ℕ → Annotation → Bool
-is_of_file f e = e.file_index == f
+is_of_file file_index annotation = annotation.file_index == file_index
 
 -- the annotation is a lane mark in this lane, on this line of this file
 abbrev pub IsLaneMarkOn : ℕ → ℕ → ℕ → Annotation → Type 0
-IsLaneMarkOn f l lane e =
-    (e.file_index ≡ f) × (e.line ≡ l) × (rank_of e.kind ≡ 2) × (first_of e.kind ≡ lane)
-    × (second_of e.kind ≡ 0) × (index_in_list e.kind ≡ 0)
+IsLaneMarkOn file_index l lane annotation =
+    (annotation.file_index ≡ file_index) × (annotation.line ≡ l) × (rank_of annotation.kind ≡ 2)
+    × (first_of annotation.kind ≡ lane) × (second_of annotation.kind ≡ 0)
+    × (index_in_list annotation.kind ≡ 0)
 
 -- ---- the annotations of a line
 

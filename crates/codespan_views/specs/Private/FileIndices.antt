@@ -2,11 +2,11 @@
 use Rattle.std.specs.Prelude.{◌≡◌, ℕ, zero, suc, Bool, false, List, [], ◌∷◌}
 use Rattle.std.specs.List.{AllByRecursion, position_or_len}
 
--- the id at index f
+-- the id at this index
 abbrev pub IsIdAt : {Id : Type 0} → List Id → ℕ → Id → Type 0
-IsIdAt [] f id = ⊥
+IsIdAt [] file_index id = ⊥
 IsIdAt (j ∷ js) zero id = j ≡ id
-IsIdAt (j ∷ js) (suc f) id = IsIdAt js f id
+IsIdAt (j ∷ js) (suc file_index) id = IsIdAt js file_index id
 
 module _ {Id : Type 0} (same : Id → Id → Bool) where
   -- the index of an id among these, or their number if it is none of them

@@ -9,7 +9,7 @@ use Rattle.codespan_picture.specs.Lookups.{Failures, first_error, header_lookups
 use Rattle.codespan_picture.specs.Picture.{headers_at}
 use Rattle.codespan_picture.specs.Rows.{Locus}
 use Rattle.codespan_picture.specs.Snippets.{LabelInFile, has_any}
-use Rattle.codespan_views.specs.Private.TextLoci.{IsLocusOfLabel}
+use Rattle.codespan_views.specs.Private.Utf8Loci.{IsLocusOfLabel}
 
 module _ {Id : Type 0} (config : Config) (file : Id → FileModel) (failure : Failures Id)
     (d : Diagnostic Id) where
@@ -53,5 +53,5 @@ module _ {Id : Type 0} (config : Config) (file : Id → FileModel) (failure : Fa
   -- the call renders the headers of these labels, and returns whether there is one
   abbrev pub RendersHeaders : List (LabelInFile Id) → Sink → Result Bool Error → Sink → Type 0
   RendersHeaders xs old r new =
-      MatchResult r (λ some. HeadersWritten old xs new × (some ≡ has_any xs))
+      MatchResult r (λ has_header. HeadersWritten old xs new × (has_header ≡ has_any xs))
       (λ e. HeadersFailed old xs e new)

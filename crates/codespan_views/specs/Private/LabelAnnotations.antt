@@ -16,16 +16,16 @@ module _ (config : Config) (f : FileModel) (indices : LabelIndices) (x : LabelMo
       if is_single f x && (first_line f x == l) then Some (Single indices.index (drawn_label f x))
       else if shows config (first_line f x) (last_line f x) l then Some Shown else None
 
-  -- its lane mark on a line, where it is a multi-line label
-  abbrev pub lane_mark_on : ℕ → Option AnnotationKind
-  lane_mark_on l =
+  -- what it does on a line as a multi-line label, where it has a lane mark there
+  abbrev pub multi_kind_on : ℕ → Option AnnotationKind
+  multi_kind_on l =
       if is_single f x then None
       else option_map Multi (lane_mark_of indices.lane x (multi_label_on f l x))
 
   -- its annotations of a line
   abbrev pub line_annotations : ℕ → List Annotation
   line_annotations l = annotation_if_any indices.file_index l (kind_on l)
-      ++ annotation_if_any indices.file_index l (lane_mark_on l)
+      ++ annotation_if_any indices.file_index l (multi_kind_on l)
 
   -- its annotations of all lines that are looked up for it
   abbrev pub annotations_of : List Annotation
@@ -33,17 +33,17 @@ module _ (config : Config) (f : FileModel) (indices : LabelIndices) (x : LabelMo
 
 -- ---- by the lines of its ends
 
--- what a label from line `s` to line `e` does on line `l`, which starts at this byte index
+-- what a label from line `first` to line `last` does on line `l`, which starts at this byte index
 abbrev pub kind_by_ends : Config → LabelIndices → ℕ → ℕ → ℕ → ℕ → LabelModel → Option AnnotationKind
-kind_by_ends config indices s e l start x =
-    if (s == e) && (s == l) then Some (Single indices.index (from_line_start start x))
-    else if shows config s e l then Some Shown else None
+kind_by_ends config indices first last l start x =
+    if (first == last) && (first == l) then Some (Single indices.index (from_line_start start x))
+    else if shows config first last l then Some Shown else None
 
--- its lane mark there, if it is a multi-line label that has one
-abbrev pub lane_mark_by_ends : LabelIndices → ℕ → ℕ → ℕ → ℕ → LabelModel → Option AnnotationKind
-lane_mark_by_ends indices s e l start x =
-    if s == e then None
-    else option_map Multi (lane_mark_of indices.lane x (multi_label_at s e l start x))
+-- what it does there as a multi-line label, if it has a lane mark there
+abbrev pub multi_kind_by_ends : LabelIndices → ℕ → ℕ → ℕ → ℕ → LabelModel → Option AnnotationKind
+multi_kind_by_ends indices first last l start x =
+    if first == last then None
+    else option_map Multi (lane_mark_of indices.lane x (multi_label_at first last l start x))
 
 -- ---- the lines that are looked up for it
 

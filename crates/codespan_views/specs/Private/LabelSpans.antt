@@ -23,14 +23,15 @@ ends_failure failure label =
 
 -- line `l` is one of these two, or between them
 abbrev pub spans_line : ℕ → ℕ → ℕ → Bool
-spans_line s e l = (l == s) || (l == e) || (nat_le s l && nat_le l e)
+spans_line first last l = (l == first) || (l == last) || (nat_le first l && nat_le l last)
 
--- line `l` is between lines `s` and `e`, and near one of them
+-- line `l` is between lines `first` and `last`, and near one of them
 abbrev pub is_near_end : Config → ℕ → ℕ → ℕ → Bool
-is_near_end config s e l =
-    nat_lt s l && nat_lt l e
-    && (nat_le l (s + config.start_context_lines) || nat_le e (l + config.end_context_lines))
+is_near_end config first last l =
+    nat_lt first l && nat_lt l last
+    && (nat_le l (first + config.start_context_lines) || nat_le last (l + config.end_context_lines))
 
--- line `l` is between lines `s` and `e`, and near neither of them
+-- line `l` is between lines `first` and `last`, and near neither of them
 abbrev pub IsFarInside : Config → ℕ → ℕ → ℕ → Type 0
-IsFarInside config s e l = (s + config.start_context_lines < l) × (l + config.end_context_lines < e)
+IsFarInside config first last l =
+    (first + config.start_context_lines < l) × (l + config.end_context_lines < last)

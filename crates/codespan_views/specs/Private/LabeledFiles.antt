@@ -1,4 +1,4 @@
--- The files of an output, as a view has them.
+-- The files of an output, as the code has them.
 use Rattle.std.specs.Prelude.{◌≡◌, ◌==◌, ℕ, ◌+◌, Bool, List, [], ◌∷◌, ◌++◌, if◌then◌else◌, map, slice_index_or, slice_set}
 use Rattle.std.specs.List.{list_any}
 use Rattle.codespan_core.specs.FileModel.{FileModel}

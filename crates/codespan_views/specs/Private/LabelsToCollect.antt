@@ -12,7 +12,7 @@ use Rattle.codespan_views.specs.declared.label_annotations.LabelCollector.{Label
 use Rattle.codespan_views.specs.declared.label_annotations.FoundAnnotations.{FoundAnnotations}
 use Rattle.codespan_views.specs.declared.label_annotations.LabelIndices.{LabelIndices}
 use Rattle.codespan_views.specs.Private.Annotations.{AnnotationKind}
-use Rattle.codespan_views.specs.Private.LabelAnnotations.{annotations_of, line_annotations, annotations_if_looked_up, lookups_if_looked_up, lane_mark_by_ends, kind_by_ends}
+use Rattle.codespan_views.specs.Private.LabelAnnotations.{annotations_of, line_annotations, annotations_if_looked_up, lookups_if_looked_up, multi_kind_by_ends, kind_by_ends}
 use Rattle.codespan_views.specs.Private.FileLookups.{failure_in}
 use Rattle.codespan_views.specs.Private.SourceFiles.{failure_unless_past_end, model_of}
 use Rattle.codespan_views.specs.Private.AnnotationViews.{AppendsAnnotationsOf}
@@ -149,11 +149,11 @@ kind_by_collector collector line =
     kind_by_ends collector.config.now collector.indices collector.span.first collector.span.last
     line.index line.start (label_of collector.label.now).label
 
--- its lane mark on a line, by the lines of its ends
-abbrev pub lane_mark_by_collector : {F Id Name Source : Type 0} → LabelCollector F Id Name Source
+-- what it does there as a multi-line label, by the lines of its ends
+abbrev pub multi_kind_by_collector : {F Id Name Source : Type 0} → LabelCollector F Id Name Source
     → LineInfo → Option AnnotationKind
-lane_mark_by_collector collector line =
-    lane_mark_by_ends collector.indices collector.span.first collector.span.last line.index
+multi_kind_by_collector collector line =
+    multi_kind_by_ends collector.indices collector.span.first collector.span.last line.index
     line.start (label_of collector.label.now).label
 
 -- a line is looked up for the label, and its lookups fail with this error

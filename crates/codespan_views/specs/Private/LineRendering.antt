@@ -20,16 +20,16 @@ pub record AreLinesOf {Id : Type 0} (f : FileModel) (num_multi_labels : ℕ)
   pub each : AllByRecursion (IsSnippetLineOf f) snippet_lines
   pub in_order : AreInOrder num_multi_labels (map snippet_line_view snippet_lines)
 
--- the snippet has the text of its file, and these are lines of it, each with its labels in order
+-- the snippet has the source of its file, and these are lines of it, each with its labels in order
 pub record HasLines {F Id Name Source : Type 0} (database_of : F → FileDatabase Id)
     (snippet : Snippet F Id Name Source) (snippet_lines : List (RustLine Id)) : Type 0 where
-  pub text : snippet.text.now ≡ (model_of database_of snippet.file).text
+  pub source : snippet.source.now ≡ (model_of database_of snippet.file).text
   pub are : AreLinesOf (model_of database_of snippet.file) snippet.num_multi_labels snippet_lines
 
--- the snippet has the text of its file, and this is a line of it, with its labels in order
+-- the snippet has the source of its file, and this is a line of it, with its labels in order
 pub record HasLine {F Id Name Source : Type 0} (database_of : F → FileDatabase Id)
     (snippet : Snippet F Id Name Source) (snippet_line : RustLine Id) : Type 0 where
-  pub text : snippet.text.now ≡ (model_of database_of snippet.file).text
+  pub source : snippet.source.now ≡ (model_of database_of snippet.file).text
   pub is : IsSnippetLineOf (model_of database_of snippet.file) snippet_line
   pub in_order : IsTrue (is_line_in_order snippet.num_multi_labels (snippet_line_view snippet_line))
 

@@ -8,16 +8,16 @@ use Rattle.codespan_views.specs.declared.labeled_files.LabeledFile.{LabeledFile 
 use Rattle.codespan_views.specs.Private.LocusBytes.{locus_byte}
 
 -- the byte of a file whose locus its snippet shows
-abbrev pub locus_start_of : {Id : Type 0} → (Id → FileModel) → RustFile Id → FileModel × ℕ
-locus_start_of file f = (file f.file_id, locus_byte f.least_starts)
+abbrev pub locus_byte_of_file : {Id : Type 0} → (Id → FileModel) → RustFile Id → FileModel × ℕ
+locus_byte_of_file file f = (file f.file_id, locus_byte f.least_starts)
 
 -- the lookups of the locus of a file's snippet
 abbrev pub locus_lookups_of : {Id : Type 0} → RustFile Id → List (Id × Lookup)
 locus_lookups_of f = lookups_of_file f.file_id (Name ∷ LocationAt (locus_byte f.least_starts) ∷ [])
 
 -- those of all files
-abbrev pub loci_lookups : {Id : Type 0} → List (RustFile Id) → List (Id × Lookup)
-loci_lookups files = flat_map locus_lookups_of files
+abbrev pub locus_lookups_of_files : {Id : Type 0} → List (RustFile Id) → List (Id × Lookup)
+locus_lookups_of_files files = flat_map locus_lookups_of files
 
 -- what those of one file fail with
 abbrev pub locus_failure : {Id : Type 0} → Failures Id → RustFile Id → Option Error

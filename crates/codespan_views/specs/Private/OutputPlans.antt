@@ -14,7 +14,7 @@ use Rattle.codespan_views.specs.declared.plan.snippet_plans.SnippetPlan.{Snippet
 use Rattle.codespan_views.specs.declared.plan.snippet_lines.SnippetLine.{SnippetLine as RustLine}
 use Rattle.codespan_views.specs.Private.SnippetLineViews.{IsSnippetLineOf, lookups_of_lines, snippet_line_view}
 use Rattle.codespan_views.specs.Private.SnippetLines.{rows_of_lines, AreInOrder}
-use Rattle.codespan_views.specs.Private.TextLoci.{IsLocusOfFile}
+use Rattle.codespan_views.specs.Private.Utf8Loci.{IsLocusOfFile}
 
 -- the locus of each file's snippet
 abbrev pub loci_of : {Id : Type 0} → List (SnippetPlan Id) → List Locus
@@ -32,7 +32,7 @@ pub record IsPlanOfLabels {Id : Type 0} (config : Config) (s : LabeledFileModel)
     (snippet_plan : SnippetPlan Id) (own_lines : List (RustLine Id)) : Type 0 where
   pub lanes_are : snippet_plan.file.now.num_multi_labels ≡ num_multi_labels s
   pub locus_is : IsLocusOfFile s (locus_view snippet_plan.locus)
-  pub count_is : snippet_plan.line_total ≡ length own_lines
+  pub count_is : snippet_plan.snippet_line_count ≡ length own_lines
   pub each : AllByRecursion (IsSnippetLineOf s.file) own_lines
   pub in_order : AreInOrder (num_multi_labels s) (map snippet_line_view own_lines)
   pub rows : rows_of_lines s.file (num_multi_labels s) (map snippet_line_view own_lines)
@@ -50,8 +50,9 @@ module _ {Id : Type 0} (database : FileDatabase Id) where
   ArePlansOfLabels config xs (snippet_plan ∷ snippet_plans) snippet_lines =
       IsPlanOfLabels config
       (labeled_file_model database.same database.file xs snippet_plan.file.now.file_id)
-      snippet_plan (take snippet_plan.line_total snippet_lines)
-      × ArePlansOfLabels config xs snippet_plans (drop snippet_plan.line_total snippet_lines)
+      snippet_plan (take snippet_plan.snippet_line_count snippet_lines)
+      × ArePlansOfLabels config xs snippet_plans
+      (drop snippet_plan.snippet_line_count snippet_lines)
 
   -- the plan is that of these labels
   pub record IsOutputPlan (config : Config) (xs : List (LabelInFile Id))
@@ -63,18 +64,18 @@ module _ {Id : Type 0} (database : FileDatabase Id) where
         ≡ padding_of config (labeled_file_models database.same database.file xs)
 
 -- the lookups of the numbers of filled lines, where they are made before the header
-abbrev pub padding_lookups : {Id : Type 0} → Config → FileDatabase Id → List (LabelInFile Id)
-    → List (Id × Lookup)
-padding_lookups config database xs =
+abbrev pub number_lookups_of_labels : {Id : Type 0} → Config → FileDatabase Id
+    → List (LabelInFile Id) → List (Id × Lookup)
+number_lookups_of_labels config database xs =
     flat_map
     (λ id. lookups_of_file id
     (numbers_for_padding database xs config config.layout id))
     (file_ids database.same xs)
 
 -- those of names and locations
-abbrev pub file_locus_lookups : {Id : Type 0} → FileDatabase Id → List (LabelInFile Id)
+abbrev pub locus_lookups_of_labels : {Id : Type 0} → FileDatabase Id → List (LabelInFile Id)
     → List (Id × Lookup)
-file_locus_lookups database xs =
+locus_lookups_of_labels database xs =
     flat_map (λ id. lookups_of_file id (locus_lookups database xs id))
     (file_ids database.same xs)
 
@@ -82,7 +83,7 @@ file_locus_lookups database xs =
 abbrev pub output_plan_lookups : {Id : Type 0} → Config → FileDatabase Id → List (LabelInFile Id)
     → List (Id × Lookup)
 output_plan_lookups config database xs =
-    padding_lookups config database xs ++ file_locus_lookups database xs
+    number_lookups_of_labels config database xs ++ locus_lookups_of_labels database xs
 
 -- what these lookups fail with
 abbrev pub output_plan_failure : {Id : Type 0} → Config → FileDatabase Id → List (LabelInFile Id)

@@ -1,4 +1,4 @@
--- The lines of a snippet, as a view has them.
+-- The lines of a snippet, as the code has them.
 use Rattle.std.specs.Prelude.{◌≡◌, ℕ, List, [], ◌∷◌, ◌++◌, map, flat_map, Option, Some, None, IfSome}
 use Rattle.std.specs.List.{AllByRecursion}
 use Rattle.codespan_picture.specs.Types.{Layout, Classic, Unbroken}
@@ -28,7 +28,7 @@ gap_lines hidden_annotations next_annotations gaps.Nothing = []
 gap_lines hidden_annotations next_annotations (gaps.Filled l) = Filled l hidden_annotations ∷ []
 gap_lines hidden_annotations next_annotations gaps.Break = Break next_annotations ∷ []
 
--- the gap is that between two shown lines, of which the first may be none
+-- the gap before shown line `d`, where `previous` is the shown line before it, if any
 abbrev pub IsGapBefore : Option ℕ → ℕ → Gap → Type 0
 IsGapBefore previous d gap = (hidden_annotations next_annotations : List Annotation)
     → before_line (lines_between hidden_annotations next_annotations) previous d

@@ -51,8 +51,9 @@ lines_between hidden_annotations next_annotations =
 
 -- a shown line, after what is before it
 abbrev pub lines_to : Option ℕ → List Annotation → ℕ → List Annotation → List SnippetLine
-lines_to previous hidden_annotations d es =
-    before_line (lines_between hidden_annotations es) previous d ++ Labeled d es ∷ []
+lines_to previous hidden_annotations d annotations =
+    before_line (lines_between hidden_annotations annotations) previous d
+    ++ Labeled d annotations ∷ []
 
 -- the lines of groups, where `previous` is the shown line before them, and `hidden_annotations` are
 -- the annotations of the line before them, where that is hidden
@@ -65,7 +66,7 @@ lines_from previous hidden_annotations (g ∷ gs) =
 
 -- the lines of the annotations of one file
 abbrev pub lines_of : List Annotation → List SnippetLine
-lines_of es = lines_from None [] (groups es)
+lines_of annotations = lines_from None [] (groups annotations)
 
 -- ---- the rows of lines
 
@@ -77,7 +78,8 @@ single_label_of (Multi lane_mark) = None
 
 -- the single-line labels
 abbrev pub single_labels_in : List Annotation → List LabelModel
-single_labels_in es = filter_map (λ (e : Annotation). single_label_of e.kind) es
+single_labels_in annotations =
+    filter_map (λ (annotation : Annotation). single_label_of annotation.kind) annotations
 
 -- the lane mark of an annotation, where it has one
 abbrev pub lane_mark_of_kind : AnnotationKind → Option LaneMark
@@ -87,39 +89,40 @@ lane_mark_of_kind (Multi lane_mark) = Some lane_mark
 
 -- the lane marks
 abbrev pub lane_marks_in : List Annotation → List LaneMark
-lane_marks_in es = filter_map (λ (e : Annotation). lane_mark_of_kind e.kind) es
+lane_marks_in annotations =
+    filter_map (λ (annotation : Annotation). lane_mark_of_kind annotation.kind) annotations
 
 module _ (f : FileModel) (count : ℕ) where
   -- so many lanes, with the lane marks of these annotations
   abbrev pub lanes_with : List Annotation → Lanes
-  lanes_with es = record { count = count; lane_marks = lane_marks_in es }
+  lanes_with annotations = record { count = count; lane_marks = lane_marks_in annotations }
 
   -- a line of the file with these annotations
   abbrev pub line_of_group : ℕ → List Annotation → Line
-  line_of_group l es = record {
+  line_of_group l annotations = record {
     number = f.line_number l;
     text = text_without_line_end (line_text f l);
-    labels = single_labels_in es;
-    lanes = lanes_with es;
+    labels = single_labels_in annotations;
+    lanes = lanes_with annotations;
   }
 
   -- the rows of a line
   abbrev pub rows_of_line : SnippetLine → List Row
-  rows_of_line (Labeled l es) = rows_of (line_of_group l es)
-  rows_of_line (Filled l es) = rows_of (line_of_group l es)
-  rows_of_line (Break es) = BreakRow (lanes_with es) ∷ []
+  rows_of_line (Labeled l annotations) = rows_of (line_of_group l annotations)
+  rows_of_line (Filled l annotations) = rows_of (line_of_group l annotations)
+  rows_of_line (Break annotations) = BreakRow (lanes_with annotations) ∷ []
 
   -- the rows of all
   abbrev pub rows_of_lines : List SnippetLine → List Row
   rows_of_lines snippet_lines = flat_map rows_of_line snippet_lines
 
--- ---- the lookups of lines
+-- ---- the filled lines
 
 -- the line, where it is filled in
 abbrev pub filled_line_of : SnippetLine → List ℕ
-filled_line_of (Labeled l es) = []
-filled_line_of (Filled l es) = l ∷ []
-filled_line_of (Break es) = []
+filled_line_of (Labeled l annotations) = []
+filled_line_of (Filled l annotations) = l ∷ []
+filled_line_of (Break annotations) = []
 
 -- the lines that are filled in
 abbrev pub filled_lines_of : List SnippetLine → List ℕ
@@ -129,18 +132,18 @@ filled_lines_of snippet_lines = flat_map filled_line_of snippet_lines
 
 -- the lane marks of these annotations ascend in so many lanes
 abbrev pub are_lane_marks_in_order : ℕ → List Annotation → Bool
-are_lane_marks_in_order count es = ascend_from count 0 (lane_marks_in es)
+are_lane_marks_in_order count annotations = ascend_from count 0 (lane_marks_in annotations)
 
 -- and the single-line labels are in the order of their starts
 abbrev pub are_annotations_in_order : ℕ → List Annotation → Bool
-are_annotations_in_order count es =
-    starts_in_order (single_labels_in es) && are_lane_marks_in_order count es
+are_annotations_in_order count annotations =
+    starts_in_order (single_labels_in annotations) && are_lane_marks_in_order count annotations
 
 -- so are those of a line of a snippet
 abbrev pub is_line_in_order : ℕ → SnippetLine → Bool
-is_line_in_order count (Labeled l es) = are_annotations_in_order count es
-is_line_in_order count (Filled l es) = are_annotations_in_order count es
-is_line_in_order count (Break es) = are_lane_marks_in_order count es
+is_line_in_order count (Labeled l annotations) = are_annotations_in_order count annotations
+is_line_in_order count (Filled l annotations) = are_annotations_in_order count annotations
+is_line_in_order count (Break annotations) = are_lane_marks_in_order count annotations
 
 -- the single-line labels of each line are in the order of their starts, and its lane marks ascend
 -- in so many lanes

@@ -15,14 +15,14 @@ use Rattle.codespan_views.specs.Private.Annotations.{Annotation, is_of_file}
 use Rattle.codespan_views.specs.Private.AnnotationViews.{annotation_view}
 use Rattle.codespan_views.specs.Private.SnippetLineViews.{IsSnippetLineIn, numbers_looked_up, snippet_line_view}
 use Rattle.codespan_views.specs.Private.LabeledFiles.{ids_view}
-use Rattle.codespan_views.specs.Private.Loci.{loci_lookups}
+use Rattle.codespan_views.specs.Private.Loci.{locus_lookups_of_files}
 use Rattle.codespan_views.specs.Private.LocusBytes.{locus_byte}
 use Rattle.codespan_views.specs.Private.SnippetLines.{SnippetLine, filled_lines_of, lines_of}
-use Rattle.codespan_views.specs.Private.TextLoci.{IsTextLocus}
+use Rattle.codespan_views.specs.Private.Utf8Loci.{IsUtf8Locus}
 
 -- the lines of the snippet of the file at an index
 abbrev pub lines_at : List Annotation → ℕ → List SnippetLine
-lines_at es k = lines_of (filter (is_of_file k) es)
+lines_at annotations k = lines_of (filter (is_of_file k) annotations)
 
 -- what `image` makes of each id and its index, one after another; indices are counted from k on
 abbrev pub flat_map_indexed : {Id A : Type 0} → (ℕ → Id → List A) → ℕ → List Id → List A
@@ -30,20 +30,23 @@ flat_map_indexed image k [] = []
 flat_map_indexed image k (id ∷ ids) = image k id ++ flat_map_indexed image (k + 1) ids
 
 -- the lookups of the numbers of lines that are filled in
-abbrev pub number_lookups : {Id : Type 0} → Layout → List Annotation → List Id → List (Id × Lookup)
-number_lookups layout es ids =
+abbrev pub number_lookups_of_annotations : {Id : Type 0} → Layout → List Annotation → List Id
+    → List (Id × Lookup)
+number_lookups_of_annotations layout annotations ids =
     flat_map_indexed
-    (λ k id. lookups_of_file id (numbers_looked_up layout (filled_lines_of (lines_at es k)))) 0 ids
+    (λ k id. lookups_of_file id
+    (numbers_looked_up layout (filled_lines_of (lines_at annotations k)))) 0 ids
 
-module _ {Id : Type 0} (layout : Layout) (file : Id → FileModel) (es : List Annotation) where
+module _ {Id : Type 0} (layout : Layout) (file : Id → FileModel)
+    (annotations : List Annotation) where
   -- the plan is that of this file, which is at an index: its locus and its lines
   pub record IsPlanOfAnnotations (k : ℕ) (f : RustFile Id) (snippet_plan : SnippetPlan Id)
       (own_lines : List (RustLine Id)) : Type 0 where
     pub file_is : snippet_plan.file.now ≡ f
-    pub locus_is : IsTextLocus (file f.file_id, locus_byte f.least_starts)
+    pub locus_is : IsUtf8Locus (file f.file_id, locus_byte f.least_starts)
         (locus_view snippet_plan.locus)
-    pub count_is : snippet_plan.line_total ≡ length own_lines
-    pub are : map snippet_line_view own_lines ≡ lines_at es k
+    pub count_is : snippet_plan.snippet_line_count ≡ length own_lines
+    pub are : map snippet_line_view own_lines ≡ lines_at annotations k
     pub each : AllByRecursion (IsSnippetLineIn layout (file f.file_id)) own_lines
 
   -- the plans are those of the files from an index on, and these are all their lines, those of the
@@ -55,8 +58,9 @@ module _ {Id : Type 0} (layout : Layout) (file : Id → FileModel) (es : List An
   ArePlansOfAnnotations k [] (snippet_plan ∷ snippet_plans) snippet_lines = ⊥
   ArePlansOfAnnotations k (f ∷ fs) [] snippet_lines = ⊥
   ArePlansOfAnnotations k (f ∷ fs) (snippet_plan ∷ snippet_plans) snippet_lines =
-      IsPlanOfAnnotations k f snippet_plan (take snippet_plan.line_total snippet_lines)
-      × ArePlansOfAnnotations (k + 1) fs snippet_plans (drop snippet_plan.line_total snippet_lines)
+      IsPlanOfAnnotations k f snippet_plan (take snippet_plan.snippet_line_count snippet_lines)
+      × ArePlansOfAnnotations (k + 1) fs snippet_plans
+      (drop snippet_plan.snippet_line_count snippet_lines)
 
 -- the plans are those of the files that were collected, with all their lines
 abbrev pub ArePlansOfCollected : {Id : Type 0} → Layout → (Id → FileModel) → Collected Id
@@ -69,9 +73,9 @@ ArePlansOfCollected layout file collected snippet_plans snippet_lines =
 -- all files
 abbrev pub collected_plan_lookups : {Id : Type 0} → Layout → Collected Id → List (Id × Lookup)
 collected_plan_lookups layout collected =
-    number_lookups layout (map annotation_view collected.annotations.items)
+    number_lookups_of_annotations layout (map annotation_view collected.annotations.items)
     (ids_view collected.files.items)
-    ++ loci_lookups collected.files.items
+    ++ locus_lookups_of_files collected.files.items
 
 -- what these lookups fail with
 abbrev pub collected_plan_failure : {Id : Type 0} → Layout → Failures Id → Collected Id

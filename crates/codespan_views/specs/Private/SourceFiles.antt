@@ -1,4 +1,4 @@
--- A file of an output, as a view has it.
+-- A file of an output, as the code has it.
 use Rattle.std.specs.Prelude.{◌≡◌, ◌≤◌, ℕ, true, nat_lt, ◌&&◌, List, Option, None, if◌then◌else◌, [], ◌∷◌, Some}
 use Rattle.codespan_picture.specs.Types.{Error}
 use Rattle.codespan_core.specs.FileModel.{FileDatabase, FileModel, line_count, Lookup, or_failure}

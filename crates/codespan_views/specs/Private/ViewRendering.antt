@@ -23,8 +23,8 @@ use Rattle.codespan_core.specs.FileModel.{FileDatabase}
 
 module _ {Id : Type 0} (d : Diagnostic Id) where
   -- the header, with this locus, if any, and with the end of its row
-  abbrev pub header_line : Option Locus → Stream
-  header_line locus = header_row d.severity locus (header_text_of d) ++ newline
+  abbrev pub header_row_with_newline : Option Locus → Stream
+  header_row_with_newline locus = header_row d.severity locus (header_text_of d) ++ newline
 
   -- the last rows of a rich output: the notes, and the final row
   abbrev pub closing_rows : List Row

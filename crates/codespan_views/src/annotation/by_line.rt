@@ -85,8 +85,8 @@ fn chain_buckets<FileId>(
     ensures failed { OnErr result (IsErrOf result Error.OutOfMemory) }
 {
     let len = annotations.len();
-    let line_total = lines.end.saturating_sub(lines.start);
-    let mut first = vec![in alloc; len; line_total.saturating_mul(RANK_COUNT)]?;
+    let line_count = lines.end.saturating_sub(lines.start);
+    let mut first = vec![in alloc; len; line_count.saturating_mul(RANK_COUNT)]?;
     let mut next = vec![in alloc; len; len]?;
     for index in (0..len).rev() {
         let bucket = bucket_of(&annotations[index], lines.start);
@@ -120,15 +120,15 @@ fn follow_chains<'d, FileId>(
 {
     let mut moved = Vec::with_capacity(alloc, annotations.len())?;
     for start in first {
-        let mut source = *start;
-        while source < annotations.len() {
-            let following = next[source];
+        let mut index = *start;
+        while index < annotations.len() {
+            let following = next[index];
             if following == MOVED {
                 break;
             }
-            moved.push_reserved(annotations[source]);
-            next[source] = MOVED;
-            source = following;
+            moved.push_reserved(annotations[index]);
+            next[index] = MOVED;
+            index = following;
         }
     }
     Ok(moved)

@@ -19,7 +19,8 @@ pub fn shows_line<FileId>(annotation: &Annotation<'_, FileId>) -> bool
 /// Returns how many annotations at the start are of the line at this 0-based index.
 pub fn count_on_line<FileId>(annotations: &[Annotation<'_, FileId>], line_index: usize) -> usize
     ensures value { result
-        ≡ prefix_len (λ e. is_on_line line_index (annotation_view e)) annotations.now }
+        ≡ prefix_len (λ annotation. is_on_line line_index (annotation_view annotation))
+        annotations.now }
     ensures within { result ≤ length annotations.now }
 {
     annotations
@@ -38,7 +39,8 @@ pub fn count_in_file<FileId>(annotations: &[Annotation<'_, FileId>], file_index:
     requires { IsSortedWithin (λ x y. is_before (annotation_view x) (annotation_view y))
         annotations.now 0 (length annotations.now) }
     ensures value { result
-        ≡ prefix_len (λ e. is_of_file file_index (annotation_view e)) annotations.now }
+        ≡ prefix_len (λ annotation. is_of_file file_index (annotation_view annotation))
+        annotations.now }
     ensures within { result ≤ length annotations.now }
 {
     let len = annotations.len();

@@ -25,8 +25,8 @@ fn compare<FileId>(left: &Annotation<'_, FileId>, right: &Annotation<'_, FileId>
     }
 }
 
-/// Compares two annotations of one line: first those that make it shown, then single-line labels by
-/// their drawn ranges, of equal ones the greater index first, then lane marks by their lanes.
+/// Compares two annotations of one line: first `Shown`, then single-line labels by their drawn
+/// ranges, of equal ones the greater index first, then lane marks by their lanes.
 fn compare_kinds<FileId>(left: &Annotation<'_, FileId>, right: &Annotation<'_, FileId>) -> Ordering
     ensures { result ≡ kind_cmp (annotation_view left.now).kind (annotation_view right.now).kind }
 {

@@ -16,13 +16,13 @@ use codespan_core::term::Layout;
 
 /// A line of a snippet.
 #[derive(Drop)]
-pub enum SnippetLine<'e, 'd, FileId> {
+pub enum SnippetLine<'collected, 'd, FileId> {
     /// A shown line.
     Labeled {
         /// The line.
         line: LineInfo,
         /// Its annotations, in order.
-        annotations: &'e [Annotation<'d, FileId>],
+        annotations: &'collected [Annotation<'d, FileId>],
     },
     /// The one line between two shown ones. No single-line label is on it.
     Filled {
@@ -31,12 +31,12 @@ pub enum SnippetLine<'e, 'd, FileId> {
         /// The line's number, where it is known before the header.
         number: Option<usize>,
         /// Its annotations, in order: lane marks alone.
-        annotations: &'e [Annotation<'d, FileId>],
+        annotations: &'collected [Annotation<'d, FileId>],
     },
     /// A break: two lines or more are left out.
     Break {
         /// The annotations of the shown line after it, in order.
-        next_annotations: &'e [Annotation<'d, FileId>],
+        next_annotations: &'collected [Annotation<'d, FileId>],
     },
 }
 
@@ -106,12 +106,12 @@ impl<'files, F: Files<'files>> LinePlanner<'files, F> {
     ///
     /// - `OutOfMemory`: an allocation fails, or the lookup fails with it.
     /// - Any other error: that of the lookup.
-    fn push_gap<'e, 'd>(
+    fn push_gap<'collected, 'd>(
         &self,
         gap: Gap,
-        hidden_annotations: &'e [Annotation<'d, F::FileId>],
-        next_annotations: &'e [Annotation<'d, F::FileId>],
-        snippet_lines: &mut Vec<SnippetLine<'e, 'd, F::FileId>>,
+        hidden_annotations: &'collected [Annotation<'d, F::FileId>],
+        next_annotations: &'collected [Annotation<'d, F::FileId>],
+        snippet_lines: &mut Vec<SnippetLine<'collected, 'd, F::FileId>>,
     ) -> Result<(), Error>
         ensures added { OnOk result
             (AppendsPlannedLines F.database self.now snippet_lines.old.items
@@ -149,13 +149,13 @@ impl<'files, F: Files<'files>> LinePlanner<'files, F> {
     /// # Requires
     ///
     /// The line is one of the file's.
-    fn push_shown<'e, 'd>(
+    fn push_shown<'collected, 'd>(
         &self,
         previous: Option<usize>,
-        hidden_annotations: &'e [Annotation<'d, F::FileId>],
+        hidden_annotations: &'collected [Annotation<'d, F::FileId>],
         line: LineInfo,
-        annotations: &'e [Annotation<'d, F::FileId>],
-        snippet_lines: &mut Vec<SnippetLine<'e, 'd, F::FileId>>,
+        annotations: &'collected [Annotation<'d, F::FileId>],
+        snippet_lines: &mut Vec<SnippetLine<'collected, 'd, F::FileId>>,
     ) -> Result<(), Error>
         requires line { IsLineOf (model_of F.database self.now.file) line }
         ensures added { OnOk result
@@ -190,13 +190,13 @@ impl<'files, F: Files<'files>> LinePlanner<'files, F> {
     /// # Requires
     ///
     /// The lines of the annotations are lines of the file.
-    pub fn push_lines<'e, 'd>(
+    pub fn push_lines<'collected, 'd>(
         &self,
-        annotations: &'e [Annotation<'d, F::FileId>],
-        snippet_lines: &mut Vec<SnippetLine<'e, 'd, F::FileId>>,
+        annotations: &'collected [Annotation<'d, F::FileId>],
+        snippet_lines: &mut Vec<SnippetLine<'collected, 'd, F::FileId>>,
     ) -> Result<(), Error>
-        requires lines { All (λ e. IsLineOf (model_of F.database self.now.file)
-            e.line) annotations.now }
+        requires lines { All (λ annotation. IsLineOf (model_of F.database self.now.file)
+            annotation.line) annotations.now }
         ensures added { OnOk result
             (AppendsPlannedLines F.database self.now snippet_lines.old.items
             snippet_lines.new.items (lines_of (map annotation_view annotations.now))) }

@@ -10,11 +10,11 @@ ghost use Rattle.codespan_views.specs.Private.FileLookups.{FailsByOrFormatError,
 ghost use Rattle.codespan_views.specs.Private.Annotations.{is_before};
 ghost use Rattle.codespan_views.specs.Private.AnnotationViews.{IsLineOf, IsOfFiles, annotation_view};
 ghost use Rattle.codespan_views.specs.Private.LabeledFiles.{ids_view};
-ghost use Rattle.codespan_views.specs.Private.Loci.{locus_failure, locus_start_of};
+ghost use Rattle.codespan_views.specs.Private.Loci.{locus_failure, locus_byte_of_file};
 ghost use Rattle.codespan_views.specs.Private.SnippetPlans.{ArePlansOfCollected, collected_plan_failure};
 ghost use Rattle.codespan_views.specs.Private.SnippetLines.{filled_lines_of, lines_of};
 ghost use Rattle.codespan_views.specs.Private.SnippetLineViews.{AppendsSnippetLines, numbers_looked_up};
-ghost use Rattle.codespan_views.specs.Private.TextLoci.{IsTextLocus};
+ghost use Rattle.codespan_views.specs.Private.Utf8Loci.{IsUtf8Locus};
 
 use crate::annotation::Annotation;
 use crate::annotation::groups::count_in_file;
@@ -29,13 +29,13 @@ use std::alloc::Global;
 
 /// The plan of a file's snippet.
 #[derive(Drop)]
-pub struct SnippetPlan<'e, FileId> {
+pub struct SnippetPlan<'collected, FileId> {
     /// The file.
-    pub file: &'e LabeledFile<FileId>,
+    pub file: &'collected LabeledFile<FileId>,
     /// The locus that the snippet begins with.
     pub locus: Locus,
     /// The number of the snippet's lines.
-    pub line_total: usize,
+    pub snippet_line_count: usize,
 }
 
 /// Appends the lines of the snippet of a file, which has these annotations, and returns how many
@@ -49,14 +49,15 @@ pub struct SnippetPlan<'e, FileId> {
 ///
 /// The lines of the annotations are lines of the file.
 #[inline(always)]
-fn push_snippet<'files, 'e, 'd, F: Files<'files>>(
+fn push_snippet<'files, 'collected, 'd, F: Files<'files>>(
     files: &'files F,
     id: F::FileId,
     layout: Layout,
-    annotations: &'e [Annotation<'d, F::FileId>],
-    snippet_lines: &mut Vec<SnippetLine<'e, 'd, F::FileId>>,
+    annotations: &'collected [Annotation<'d, F::FileId>],
+    snippet_lines: &mut Vec<SnippetLine<'collected, 'd, F::FileId>>,
 ) -> Result<usize, Error>
-    requires { All (λ e. IsLineOf ((F.database files.now).file id) e.line) annotations.now }
+    requires { All (λ annotation. IsLineOf ((F.database files.now).file id) annotation.line)
+        annotations.now }
     ensures added { OnOk result (AppendsSnippetLines layout ((F.database files.now).file id)
         snippet_lines.old.items snippet_lines.new.items
         (lines_of (map annotation_view annotations.now))) }
@@ -75,35 +76,36 @@ fn push_snippet<'files, 'e, 'd, F: Files<'files>>(
     Ok(snippet_lines.len() - before)
 }
 
-/// Returns the plan of a file's snippet of `line_total` lines: looks up the name of the file, and
-/// the location of its locus.
+/// Returns the plan of a file's snippet of `snippet_line_count` lines: looks up the name of the
+/// file, and the location of its locus.
 ///
 /// # Errors
 ///
 /// As [`SourceFile::locus`].
 #[inline(always)]
-fn locate_snippet<'files, 'e, F: Files<'files>>(
+fn locate_snippet<'files, 'collected, F: Files<'files>>(
     alloc: Global,
     files: &'files F,
-    file: &'e LabeledFile<F::FileId>,
-    line_total: usize,
-) -> Result<SnippetPlan<'e, F::FileId>, Error>
+    file: &'collected LabeledFile<F::FileId>,
+    snippet_line_count: usize,
+) -> Result<SnippetPlan<'collected, F::FileId>, Error>
     ensures file { IfOk result (λ snippet_plan. snippet_plan.file.now ≡ file.now) }
-    ensures locus { IfOk result (λ snippet_plan. IsTextLocus
-        (locus_start_of (F.database files.now).file file.now) (locus_view snippet_plan.locus)) }
-    ensures line_total { IfOk result (λ snippet_plan. snippet_plan.line_total ≡ line_total) }
+    ensures locus { IfOk result (λ snippet_plan. IsUtf8Locus
+        (locus_byte_of_file (F.database files.now).file file.now) (locus_view snippet_plan.locus)) }
+    ensures snippet_line_count { IfOk result (λ snippet_plan.
+        snippet_plan.snippet_line_count ≡ snippet_line_count) }
     ensures failed { FailsByOrFormatError (locus_failure (F.database files.now).failure file.now)
         result }
 {
-    let source = SourceFile {
+    let source_file = SourceFile {
         files,
         file_id: file.file_id,
     };
-    let locus = source.locus(alloc, file.least_starts.byte())?;
+    let locus = source_file.locus(alloc, file.least_starts.locus_byte())?;
     Ok(SnippetPlan {
         file,
         locus,
-        line_total,
+        snippet_line_count,
     })
 }
 
@@ -132,13 +134,13 @@ fn first_error_of(located: Result<(), Error>, error: Error) -> Result<(), Error>
 ///
 /// `snippet_lines` is empty, the annotations are in order, and their lines are lines of their
 /// files.
-pub fn plan_snippets<'files, 'e, 'd, F: Files<'files>>(
+pub fn plan_snippets<'files, 'collected, 'd, F: Files<'files>>(
     alloc: Global,
     files: &'files F,
     layout: Layout,
-    collected: &'e Collected<'d, F::FileId>,
-    snippet_lines: &mut Vec<SnippetLine<'e, 'd, F::FileId>>,
-) -> Result<Vec<SnippetPlan<'e, F::FileId>>, Error>
+    collected: &'collected Collected<'d, F::FileId>,
+    snippet_lines: &mut Vec<SnippetLine<'collected, 'd, F::FileId>>,
+) -> Result<Vec<SnippetPlan<'collected, F::FileId>>, Error>
     requires empty { snippet_lines.now.items ≡ [] }
     requires sorted { IsSortedBy is_before (map annotation_view collected.now.annotations.items) }
     requires lines { AllByRecursion (IsOfFiles (F.database files.now).file
@@ -155,9 +157,9 @@ pub fn plan_snippets<'files, 'e, 'd, F: Files<'files>>(
     for (index, file) in collected.files.iter().enumerate() {
         let len = count_in_file(&collected.annotations[start..], index);
         let own_annotations = &collected.annotations[start..start + len];
-        let line_total = push_snippet(files, file.file_id, layout, own_annotations, snippet_lines)?;
+        let line_count = push_snippet(files, file.file_id, layout, own_annotations, snippet_lines)?;
         start += len;
-        match locate_snippet(alloc, files, file, line_total) {
+        match locate_snippet(alloc, files, file, line_count) {
             Ok(snippet_plan) => snippet_plans.push(snippet_plan)?,
             Err(error) => located = first_error_of(located, error),
         }

@@ -10,7 +10,7 @@ ghost use Rattle.codespan_views.specs.Private.SnippetLines.{lane_marks_in, singl
 use crate::annotation::{Annotation, AnnotationKind, drawn_range, multi_label};
 use codespan_core::diagnostic::{Label, LabelStyle};
 use codespan_core::files::Error;
-use codespan_renderer::term::renderer::cached::LineMetrics;
+use codespan_renderer::term::renderer::cached::LineCache;
 use codespan_renderer::term::renderer::{MultiLabel, SingleLabel};
 use std::alloc::Global;
 
@@ -24,7 +24,7 @@ pub struct LineBuffers<'d> {
     /// The lane marks: of each multi-line label its lane, its style and what it does on the line.
     pub lane_marks: Vec<(usize, LabelStyle, MultiLabel<'d>)>,
     /// The characters of the line and the pointers under them, as far as its rows reach.
-    pub metrics: LineMetrics,
+    pub line_cache: LineCache,
 }
 
 impl<'d> LineBuffers<'d> {
@@ -36,7 +36,7 @@ impl<'d> LineBuffers<'d> {
         LineBuffers {
             single_labels: Vec::new(alloc),
             lane_marks: Vec::new(alloc),
-            metrics: LineMetrics::new(alloc),
+            line_cache: LineCache::new(alloc),
         }
     }
 

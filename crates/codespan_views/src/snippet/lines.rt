@@ -35,7 +35,7 @@ pub struct Snippet<'context, 'files, F: Files<'files>> {
     /// The file.
     pub file: SourceFile<'files, F>,
     /// The source of the file.
-    pub text: &'context str,
+    pub source: &'context str,
     /// The number of its lanes: one for each multi-line label.
     pub num_multi_labels: usize,
 }
@@ -54,9 +54,9 @@ impl<'context, 'files, F: Files<'files>> Snippet<'context, 'files, F> {
     ///
     /// # Requires
     ///
-    /// The text is that of the file. The lines are of the file, the single-line labels of each are
-    /// in the order of their starts, and its lane marks ascend strictly by lane, within the file's
-    /// lanes.
+    /// The source is that of the file. The lines are of the file, the single-line labels of each
+    /// are in the order of their starts, and its lane marks ascend strictly by lane, within the
+    /// file's lanes.
     pub fn render_lines<'d, W: WriteStyle>(
         &self,
         renderer: &mut Renderer<'_, '_, W>,
@@ -126,9 +126,9 @@ impl<'context, 'files, F: Files<'files>> Snippet<'context, 'files, F> {
     ///
     /// # Requires
     ///
-    /// The text is that of the file, and the line is one of the file's. Its single-line labels are
-    /// in the order of their starts, and its lane marks ascend strictly by lane, within the file's
-    /// lanes.
+    /// The source is that of the file, and the line is one of the file's. Its single-line labels
+    /// are in the order of their starts, and its lane marks ascend strictly by lane, within the
+    /// file's lanes.
     #[inline(always)]
     fn render_line<'d, W: WriteStyle>(
         &self,
@@ -137,7 +137,7 @@ impl<'context, 'files, F: Files<'files>> Snippet<'context, 'files, F> {
         line: LineInfo,
         annotations: &[Annotation<'d, F::FileId>],
     ) -> Result<(), Error>
-        requires text { self.now.text.now
+        requires source { self.now.source.now
             ≡ (model_of F.database self.now.file).text }
         requires line { IsLineOf (model_of F.database self.now.file) line }
         requires in_order { IsTrue
@@ -148,13 +148,13 @@ impl<'context, 'files, F: Files<'files>> Snippet<'context, 'files, F> {
             renderer.new }
     {
         buffers.refill(annotations)?;
-        let source = &self.text[line.start..line.end];
+        let source = &self.source[line.start..line.end];
         let lanes = Lanes {
             count: self.num_multi_labels,
             lane_marks: buffers.lane_marks.as_slice(),
         };
         let line = Line::new(line.number, source, buffers.single_labels.as_slice(), lanes);
-        let cached = buffers.metrics.cache_line(renderer, line)?;
+        let cached = buffers.line_cache.cache_line(renderer, line)?;
         cached.render(renderer, self.context.padding, self.context.severity)
     }
 

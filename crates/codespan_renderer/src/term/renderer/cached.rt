@@ -9,9 +9,9 @@
 mod cached_line;
 mod cached_metrics;
 mod label_cursor;
-mod line_metrics;
+mod line_cache;
 mod pointers;
 mod reach;
 
 pub use cached_line::CachedLine;
-pub use line_metrics::LineMetrics;
+pub use line_cache::LineCache;

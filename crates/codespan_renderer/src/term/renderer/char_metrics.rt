@@ -23,21 +23,21 @@ pub struct CharMetrics<'text> {
     ghost left: { chars_rest chars ≡ drop byte_index text.now },
     ghost utf8: { ∥ IsUtf8 (chars_rest chars) ∥₁ },
     ghost within: { byte_index ≤ length text.now },
-    ghost narrow: { column ≤ byte_index * 2 ^ 64 },
+    ghost column_bound: { column ≤ byte_index * 2 ^ 64 },
 }
 
 impl<'text> CharMetrics<'text> {
     ghost use Rattle.std.specs.Prelude.{true};
     ghost use Rattle.codespan_picture.specs.CharMetrics.{char_metrics, char_metrics_to_end, metrics_then, width_of};
     ghost use Rattle.codespan_picture.specs.RowParts.{metrics_up_to};
-    ghost use Rattle.codespan_renderer.specs.Private.MetricsLeft.{MetricsAfterEnd, YieldsCharacter, metrics_from, metrics_left, no_more};
+    ghost use Rattle.codespan_renderer.specs.Private.RemainingMetrics.{MetricsAfterEnd, YieldsCharacter, metrics_from, remaining_metrics, no_more};
     ghost use Rattle.std.specs.Str.{chars};
 
     /// Returns an iterator over the characters of the line alone.
     pub fn new(text: &'text str, tab_width: usize) -> CharMetrics<'text>
         ensures whole { (after : MetricsAfterEnd) → metrics_from after result
             ≡ metrics_then after tab_width 0 0 (chars text.now) }
-        ensures char_metrics { metrics_left result ≡ char_metrics tab_width text.now }
+        ensures char_metrics { remaining_metrics result ≡ char_metrics tab_width text.now }
         ensures text { result.text.now ≡ text.now }
         ensures byte_index { result.byte_index ≡ 0 }
         ensures utf8 { ∥ IsUtf8 text.now ∥₁ }
@@ -54,7 +54,7 @@ impl<'text> CharMetrics<'text> {
 
     /// Returns an iterator over the characters of the line and the placeholder after the last one.
     pub fn with_placeholder(text: &'text str, tab_width: usize) -> CharMetrics<'text>
-        ensures char_metrics { metrics_left result ≡ char_metrics_to_end tab_width text.now }
+        ensures char_metrics { remaining_metrics result ≡ char_metrics_to_end tab_width text.now }
         ensures utf8 { ∥ IsUtf8 text.now ∥₁ }
     {
         CharMetrics {
@@ -150,13 +150,13 @@ fn width_at(tab_width: usize, column: u128, c: char) -> usize
 
 impl<'text> Iterator for CharMetrics<'text> {
     ghost use Rattle.std.specs.Iterator.{YieldsFirst, item_count};
-    ghost use Rattle.codespan_renderer.specs.Private.MetricsLeft.{metrics_left};
+    ghost use Rattle.codespan_renderer.specs.Private.RemainingMetrics.{remaining_metrics};
 
     type Item = Metrics;
 
-    ghost next_gives = { YieldsFirst metrics_left };
+    ghost next_gives = { YieldsFirst remaining_metrics };
 
-    ghost remaining = { item_count metrics_left };
+    ghost remaining = { item_count remaining_metrics };
 
     #[inline(always)]
     fn next(&mut self) -> Option<Metrics> {

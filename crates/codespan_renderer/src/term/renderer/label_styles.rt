@@ -33,7 +33,8 @@ pub fn prefer_primary(found: Option<LabelStyle>, style: LabelStyle) -> Option<La
     }
 }
 
-/// Returns the style of the labels over a character: a primary one takes precedence.
+/// Returns the style of the carets under a character: that of the labels that cover it; a primary
+/// one takes precedence.
 pub fn style_under(labels: &[SingleLabel<'_>], metrics: Metrics) -> Option<LabelStyle>
     ensures { result ≡ style_under (single_label_views labels.now) metrics }
 {

@@ -29,9 +29,9 @@ pub struct ScanCursor<'row, 'd> {
 }
 
 impl<'row, 'd> CharCursor for ScanCursor<'row, 'd> {
-    ghost use Rattle.codespan_renderer.specs.Private.MetricsLeft.{metrics_left};
+    ghost use Rattle.codespan_renderer.specs.Private.RemainingMetrics.{remaining_metrics};
 
-    ghost left = { λ s. metrics_left s.char_metrics };
+    ghost left = { λ s. remaining_metrics s.char_metrics };
 
     ghost labels = { λ s. s.labels.now };
 

@@ -10,7 +10,7 @@ use Rattle.codespan_views.proofs.snippet.render_snippet.Goals as goal
 
 pub render_lines-requires : goal.render_lines-requires
 render_lines-requires g c κs =
-    ((refl, (refl, tt)), record { text = search rules; are = c.requires })
+    ((refl, (refl, tt)), record { source = search rules; are = c.requires })
 
 pub returns-in_err-source : goal.returns-in_err-source
 returns-in_err-source g c =

@@ -6,15 +6,15 @@ ghost use Rattle.std.specs.Str.{chars};
 ghost use Rattle.codespan_picture.specs.CharMetrics.{char_metrics, metrics_then, width_of};
 ghost use Rattle.codespan_picture.specs.Arguments.{lane_mark_view, single_label_views, starts_in_order};
 ghost use Rattle.codespan_picture.specs.Rows.{hanging_labels};
-ghost use Rattle.codespan_renderer.specs.Private.MetricsLeft.{after_last};
+ghost use Rattle.codespan_renderer.specs.Private.RemainingMetrics.{after_last};
 ghost use Rattle.codespan_renderer.specs.Private.CursorStates.{IsBefore, HasReturned};
-ghost use Rattle.codespan_renderer.specs.Private.CachedMetrics.{AreCached, ReachesPast, cached_left, reach_of};
+ghost use Rattle.codespan_renderer.specs.Private.CachedMetrics.{AreCached, ReachesPast, remaining_from_cache, reach_of};
 ghost use Rattle.codespan_picture.specs.Private.LineCharacters.{EndBy};
 ghost use Rattle.codespan_renderer.specs.Private.PointerLists.{pointers_in};
 ghost use Rattle.codespan_picture.specs.Private.Runs.{least_start};
 
 use crate::term::renderer::Renderer;
-use crate::term::renderer::cached::cached_metrics::CachedMetrics;
+use crate::term::renderer::cached::cached_metrics::MetricsFromCache;
 use crate::term::renderer::cached::label_cursor::LabelCursor;
 use crate::term::renderer::cached::pointers::{Pointer, write_pointers};
 use crate::term::renderer::char_metrics::{CharMetrics, Metrics};
@@ -34,17 +34,18 @@ use codespan_picture::rows::pointers::max_label_start;
 /// starts, each of them once.
 #[derive(Drop)]
 pub struct CachedCursor<'cache, 'row, 'd> {
-    characters: CachedMetrics<'cache, 'row>,
+    characters: MetricsFromCache<'cache, 'row>,
     label_cursor: LabelCursor<'row, 'd>,
-    ghost state: { ∥ IsBefore label_cursor (cached_left characters) ∥₁ },
+    ghost state: { ∥ IsBefore label_cursor (remaining_from_cache characters) ∥₁ },
 }
 
 impl<'cache, 'row, 'd> CharCursor for CachedCursor<'cache, 'row, 'd> {
-    ghost left = { λ s. cached_left s.characters };
+    ghost left = { λ s. remaining_from_cache s.characters };
 
     ghost labels = { λ s. s.label_cursor.labels.now };
 
-    ghost has_returned = { λ c s. ∥ HasReturned c s.label_cursor (cached_left s.characters) ∥₁ };
+    ghost has_returned = { λ c s.
+        ∥ HasReturned c s.label_cursor (remaining_from_cache s.characters) ∥₁ };
 
     #[inline(always)]
     fn next_metrics(&mut self) -> Option<Metrics> {
@@ -75,8 +76,8 @@ pub struct CachedLine<'cache, 'row, 'd> {
     pub rest: CharMetrics<'row>,
     /// The pointers under its characters.
     pub pointers: &'cache [Pointer],
-    ghost metrics_are: { AreCached tab_width line.text.now cached.now rest },
-    ghost enough: { ReachesPast (reach_of (single_label_views line.labels.now)
+    ghost are_cached: { AreCached tab_width line.text.now cached.now rest },
+    ghost reaches_past: { ReachesPast (reach_of (single_label_views line.labels.now)
         (map lane_mark_view line.lanes.lane_marks.now)) rest },
     ghost ordered: { IsTrue (starts_in_order (single_label_views line.labels.now)) },
     ghost found: { pointers.now ≡ pointers_in (hanging_labels (single_label_views line.labels.now))
@@ -149,13 +150,13 @@ impl<'cache, 'row, 'd> CachedLine<'cache, 'row, 'd> {
     #[inline(always)]
     fn cursor(&self, skipped: usize, has_placeholder: bool) -> CachedCursor<'cache, 'row, 'd>
         requires { skipped ≤ length self.now.cached.now }
-        ensures left { take skipped self.now.cached.now ++ cached_left result.characters
+        ensures left { take skipped self.now.cached.now ++ remaining_from_cache result.characters
             ≡ metrics_then (after_last has_placeholder) self.now.tab_width 0 0
             (chars self.now.line.text.now) }
         ensures labels { result.label_cursor.labels.now ≡ self.now.line.labels.now }
     {
         CachedCursor {
-            characters: CachedMetrics {
+            characters: MetricsFromCache {
                 cached: &self.cached[skipped..],
                 rest: self.rest.fork(has_placeholder),
             },

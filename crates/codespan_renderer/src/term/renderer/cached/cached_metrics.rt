@@ -5,22 +5,22 @@ use crate::term::renderer::char_metrics::{CharMetrics, Metrics};
 /// The characters of a line, from left to right: those that are cached, and then those that an
 /// iterator goes on with.
 #[derive(Drop)]
-pub struct CachedMetrics<'cache, 'text> {
+pub struct MetricsFromCache<'cache, 'text> {
     /// The cached ones that are left.
     pub cached: &'cache [Metrics],
     /// The iterator over those after them.
     pub rest: CharMetrics<'text>,
 }
 
-impl<'cache, 'text> Iterator for CachedMetrics<'cache, 'text> {
+impl<'cache, 'text> Iterator for MetricsFromCache<'cache, 'text> {
     ghost use Rattle.std.specs.Iterator.{YieldsFirst, item_count};
-    ghost use Rattle.codespan_renderer.specs.Private.CachedMetrics.{cached_left};
+    ghost use Rattle.codespan_renderer.specs.Private.CachedMetrics.{remaining_from_cache};
 
     type Item = Metrics;
 
-    ghost next_gives = { YieldsFirst cached_left };
+    ghost next_gives = { YieldsFirst remaining_from_cache };
 
-    ghost remaining = { item_count cached_left };
+    ghost remaining = { item_count remaining_from_cache };
 
     #[inline(always)]
     fn next(&mut self) -> Option<Metrics> {

@@ -70,8 +70,8 @@ impl<'row, 'd> LabelCursor<'row, 'd> {
         }
     }
 
-    /// Passes the labels that start before the character's end, and returns the style of those over
-    /// it: a primary one takes precedence.
+    /// Passes the labels that start before the character's end, and returns the style of the carets
+    /// under it: that of the labels that cover it; a primary one takes precedence.
     ///
     /// # Requires
     ///

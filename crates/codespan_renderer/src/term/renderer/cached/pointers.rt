@@ -5,12 +5,12 @@ ghost use Rattle.codespan_core.specs.WriterLaw.{Writes};
 ghost use Rattle.codespan_picture.specs.CharMetrics.{char_metrics};
 ghost use Rattle.codespan_picture.specs.Arguments.{single_label_views, starts_in_order};
 ghost use Rattle.codespan_picture.specs.Private.LineViews.{context_view};
-ghost use Rattle.codespan_renderer.specs.Private.CachedMetrics.{cached_left};
+ghost use Rattle.codespan_renderer.specs.Private.CachedMetrics.{remaining_from_cache};
 ghost use Rattle.codespan_renderer.specs.Private.PointerLists.{pointer_under, pointers_in, pointers_before, spaced};
 ghost use Rattle.codespan_picture.specs.Rows.{hanging_labels};
 ghost use Rattle.codespan_picture.specs.Private.Runs.{AreHanging};
 
-use crate::term::renderer::cached::cached_metrics::CachedMetrics;
+use crate::term::renderer::cached::cached_metrics::MetricsFromCache;
 use crate::term::renderer::cached::label_cursor::StartCursor;
 use crate::term::renderer::char_metrics::Metrics;
 use codespan_core::diagnostic::LabelStyle;
@@ -81,12 +81,12 @@ pub fn find_pointers(
     tab_width: usize,
     line: Line<'_, '_>,
     messages: Messages<'_, '_>,
-    characters: CachedMetrics<'_, '_>,
+    characters: MetricsFromCache<'_, '_>,
 ) -> Result<(), Error>
     requires hanging_labels { AreHanging line.labels.now messages.before.now messages.after.now }
     requires before_trailing { IsTrue (starts_in_order (single_label_views messages.before.now)) }
     requires after_trailing { IsTrue (starts_in_order (single_label_views messages.after.now)) }
-    requires characters { cached_left characters ≡ char_metrics tab_width line.text.now }
+    requires characters { remaining_from_cache characters ≡ char_metrics tab_width line.text.now }
     ensures found { IfOk result (λ _. pointers.new.items
         ≡ pointers_in (hanging_labels (single_label_views line.entry.labels.now))
         (char_metrics tab_width line.entry.text.now)) }

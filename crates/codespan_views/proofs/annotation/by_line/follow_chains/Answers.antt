@@ -20,38 +20,38 @@ pub push_reserved-requires : goal.push_reserved-requires
 push_reserved-requires g c =
     omega (
       arith,
-      c.loop-source.moved.ok.0,
-      c.loop-source.invariant.room,
-      room c.args.next.now c.loop-source.next c.args.annotations.now c.loop-source.moved.items
-          c.loop-source.source c.index-annotations-source.result c.loop-source.invariant.moved
-          (c.loop-source.auto.next ∙ c.loop-start.auto.next ∙ c.requires) c.loop-source-test.true
-          (ne_eqb _ MOVED c.if-following.false) c.index-annotations-source.is,
+      c.loop-index.moved.ok.0,
+      c.loop-index.invariant.room,
+      room c.args.next.now c.loop-index.next c.args.annotations.now c.loop-index.moved.items
+          c.loop-index.index c.index-annotations-index.result c.loop-index.invariant.moved
+          (c.loop-index.auto.next ∙ c.loop-start.auto.next ∙ c.requires) c.loop-index-test.true
+          (ne_eqb _ MOVED c.if-following.false) c.index-annotations-index.is,
     )
 
-pub loop-source-smaller : goal.loop-source-smaller
-loop-source-smaller g c =
-    let below = room c.args.next.now c.loop-source.next c.args.annotations.now
-    c.loop-source.moved.items c.loop-source.source c.index-annotations-source.result
-    c.loop-source.invariant.moved (c.loop-source.auto.next ∙ c.loop-start.auto.next
-    ∙ c.requires) c.loop-source-test.true (ne_eqb _ MOVED c.if-following.false)
-    c.index-annotations-source.is in
-    let more : length c.push_reserved.new.self.items ≡ length c.loop-source.moved.items + 1 =
-    ap length c.push_reserved.ensures.items ∙ length-append c.loop-source.moved.items _ in
+pub loop-index-smaller : goal.loop-index-smaller
+loop-index-smaller g c =
+    let below = room c.args.next.now c.loop-index.next c.args.annotations.now
+    c.loop-index.moved.items c.loop-index.index c.index-annotations-index.result
+    c.loop-index.invariant.moved (c.loop-index.auto.next ∙ c.loop-start.auto.next
+    ∙ c.requires) c.loop-index-test.true (ne_eqb _ MOVED c.if-following.false)
+    c.index-annotations-index.is in
+    let more : length c.push_reserved.new.self.items ≡ length c.loop-index.moved.items + 1 =
+    ap length c.push_reserved.ensures.items ∙ length-append c.loop-index.moved.items _ in
     omega (arith, below, more)
 
-pub loop-source-preserved : goal.loop-source-preserved
-loop-source-preserved g c = record {
+pub loop-index-preserved : goal.loop-index-preserved
+loop-index-preserved g c = record {
   moved =
       subst
-      (λ ys. AreKept is_moved c.args.next.now (set c.loop-source.next c.loop-source.source MOVED)
+      (λ ys. AreKept is_moved c.args.next.now (set c.loop-index.next c.loop-index.index MOVED)
       c.args.annotations.now ys)
       (sym c.push_reserved.ensures.items)
-      (AreKept-more is_moved c.args.next.now c.loop-source.next c.args.annotations.now
-      c.loop-source.moved.items c.loop-source.source MOVED c.index-annotations-source.result
-      c.loop-source.invariant.moved (c.loop-source.auto.next ∙ c.loop-start.auto.next
-      ∙ c.requires) c.loop-source-test.true (ne_eqb _ MOVED c.if-following.false) refl
-      c.index-annotations-source.is);
-  room = omega (arith, c.push_reserved.ensures.capacity, c.loop-source.invariant.room);
+      (AreKept-more is_moved c.args.next.now c.loop-index.next c.args.annotations.now
+      c.loop-index.moved.items c.loop-index.index MOVED c.index-annotations-index.result
+      c.loop-index.invariant.moved (c.loop-index.auto.next ∙ c.loop-start.auto.next
+      ∙ c.requires) c.loop-index-test.true (ne_eqb _ MOVED c.if-following.false) refl
+      c.index-annotations-index.is);
+  room = omega (arith, c.push_reserved.ensures.capacity, c.loop-index.invariant.room);
 }
 
 pub returns-clause-permutation : goal.returns-clause-permutation

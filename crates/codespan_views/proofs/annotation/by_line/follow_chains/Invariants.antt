@@ -11,11 +11,11 @@ invariant-loop-start g l = record {
   room : length l.annotations ≤ vec_capacity l.moved;
 }
 
-abbrev pub invariant-loop-source : goal.invariant-loop-source
-invariant-loop-source g l = record {
+abbrev pub invariant-loop-index : goal.invariant-loop-index
+invariant-loop-index g l = record {
   moved : AreKept (λ n. n == MOVED) l.fn.next l.next l.annotations l.moved.items;
   room : length l.annotations ≤ vec_capacity l.moved;
 }
 
-abbrev pub decreases-loop-source : goal.decreases-loop-source
-decreases-loop-source g l = length l.annotations - length l.moved.items
+abbrev pub decreases-loop-index : goal.decreases-loop-index
+decreases-loop-index g l = length l.annotations - length l.moved.items

@@ -10,6 +10,6 @@ returns-clause-added g c =
     let x = label_of_collector g.F.Files.database collector in
     AppendsAnnotations-as
     (annotation_if_any-line x c.requires.lines.first c.requires.lines.last c.requires.line
-    c.kind_on_line.ensures c.lane_mark_on_line.ensures)
+    c.kind_on_line.ensures c.multi_kind_on_line.ensures)
     (AppendsAnnotations-weaker (λ e same. subst (IsLineOf x.file) (sym same) c.requires.line)
     (AppendsAnnotations-both c.in_ok-push_annotation.ensures.added c.in_ok-push_annotation-2.ensures.added))

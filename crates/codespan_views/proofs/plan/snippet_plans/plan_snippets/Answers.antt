@@ -60,16 +60,16 @@ push_snippet-requires g c κs = (
       c.requires.lines,
 )
 
-pub returns-in_err-line_total-clause-failed : goal.returns-in_err-line_total-clause-failed
-returns-in_err-line_total-clause-failed g c =
-    let at = turn g (goal.at.returns-in_err-line_total-clause-failed g c).After-count_in_file-len in
+pub returns-in_err-line_count-clause-failed : goal.returns-in_err-line_count-clause-failed
+returns-in_err-line_count-clause-failed g c =
+    let at = turn g (goal.at.returns-in_err-line_count-clause-failed g c).After-count_in_file-len in
     let lookups = own_lookups at c.deref-in-loop-index.ensures.value c.args.layout
     (((g.F.Files.database c.args.files.now).failure)) in
-    let p = err_from_is_err_and c.from_residual-in_err-line_total.result
-    c.from_residual-in_err-line_total.ensures.1 in
+    let p = err_from_is_err_and c.from_residual-in_err-line_count.result
+    c.from_residual-in_err-line_count.ensures.1 in
     rw (p.1 ∙ ap Err p.2)
     (λ memory display. planned-fails at.here c.loop-index.invariant.planned
-    (sym lookups ∙ c.in_err-line_total.ensures.failed memory))
+    (sym lookups ∙ c.in_err-line_count.ensures.failed memory))
 
 pub loop-index-preserved : goal.loop-index-preserved
 loop-index-preserved g c =
@@ -78,8 +78,8 @@ loop-index-preserved g c =
     let before = c.loop-index.invariant.planned in
     let zs_are = c.deref-in-loop-index.ensures.value in
     let numbers =
-    sym (own_lookups at zs_are c.args.layout failure) ∙ c.in_ok-line_total.ensures.failed in
-    let added = c.in_ok-line_total.ensures.added in
+    sym (own_lookups at zs_are c.args.layout failure) ∙ c.in_ok-line_count.ensures.failed in
+    let added = c.in_ok-line_count.ensures.added in
     record {
       inside = next_inside at;
       left = next_left at;
@@ -88,8 +88,8 @@ loop-index-preserved g c =
             (ap (λ snippet_plans. snippet_plans.items) w.snippet_plans-is
             ∙ w.in_ok-push-in-Ok.ensures.items)
             added.whole
-            (plan_found at added zs_are c.in_ok-line_total.ensures.count w.in-Ok.ensures.file
-            w.in-Ok.ensures.locus w.in-Ok.ensures.line_total)
+            (plan_found at added zs_are c.in_ok-line_count.ensures.count w.in-Ok.ensures.file
+            w.in-Ok.ensures.locus w.in-Ok.ensures.snippet_line_count)
             numbers w.in-Ok.ensures.failed)
         | in-Err w ↦ rw (w.snippet_plans-is, w.located-is ∙ w.first_error_of-located.ensures)
             (planned-unlocated at.here before numbers w.in-Err.ensures.failed)

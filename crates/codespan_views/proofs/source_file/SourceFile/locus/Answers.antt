@@ -5,7 +5,7 @@ use Rattle.codespan_core.specs.declared.files.Error.{Error}
 use Rattle.codespan_core.specs.FileModel.{or_failure}
 use Rattle.codespan_core.specs.FileModel.Lookup.{LocationAt, Name}
 use Rattle.codespan_views.specs.Private.SourceFiles.{model_of}
-use Rattle.codespan_views.proofs.TextLoci.{locus_located}
+use Rattle.codespan_views.proofs.Utf8Loci.{locus_located}
 use Rattle.codespan_views.proofs.source_file.SourceFile.locus.Given.{Over}
 use Rattle.codespan_views.proofs.source_file.SourceFile.locus.Goals.{In_ok-named}
 use Rattle.codespan_views.proofs.source_file.SourceFile.locus.Goals as goal

@@ -7,7 +7,7 @@ use Rattle.codespan_core.proofs.Loops.{StillToWrite-start, StillToWrite-more, St
 use Rattle.codespan_picture.specs.Arguments.{single_label_views}
 use Rattle.codespan_picture.specs.RowParts.{metrics_before, pointers}
 use Rattle.codespan_picture.specs.Private.LineViews.{context_view}
-use Rattle.codespan_renderer.specs.Private.MetricsLeft.{metrics_left}
+use Rattle.codespan_renderer.specs.Private.RemainingMetrics.{remaining_metrics}
 use Rattle.codespan_renderer.proofs.ScannedPointers.{spaces_none, pointer_first, spaces_first, spaces_last, spaces_due}
 use Rattle.codespan_renderer.proofs.PointersBefore.{spaces_rest}
 use Rattle.codespan_picture.proofs.ScanState.{scan_state-char_metrics, scan_state-more}
@@ -16,7 +16,7 @@ use Rattle.codespan_renderer.proofs.term.renderer.scanned_line.scanned_caret_poi
 
 pub loop-metrics-init : goal.loop-metrics-init
 loop-metrics-init g c =
-    let all = ap metrics_left c.into_iter-metrics-iterator.ensures.into_iter_gives
+    let all = ap remaining_metrics c.into_iter-metrics-iterator.ensures.into_iter_gives
     ∙ c.new-metrics-items.ensures.char_metrics in
     let from = c.new-metrics-items.ensures in
     rw all
@@ -73,7 +73,7 @@ returns g c =
     let context = context_view c.args.context in
     let labels = single_label_views c.args.line.labels.now in
     let end : spaces at.pending
-    ++ pointers context labels (metrics_before c.args.byte_index (metrics_left at.metrics-iterator))
+    ++ pointers context labels (metrics_before c.args.byte_index (remaining_metrics at.metrics-iterator))
     ≡ spaces at.pending =
     elim c.match-next.branch [
       | in-None w ↦ spaces_last context labels _ _ _ w.in-None.ensures.steps.0

@@ -42,6 +42,6 @@ returns g c =
     ap (map lane_mark_view) c.as_slice.ensures.value ∙ c.in_ok-refill.ensures.lane_marks in
     line-rendered g.F.Files.database c.args.self.now c.args.line.index annotations
     (ap line_view c.in_ok-cached.ensures.line ∙ c.new-line.ensures.line
-    ∙ line-shown annotations _ _ c.requires.line c.requires.text c.range-source.ensures.value
+    ∙ line-shown annotations _ _ c.requires.line c.requires.source c.range-source.ensures.value
     labels lane_marks)
     c.render.ensures

@@ -32,7 +32,7 @@ render_snippet_line-requires g c κs =
     let i = c.loop-snippet_line.snippet_line-index in (
       (refl, (refl, tt)),
       record {
-        text = c.requires.text;
+        source = c.requires.source;
         is =
             subst (IsSnippetLineOf f) (sym c.snippet_line-item.is)
             (All-from_recursion (IsSnippetLineOf f) snippet_lines c.requires.are.each i _

@@ -4,7 +4,7 @@ use Rattle.std.proofs.lemmas.Str.{IsUtf8-had}
 use Rattle.codespan_picture.specs.CharMetrics.{char_metrics}
 use Rattle.codespan_picture.specs.Arguments.{single_label_views}
 use Rattle.codespan_picture.proofs.Consecutive.{char_metrics-consecutive}
-use Rattle.codespan_renderer.specs.Private.CachedMetrics.{cached_left}
+use Rattle.codespan_renderer.specs.Private.CachedMetrics.{remaining_from_cache}
 use Rattle.codespan_picture.proofs.Hanging.{none_hangs}
 use Rattle.codespan_picture.proofs.ScanState.{scan_state-char_metrics, scan_state-more}
 use Rattle.codespan_renderer.proofs.PointerCursors.{no-pointers, passing-start, passing-at, passing-more, found-style, found-some, found-none, pointers-past-at}
@@ -20,9 +20,9 @@ returns-then-not-has_any_message-2-clause-found c =
 
 pub loop-metrics-init : goal.loop-metrics-init
 loop-metrics-init c =
-    let all : cached_left c.into_iter-metrics-iterator.result
+    let all : remaining_from_cache c.into_iter-metrics-iterator.result
     ≡ char_metrics c.args.tab_width c.args.line.text.now =
-    ap cached_left c.into_iter-metrics-iterator.ensures.into_iter_gives
+    ap remaining_from_cache c.into_iter-metrics-iterator.ensures.into_iter_gives
     ∙ c.requires.characters in
     rw (all, c.clear.ensures.items) record {
       cursor =

@@ -1,7 +1,7 @@
 use Rattle.std.proofs.Common.{ap, arith}
 use Rattle.codespan_picture.specs.CharMetrics.{width_of}
 use Rattle.codespan_picture.specs.RowParts.{metrics_up_to}
-use Rattle.codespan_renderer.specs.Private.MetricsLeft.{metrics_from, no_more}
+use Rattle.codespan_renderer.specs.Private.RemainingMetrics.{metrics_from, no_more}
 use Rattle.codespan_renderer.proofs.CachedScans.{past-scan}
 use Rattle.codespan_picture.proofs.Widths.{width-out}
 use Rattle.codespan_renderer.proofs.term.renderer.char_metrics.CharMetrics.column_past.Goals as goal
@@ -17,7 +17,7 @@ returns-then-metrics-byte_index c =
     omega (
       arith,
       c.loop-metrics.invariant,
-      over.at,
+      over.starts_at_column,
       step,
       width-out c.args.byte_index c.in-Some.metrics rest c.if-metrics-byte_index.true,
       none,

@@ -1,7 +1,7 @@
 use Rattle.std.proofs.Common.{◌≡◌, refl, sym, ◌∙◌, arith}
 use Rattle.std.specs.Str.Iter.{chars_rest}
 use Rattle.std.proofs.lemmas.Str.{IsUtf8-had, IsUtf8-past_char, drop_past_char, len_utf8_bounds}
-use Rattle.codespan_renderer.specs.Private.MetricsLeft.{MetricsAfterEnd, metrics_from}
+use Rattle.codespan_renderer.specs.Private.RemainingMetrics.{MetricsAfterEnd, metrics_from}
 use Rattle.codespan_renderer.proofs.MetricsSteps.{metrics_then-char, metrics_then-end, bytes-taken}
 use Rattle.codespan_picture.proofs.CharSteps.{bytes_left}
 use Rattle.codespan_renderer.proofs.term.renderer.char_metrics.CharMetrics.next_metrics.Goals as goal
@@ -22,7 +22,7 @@ invariant_of-self c =
       left = sym (rw bytes next);
       utf8 = ∣ IsUtf8-past_char _ _ _ (IsUtf8-had _ c.args.self.now.utf8) step ∣₁;
       within = omega arith;
-      narrow = omega arith;
+      column_bound = omega arith;
     }
 
 pub returns-in-Some-clause-yields : goal.returns-in-Some-clause-yields
@@ -34,9 +34,9 @@ returns-in-Some-clause-yields c =
       yields =
           λ after. metrics_then-char after _ _ _ _ _ _ _ _ (IsUtf8-had _ c.args.self.now.utf8) step
           bytes c.width_at.ensures;
-      here = refl;
-      at = refl;
-      some = omega (arith, bytes, (len_utf8_bounds c.in-Some.ch).0);
+      starts_at_byte = refl;
+      starts_at_column = refl;
+      has_byte = omega (arith, bytes, (len_utf8_bounds c.in-Some.ch).0);
       byte_index = refl;
       column = refl;
     }
@@ -50,7 +50,7 @@ returns-in-None-clause-yields c =
     c.args.self.now.column (chars_rest c.args.self.now.chars) none.0 in
     record {
       none = end;
-      still = rw none.1 end;
+      stays = rw none.1 end;
       byte_index = refl;
       column = refl;
     }

@@ -8,7 +8,7 @@ invariant_of-result c =
     let s = c.args.self.now in
     let all =
     cached-from s.tab_width s.line.text.now s.cached.now s.rest c.fork.result c.args.has_placeholder
-    c.args.skipped s.metrics_are c.fork.ensures.same c.fork.ensures.placeholder in
+    c.args.skipped s.are_cached c.fork.ensures.same c.fork.ensures.placeholder in
     record {
       state =
           cursor-start _ (take c.args.skipped s.cached.now) _ c.new.ensures.passed
@@ -19,4 +19,4 @@ pub returns-clause-left : goal.returns-clause-left
 returns-clause-left c =
     let s = c.args.self.now in
     cached-from s.tab_width s.line.text.now s.cached.now s.rest c.fork.result c.args.has_placeholder
-    c.args.skipped s.metrics_are c.fork.ensures.same c.fork.ensures.placeholder
+    c.args.skipped s.are_cached c.fork.ensures.same c.fork.ensures.placeholder

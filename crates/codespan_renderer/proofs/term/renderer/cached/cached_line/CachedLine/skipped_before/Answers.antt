@@ -8,7 +8,7 @@ pub returns-in-Some-clause-ended : goal.returns-in-Some-clause-ended
 returns-in-Some-clause-ended c =
     let s = c.args.self.now in
     let found = c.in-Some.ensures.lookup in
-    cached-ended s.tab_width s.line.text.now s.cached.now s.rest s.metrics_are c.args.byte_index
+    cached-ended s.tab_width s.line.text.now s.cached.now s.rest s.are_cached c.args.byte_index
     c.args.byte_index _ (let test = found.0 in grind (arith, nat_tests))
     (sym (ap (λ (x : Metrics). x.byte_index) found.1) ∙ c.if-metrics-byte_index.true)
 
@@ -17,5 +17,5 @@ returns-in-Some-clause-width c =
     let s = c.args.self.now in
     let found = c.in-Some.ensures.lookup in
     ap (λ (x : Metrics). x.column) found.1
-    ∙ cached-width s.tab_width s.line.text.now s.cached.now s.rest s.metrics_are
+    ∙ cached-width s.tab_width s.line.text.now s.cached.now s.rest s.are_cached
     c.args.byte_index _ (let test = found.0 in grind (arith, nat_tests))

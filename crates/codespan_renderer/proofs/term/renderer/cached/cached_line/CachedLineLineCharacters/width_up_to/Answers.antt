@@ -10,7 +10,7 @@ returns-in-Some c =
     let s = c.args.self.now in
     let rises =
     IsNonDecreasingBy-from_default (λ (x : Metrics). x.byte_index) s.cached.now default_metrics
-    (cached-ascends s.tab_width s.line.text.now s.cached.now s.rest s.metrics_are) in
+    (cached-ascends s.tab_width s.line.text.now s.cached.now s.rest s.are_cached) in
     let parted =
     IsPartitionedBy-leb (λ (x : Metrics). x.byte_index) s.cached.now c.args.byte_index rises in
     let point =
@@ -19,7 +19,7 @@ returns-in-Some c =
     let found = c.in-Some.ensures.lookup in
     ap (λ (x : Metrics). x.column) found.1
     ∙ cached-cut s.tab_width s.line.text.now s.cached.now s.rest c.args.byte_index
-    c.partition_point-count.result _ s.metrics_are point
+    c.partition_point-count.result _ s.are_cached point
     (let test = found.0 in grind (arith, nat_tests))
 
 pub returns-in-None : goal.returns-in-None
@@ -27,7 +27,7 @@ returns-in-None c =
     let s = c.args.self.now in
     let rises =
     IsNonDecreasingBy-from_default (λ (x : Metrics). x.byte_index) s.cached.now default_metrics
-    (cached-ascends s.tab_width s.line.text.now s.cached.now s.rest s.metrics_are) in
+    (cached-ascends s.tab_width s.line.text.now s.cached.now s.rest s.are_cached) in
     let parted =
     IsPartitionedBy-leb (λ (x : Metrics). x.byte_index) s.cached.now c.args.byte_index rises in
     let point =
@@ -36,5 +36,5 @@ returns-in-None c =
     let found = c.in-None.ensures.lookup in
     c.column_past.ensures
     ∙ cached-past s.tab_width s.line.text.now s.cached.now s.rest c.args.byte_index
-    c.partition_point-count.result default_metrics s.metrics_are point
+    c.partition_point-count.result default_metrics s.are_cached point
     (let test = found.0 in grind (arith, nat_tests))

@@ -3,7 +3,7 @@ use Rattle.codespan_core.specs.declared.diagnostic.LabelStyle.{LabelStyle}
 use Rattle.codespan_core.specs.Labels.{has_message}
 use Rattle.codespan_picture.specs.declared.char_metrics.Metrics.{Metrics}
 use Rattle.codespan_picture.specs.Arguments.{single_label_views, starts_from}
-use Rattle.codespan_renderer.specs.Private.PointerLists.{label_starts_left}
+use Rattle.codespan_renderer.specs.Private.PointerLists.{remaining_start_labels}
 use Rattle.codespan_picture.specs.RowParts.{starts_in}
 use Rattle.codespan_renderer.specs.Private.PreferredStyles.{preferred_style}
 use Rattle.codespan_renderer.proofs.term.renderer.cached.label_cursor.StartCursor.start_style.Given as goal
@@ -12,15 +12,15 @@ use Rattle.codespan_renderer.proofs.term.renderer.cached.label_cursor.StartCurso
 abbrev pub invariant-loop-self : goal.invariant-loop-self
 invariant-loop-self l = record {
   here : preferred_style (starts_in l.metrics) l.best
-      (filter has_message (label_starts_left l.self))
+      (filter has_message (remaining_start_labels l.self))
       ≡ preferred_style (starts_in l.metrics) l.fn.found
       (filter has_message (single_label_views l.fn.self.labels.now));
   later : (c : Metrics) (found : Option LabelStyle)
       → l.metrics.byte_index + l.metrics.bytes ≤ c.byte_index
       → preferred_style (starts_in c) found
       (filter has_message (single_label_views l.fn.self.labels.now))
-      ≡ preferred_style (starts_in c) found (filter has_message (label_starts_left l.self));
-  ordered : starts_from l.metrics.byte_index (label_starts_left l.self) ≡ true;
+      ≡ preferred_style (starts_in c) found (filter has_message (remaining_start_labels l.self));
+  ordered : starts_from l.metrics.byte_index (remaining_start_labels l.self) ≡ true;
   same : l.self.labels.now ≡ l.fn.self.labels.now;
 }
 

@@ -1,5 +1,5 @@
 use Rattle.codespan_renderer.proofs.PiecesInOrder.{before-ordered, after-ordered}
-use Rattle.codespan_renderer.proofs.term.renderer.cached.line_metrics.LineMetrics.cache_line.Goals as goal
+use Rattle.codespan_renderer.proofs.term.renderer.cached.line_cache.LineCache.cache_line.Goals as goal
 
 pub find_pointers-requires-clause-before_trailing : goal.find_pointers-requires-clause-before_trailing
 find_pointers-requires-clause-before_trailing g c =

@@ -25,22 +25,22 @@ metrics_from after s =
     metrics_then after s.tab_width s.byte_index s.column (chars (chars_rest s.chars))
 
 -- the characters that it has not returned yet
-abbrev pub metrics_left : CharMetrics → List Metrics
-metrics_left s = metrics_from (after_last s.has_placeholder) s
+abbrev pub remaining_metrics : CharMetrics → List Metrics
+remaining_metrics s = metrics_from (after_last s.has_placeholder) s
 
 -- the iterator goes over a character
 pub record GoesOver (c : Metrics) (old new : CharMetrics) : Type 0 where
   pub yields : (after : MetricsAfterEnd) → metrics_from after old ≡ c ∷ metrics_from after new
-  pub here : c.byte_index ≡ old.byte_index
-  pub at : c.column ≡ old.column
-  pub some : 1 ≤ c.bytes
+  pub starts_at_byte : c.byte_index ≡ old.byte_index
+  pub starts_at_column : c.column ≡ old.column
+  pub has_byte : 1 ≤ c.bytes
   pub byte_index : new.byte_index ≡ old.byte_index + c.bytes
   pub column : new.column ≡ old.column + c.unicode_width
 
 -- the iterator has gone over all characters, and stays where it is
 pub record IsPastLast (old new : CharMetrics) : Type 0 where
   pub none : (after : MetricsAfterEnd) → metrics_from after old ≡ after old.byte_index old.column
-  pub still : (after : MetricsAfterEnd) → metrics_from after new ≡ after old.byte_index old.column
+  pub stays : (after : MetricsAfterEnd) → metrics_from after new ≡ after old.byte_index old.column
   pub byte_index : new.byte_index ≡ old.byte_index
   pub column : new.column ≡ old.column
 

@@ -7,7 +7,7 @@ ghost use Rattle.codespan_renderer.specs.Renderers.{config_of};
 
 use crate::term::renderer::Renderer;
 use crate::term::renderer::cached::cached_line::CachedLine;
-use crate::term::renderer::cached::cached_metrics::CachedMetrics;
+use crate::term::renderer::cached::cached_metrics::MetricsFromCache;
 use crate::term::renderer::cached::pointers::{Pointer, find_pointers};
 use crate::term::renderer::cached::reach::reach_of;
 use crate::term::renderer::char_metrics::{CharMetrics, Metrics};
@@ -21,17 +21,17 @@ use std::alloc::Global;
 ///
 /// One value serves many lines, so that its memory is allocated once.
 #[derive(Drop)]
-pub struct LineMetrics {
+pub struct LineCache {
     /// The first characters, from left to right, as far as the rows reach.
     cached: Vec<Metrics>,
     /// The pointers under the characters from which labels hang.
     pointers: Vec<Pointer>,
 }
 
-impl LineMetrics {
+impl LineCache {
     /// Returns an empty cache. It allocates nothing.
-    pub fn new(alloc: Global) -> LineMetrics {
-        LineMetrics {
+    pub fn new(alloc: Global) -> LineCache {
+        LineCache {
             cached: Vec::new(alloc),
             pointers: Vec::new(alloc),
         }
@@ -62,7 +62,7 @@ impl LineMetrics {
     {
         let tab_width = renderer.config.tab_width;
         let rest = cache_metrics(&mut self.cached, line.text, tab_width, reach_of(line))?;
-        let characters = CachedMetrics {
+        let characters = MetricsFromCache {
             cached: self.cached.as_slice(),
             rest: rest.fork(false),
         };
@@ -92,8 +92,8 @@ fn cache_metrics<'row>(
     tab_width: usize,
     reach: Option<usize>,
 ) -> Result<CharMetrics<'row>, Error>
-    ensures cached { IfOk result (λ rest. AreCached tab_width text.now cached.new.items rest) }
-    ensures past { IfOk result (λ rest. ReachesPast reach rest) }
+    ensures are_cached { IfOk result (λ rest. AreCached tab_width text.now cached.new.items rest) }
+    ensures reaches_past { IfOk result (λ rest. ReachesPast reach rest) }
     ensures failed { OnErr result (IsErrOf result Error.OutOfMemory) }
 {
     cached.clear();

@@ -1,7 +1,7 @@
 use Rattle.std.proofs.Common.{◌≡◌, ℕ, ◌∙◌, Option, None, Some, ap, refl}
 use Rattle.std.specs.Prelude.{unwrap_or}
 use Rattle.std.specs.Option.{option_or}
-use Rattle.codespan_views.proofs.least_starts.LeastStarts.byte.Goals as goal
+use Rattle.codespan_views.proofs.least_starts.LeastStarts.locus_byte.Goals as goal
 
 -- a byte that is known counts before any other
 first-known : (p any : Option ℕ) → unwrap_or (option_or p any) 0 ≡ unwrap_or p (unwrap_or any 0)

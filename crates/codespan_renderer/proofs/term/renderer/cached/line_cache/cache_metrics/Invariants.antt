@@ -1,7 +1,7 @@
 use Rattle.std.proofs.Common.{length}
-use Rattle.codespan_renderer.specs.Private.MetricsLeft.{metrics_from, no_more}
+use Rattle.codespan_renderer.specs.Private.RemainingMetrics.{metrics_from, no_more}
 use Rattle.codespan_renderer.specs.Private.CachedMetrics.{AreCached}
-use Rattle.codespan_renderer.proofs.term.renderer.cached.line_metrics.cache_metrics.Given as goal
+use Rattle.codespan_renderer.proofs.term.renderer.cached.line_cache.cache_metrics.Given as goal
 
 -- what is cached and what the scan has left are all characters
 abbrev pub invariant-loop-metrics : goal.invariant-loop-metrics

@@ -7,14 +7,14 @@ use Rattle.codespan_picture.specs.Rows.{Locus}
 use Rattle.codespan_picture.specs.Snippets.{LabelInFile, LabeledFileModel}
 
 -- the locus of a byte index of a file, whose name is UTF-8
-pub record IsTextLocus (at : FileModel × ℕ) (locus : Locus) : Type 0 where
+pub record IsUtf8Locus (at : FileModel × ℕ) (locus : Locus) : Type 0 where
   pub is_locus : IsLocus at locus
   pub is_utf8 : IsUtf8 locus.name
 
 -- that of a file's snippet
 abbrev pub IsLocusOfFile : LabeledFileModel → Locus → Type 0
-IsLocusOfFile s locus = IsTextLocus (snippet_locus_byte s) locus
+IsLocusOfFile s locus = IsUtf8Locus (snippet_locus_byte s) locus
 
 -- that of a label's header
 abbrev pub IsLocusOfLabel : {Id : Type 0} → (Id → FileModel) → LabelInFile Id → Locus → Type 0
-IsLocusOfLabel file x locus = IsTextLocus (label_locus_byte file x) locus
+IsLocusOfLabel file x locus = IsUtf8Locus (label_locus_byte file x) locus

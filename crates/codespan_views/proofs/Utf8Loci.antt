@@ -5,12 +5,12 @@ use Rattle.std.proofs.lemmas.Str.{IsUtf8-string_bytes}
 use Rattle.codespan_core.specs.FileModel.{FileModel}
 use Rattle.codespan_picture.specs.declared.arguments.Locus as rust_locus
 use Rattle.codespan_picture.specs.Arguments.{locus_view}
-use Rattle.codespan_views.specs.Private.TextLoci.{IsTextLocus}
+use Rattle.codespan_views.specs.Private.Utf8Loci.{IsUtf8Locus}
 
 -- a locus of a file's name and of a byte's location is the locus of that byte
 pub locus_located : (f : FileModel) (byte : ℕ) (locus : rust_locus.Locus)
     → IfSome f.name (λ bytes. string_bytes locus.name ≡ bytes) → locus.location ≡ f.location byte
-    → IsTextLocus (f, byte) (locus_view locus)
+    → IsUtf8Locus (f, byte) (locus_view locus)
 locus_located f byte locus text at =
     record {
       is_locus =
