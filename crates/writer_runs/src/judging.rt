@@ -15,7 +15,7 @@ use gallery_script::database::{Database, database_of};
 use std::alloc::Global;
 
 /// The styles in which each worked output is rendered.
-pub const STYLES: [DisplayStyle; 3] = [
+pub const DISPLAY_STYLES: [DisplayStyle; 3] = [
     DisplayStyle::Rich,
     DisplayStyle::Medium,
     DisplayStyle::Short,
@@ -38,7 +38,7 @@ fn judge_styles(
     database: &Database<'_>,
 ) -> Result<usize, FailureAt> {
     let mut runs = 0usize;
-    for style in STYLES {
+    for style in DISPLAY_STYLES {
         let more = judge_style(alloc, worked, database, style)?;
         runs = runs.saturating_add(more);
     }

@@ -4,7 +4,7 @@ ghost use Rattle.std.specs.Prelude.{◌≤◌};
 
 use crate::direct::rows::{DirectRow, rows};
 use crate::failure::{FailureAt, FatalError};
-use crate::judging::{STYLES, judge_direct, judge_output};
+use crate::judging::{DISPLAY_STYLES, judge_direct, judge_output};
 use crate::rendering::CALLS;
 use crate::stops::WRITERS;
 use crate::worked_output::WorkedOutput;
@@ -111,7 +111,7 @@ fn judge_outputs<W: Write>(
     stdout: &mut W,
     counts: &mut Counts,
 ) -> Result<(), FatalError> {
-    let (styles, calls) = (STYLES.len(), CALLS.len());
+    let (styles, calls) = (DISPLAY_STYLES.len(), CALLS.len());
     for worked in worked_outputs {
         let judged = judge_output(alloc, worked);
         let calls = format_args!("{calls} calls in {styles} styles");
