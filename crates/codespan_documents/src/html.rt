@@ -2,7 +2,7 @@
 
 ghost use Rattle.std.specs.Prelude.{◌≡◌, ◌++◌, IfErr, IfOk, OnOk, flat_map, map, string_bytes};
 ghost use Rattle.codespan_documents.specs.Html.{html_character, html_element, html_run, html_text, is_forbidden_control, is_noncharacter, replaced_character, shown_text, style_class};
-ghost use Rattle.codespan_documents.specs.HtmlReading.{element_tokens, html_tokens, text_of_html};
+ghost use Rattle.codespan_documents.specs.HtmlReading.{element_tokens, read_tokens, text_of_html};
 ghost use Rattle.codespan_documents.specs.Runs.{joined, run_view, styled_runs};
 
 use crate::style::Style;
@@ -38,7 +38,7 @@ pub fn to_html(alloc: Global, text: &StyledText) -> Result<String, Error>
     ensures element { IfOk result (λ html.
         string_bytes html ≡ html_element (styled_runs text.now)) }
     ensures tokens { IfOk result (λ html.
-        html_tokens (string_bytes html) ≡ element_tokens (styled_runs text.now)) }
+        read_tokens (string_bytes html) ≡ element_tokens (styled_runs text.now)) }
     ensures text { IfOk result (λ html.
         text_of_html (string_bytes html) ≡ shown_text (joined (styled_runs text.now))) }
     ensures failed { IfErr result (λ error. error ≡ Error.OutOfMemory) }
