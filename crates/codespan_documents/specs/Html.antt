@@ -41,8 +41,8 @@ html_character c =
     else encode_utf8 (replaced_character c)
 
 -- a text in an element
-abbrev pub html_text : List ℕ → List ℕ
-html_text text = flat_map html_character (chars text)
+abbrev pub escaped_text : List ℕ → List ℕ
+escaped_text text = flat_map html_character (chars text)
 
 -- ---- classes
 
@@ -74,8 +74,8 @@ span_tag_content style = codes "span class=\"" ++ style_class style ++ codes "\"
 -- a run: a plain one as its text, any other between two tags
 abbrev pub html_run : RunView → List ℕ
 html_run run =
-    if is_plain run.style then html_text run.text
-    else codes "<" ++ span_tag_content run.style ++ codes ">" ++ html_text run.text
+    if is_plain run.style then escaped_text run.text
+    else codes "<" ++ span_tag_content run.style ++ codes ">" ++ escaped_text run.text
     ++ codes "</span>"
 
 -- the element of runs; HTML does not show the newline after the first tag

@@ -1,7 +1,7 @@
 //! Styled text as an HTML element.
 
 ghost use Rattle.std.specs.Prelude.{◌≡◌, ◌++◌, IfErr, IfOk, OnOk, flat_map, map, string_bytes};
-ghost use Rattle.codespan_documents.specs.Html.{html_character, html_element, html_run, html_text, is_forbidden_control, is_noncharacter, replaced_character, shown_text, style_class};
+ghost use Rattle.codespan_documents.specs.Html.{html_character, html_element, html_run, escaped_text, is_forbidden_control, is_noncharacter, replaced_character, shown_text, style_class};
 ghost use Rattle.codespan_documents.specs.HtmlReading.{element_tokens, read_tokens, text_of_html};
 ghost use Rattle.codespan_documents.specs.Runs.{joined, run_view, styled_runs};
 
@@ -79,7 +79,7 @@ fn push_run(html: &mut String, run: &Run) -> Result<(), AllocError>
 
 /// Appends a text, with entities.
 fn push_text(html: &mut String, text: &str) -> Result<(), AllocError>
-    ensures { OnOk result (string_bytes html.new ≡ string_bytes html.old ++ html_text text.now) }
+    ensures { OnOk result (string_bytes html.new ≡ string_bytes html.old ++ escaped_text text.now) }
 {
     for c in text.chars() {
         push_character(html, c)?;
