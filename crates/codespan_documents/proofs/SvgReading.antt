@@ -13,7 +13,7 @@ use Rattle.codespan_documents.specs.Glyphs.{cells_of, extent_from, follows, glyp
 use Rattle.codespan_documents.specs.HtmlReading.{InText, Token, Tag, TextByte, read_tokens, tokens_from, text_of_tokens}
 use Rattle.codespan_documents.specs.Runs.{RunView, run_characters}
 use Rattle.codespan_documents.specs.Svg.{first_pen, glyph_text, background_tag_content, next_pen, svg_document, svg_tag_content, text_tag_content, text_tag, texts_from, xml_character}
-use Rattle.codespan_documents.specs.SvgReading.{piece_tokens, pieces_from, svg_tokens, shown_in_svg, svg_text}
+use Rattle.codespan_documents.specs.SvgReading.{piece_tokens, pieces_from, svg_tokens, shown_in_svg, shown_svg_text}
 use Rattle.codespan_documents.proofs.HtmlReading.{text_of-append, text_of-bytes}
 use Rattle.codespan_documents.proofs.SvgPieces.{glyph_tokens, tokens_of_glyphs, tokens_of_pieces, two_ifs}
 use Rattle.codespan_documents.proofs.SvgElements.{is_inside, text-inside, svg-inside, tag-read, character-read}
@@ -194,7 +194,7 @@ characters-are styles (run ∷ runs) =
 
 -- the text of a document is that of its runs
 pub svg-text : (styles : Styles) (runs : List RunView)
-    → text_of_tokens (read_tokens (svg_document (glyphs_of styles runs))) ≡ svg_text runs
+    → text_of_tokens (read_tokens (svg_document (glyphs_of styles runs))) ≡ shown_svg_text runs
 svg-text styles runs =
     let glyphs = glyphs_of styles runs in
     let last = Tag (codes "/svg") ∷ TextByte 10 ∷ [] in

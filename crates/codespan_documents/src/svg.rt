@@ -5,7 +5,7 @@ ghost use Rattle.codespan_documents.specs.Glyphs.{glyphs_of};
 ghost use Rattle.codespan_documents.specs.HtmlReading.{read_tokens, text_of_tokens};
 ghost use Rattle.codespan_documents.specs.Runs.{styled_runs};
 ghost use Rattle.codespan_documents.specs.Svg.{color_attribute, first_pen, glyph_text, color_on_dark, svg_tag_start, svg_document, text_tag, texts_from, weight_attribute, xml_character};
-ghost use Rattle.codespan_documents.specs.SvgReading.{svg_tokens, svg_text};
+ghost use Rattle.codespan_documents.specs.SvgReading.{svg_tokens, shown_svg_text};
 
 mod glyph;
 mod ink;
@@ -70,7 +70,7 @@ pub fn to_svg(alloc: Global, text: &StyledText, styles: &Styles) -> Result<Strin
     ensures tokens { IfOk result (λ svg.
         read_tokens (string_bytes svg) ≡ svg_tokens (glyphs_of styles.now (styled_runs text.now))) }
     ensures text { IfOk result (λ svg.
-        text_of_tokens (read_tokens (string_bytes svg)) ≡ svg_text (styled_runs text.now)) }
+        text_of_tokens (read_tokens (string_bytes svg)) ≡ shown_svg_text (styled_runs text.now)) }
     ensures failed { IfErr result (λ error. error ≡ Error.OutOfMemory) }
 {
     let glyphs = glyphs(alloc, styles, text.runs.as_slice())?;
