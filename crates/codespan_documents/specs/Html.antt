@@ -40,7 +40,7 @@ html_character c =
     else if c == 39 then codes "&#39;"
     else encode_utf8 (replaced_character c)
 
--- a text in an element
+-- a text in an element, escaped
 abbrev pub escaped_text : List ℕ → List ℕ
 escaped_text text = flat_map html_character (chars text)
 

@@ -40,7 +40,7 @@ tokens_from (InEntity name) (b ∷ bs) =
     if b == 59 then map TextByte (entity_text name) ++ tokens_from InText bs
     else tokens_from (InEntity (name ++ b ∷ [])) bs
 
--- the tokens of an element
+-- the tokens that a reader finds in bytes
 abbrev pub read_tokens : List ℕ → List Token
 read_tokens element = tokens_from InText element
 
