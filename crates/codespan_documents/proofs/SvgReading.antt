@@ -193,9 +193,9 @@ characters-are styles (run ∷ runs) =
     ∙ ap (λ cs. chars run.text ++ cs) (characters-are styles runs)
 
 -- the text of a document is that of its runs
-pub svg-text : (styles : Styles) (runs : List RunView)
+pub shown-svg-text : (styles : Styles) (runs : List RunView)
     → text_of_tokens (read_tokens (svg_document (glyphs_of styles runs))) ≡ shown_svg_text runs
-svg-text styles runs =
+shown-svg-text styles runs =
     let glyphs = glyphs_of styles runs in
     let last = Tag (codes "/svg") ∷ TextByte 10 ∷ [] in
     ap text_of_tokens (svg-read glyphs)

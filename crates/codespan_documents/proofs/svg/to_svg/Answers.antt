@@ -3,7 +3,7 @@ use Rattle.codespan_documents.specs.Glyphs.{glyphs_of}
 use Rattle.codespan_documents.specs.HtmlReading.{read_tokens, text_of_tokens}
 use Rattle.codespan_documents.specs.Runs.{run_view, styled_runs}
 use Rattle.codespan_documents.specs.Svg.{svg_document}
-use Rattle.codespan_documents.proofs.SvgReading.{svg-read, svg-text}
+use Rattle.codespan_documents.proofs.SvgReading.{svg-read, shown-svg-text}
 use Rattle.codespan_documents.proofs.svg.to_svg.Goals as goal
 
 -- the document is that of the glyphs of all runs
@@ -22,4 +22,4 @@ returns-clause-tokens c =
 pub returns-clause-text : goal.returns-clause-text
 returns-clause-text c =
     ap (λ bytes. text_of_tokens (read_tokens bytes)) (returns-clause-document c)
-    ∙ svg-text c.args.styles.now (styled_runs c.args.text.now)
+    ∙ shown-svg-text c.args.styles.now (styled_runs c.args.text.now)
