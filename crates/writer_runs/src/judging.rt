@@ -191,7 +191,7 @@ fn judge_call<D: Render>(
                 judge_colors(output, recording.text(), colors)?;
                 0
             }
-            StyleWriterKind::Custom => judge_style_marks(alloc, output, recording.text())?,
+            StyleWriterKind::Sequences => judge_style_marks(alloc, output, recording.text())?,
             StyleWriterKind::Plain | StyleWriterKind::NoColor => 0,
         };
         let stops = judge_stops(alloc, style_writer, output, &recording)?;

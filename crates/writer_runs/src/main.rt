@@ -23,7 +23,7 @@
 #![tactic(auto)]
 
 mod direct;
-mod failing_writer;
+mod sequence_writer;
 mod failure;
 mod judging;
 mod recording;

@@ -1,6 +1,6 @@
 //! Runs into writers that stop.
 
-use crate::failing_writer::FailingWriter;
+use crate::sequence_writer::SequenceWriter;
 use crate::failure::{Failure, WriterKind};
 use crate::recording::Recording;
 use crate::rendering::Render;
@@ -87,7 +87,7 @@ fn stops_at<D: Render>(
         && recording.text().len() == length
 }
 
-/// Renders to this program's writer of styles, which fails at each style mark in turn, and returns
+/// Renders to a `SequenceWriter`, which fails at each style mark in turn, and returns
 /// the number of runs. The text itself has no escape character: each one in `whole` begins the
 /// spelling of a style mark.
 ///
@@ -118,13 +118,13 @@ pub fn judge_style_marks<D: Render>(
 /// Returns the error of a run with a writer that fails at the style mark after this many.
 fn stopped_at_style_mark(style_marks: usize) -> Failure {
     Failure::Stopped(
-        StyleWriterKind::Custom,
+        StyleWriterKind::Sequences,
         WriterKind::AtStyleMark,
         style_marks,
     )
 }
 
-/// Renders to this program's writer of styles, which fails at the style mark after this many, and
+/// Renders to a `SequenceWriter`, which fails at the style mark after this many, and
 /// returns whether these bytes have then been written, the writer below was not flushed and, if the
 /// bytes are not all, the result is `Io` and no style mark and no write followed.
 fn stops_at_style_mark<D: Render>(
@@ -140,7 +140,7 @@ fn stops_at_style_mark<D: Render>(
         && recording.text() == written
 }
 
-/// Renders to this program's writer of styles, which fails at the style mark after this many, and
+/// Renders to a `SequenceWriter`, which fails at the style mark after this many, and
 /// returns whether, if it has stopped, the result is `Io` and no style mark and no write followed.
 fn fails_at_style_mark<D: Render>(
     output: &D,
@@ -148,7 +148,7 @@ fn fails_at_style_mark<D: Render>(
     style_marks: usize,
     is_stopped: bool,
 ) -> bool {
-    let mut writer = FailingWriter::new(recording, style_marks);
+    let mut writer = SequenceWriter::new(recording, style_marks);
     let returned = output.render(&mut writer);
     is_as_expected(&returned, is_stopped)
         && writer.has_failed() == is_stopped

@@ -1,6 +1,6 @@
 //! The writers of styles between a call and a writer of bytes.
 
-use crate::failing_writer::FailingWriter;
+use crate::sequence_writer::SequenceWriter;
 use crate::failure::Failure;
 use crate::recording::Recording;
 use crate::rendering::Render;
@@ -20,8 +20,8 @@ pub enum StyleWriterKind {
     Ansi,
     /// A `StylesWriter` over `NoColor`.
     NoColor,
-    /// The writer of styles of this program.
-    Custom,
+    /// A `SequenceWriter`.
+    Sequences,
 }
 
 /// The writers of styles.
@@ -29,7 +29,7 @@ pub const STYLE_WRITERS: [StyleWriterKind; 4] = [
     StyleWriterKind::Plain,
     StyleWriterKind::Ansi,
     StyleWriterKind::NoColor,
-    StyleWriterKind::Custom,
+    StyleWriterKind::Sequences,
 ];
 
 /// Writes the name of the writer.
@@ -39,7 +39,7 @@ impl fmt::Display for StyleWriterKind {
             StyleWriterKind::Plain => "plain text",
             StyleWriterKind::Ansi => "Ansi",
             StyleWriterKind::NoColor => "NoColor",
-            StyleWriterKind::Custom => "a custom writer",
+            StyleWriterKind::Sequences => "a custom writer",
         })
     }
 }
@@ -61,13 +61,13 @@ impl StyleWriterKind {
             StyleWriterKind::Plain => output.render_plain(writer),
             StyleWriterKind::Ansi => render_in_styles(output, Ansi::new(writer)),
             StyleWriterKind::NoColor => render_in_styles(output, NoColor::new(writer)),
-            StyleWriterKind::Custom => output.render(&mut FailingWriter::new(writer, usize::MAX)),
+            StyleWriterKind::Sequences => output.render(&mut SequenceWriter::new(writer, usize::MAX)),
         }
     }
 
     /// Returns whether this writer of styles writes style marks as escape sequences.
     fn shows_style_marks(self) -> bool {
-        matches!(self, StyleWriterKind::Ansi | StyleWriterKind::Custom)
+        matches!(self, StyleWriterKind::Ansi | StyleWriterKind::Sequences)
     }
 
     /// Renders by way of this writer of styles to a writer that records, and returns the recording.
