@@ -179,22 +179,22 @@ fn old_text(alloc: Global) -> Result<String, Error> {
 /// Makes all runs of a call, and returns their number.
 fn judge_call<D: Render>(
     alloc: Global,
-    output: &D,
+    call: &D,
     text: &str,
     colors: ExpectedColors<'_>,
 ) -> Result<usize, Failure> {
     let mut runs = 0usize;
     for style_writer in STYLE_WRITERS {
-        let recording = style_writer.record(alloc, output, text)?;
+        let recording = style_writer.record(alloc, call, text)?;
         let more = match style_writer {
             StyleWriterKind::Ansi => {
-                judge_colors(output, recording.text(), colors)?;
+                judge_colors(call, recording.text(), colors)?;
                 0
             }
-            StyleWriterKind::Sequences => judge_style_marks(alloc, output, recording.text())?,
+            StyleWriterKind::Sequences => judge_style_marks(alloc, call, recording.text())?,
             StyleWriterKind::Plain | StyleWriterKind::NoColor => 0,
         };
-        let stops = judge_stops(alloc, style_writer, output, &recording)?;
+        let stops = judge_stops(alloc, style_writer, call, &recording)?;
         runs = runs.saturating_add(more).saturating_add(stops);
     }
     Ok(runs)
@@ -203,11 +203,11 @@ fn judge_call<D: Render>(
 /// Compares the text in escape sequences with what is expected, if the call writes style marks.
 /// This is no run of its own.
 fn judge_colors<D: Render>(
-    output: &D,
+    call: &D,
     bytes: &[u8],
     colors: ExpectedColors<'_>,
 ) -> Result<(), Failure> {
-    if !output.has_style_marks() || colors.is_met_by(bytes) {
+    if !call.has_style_marks() || colors.is_met_by(bytes) {
         Ok(())
     } else {
         Err(Failure::OtherColors)

@@ -45,9 +45,9 @@ impl fmt::Display for StyleWriterKind {
 }
 
 /// Renders to a `StylesWriter` over a writer of colors, in the default styles.
-fn render_in_styles<D: Render, W: WriteColor + Drop>(output: &D, writer: W) -> Result<(), Error> {
+fn render_in_styles<D: Render, W: WriteColor + Drop>(call: &D, writer: W) -> Result<(), Error> {
     let styles = Styles::default();
-    output.render(&mut StylesWriter::new(writer, &styles))
+    call.render(&mut StylesWriter::new(writer, &styles))
 }
 
 impl StyleWriterKind {
@@ -56,12 +56,12 @@ impl StyleWriterKind {
     /// # Errors
     ///
     /// Those of rendering.
-    pub fn render<D: Render, W: Write>(self, output: &D, writer: &mut W) -> Result<(), Error> {
+    pub fn render<D: Render, W: Write>(self, call: &D, writer: &mut W) -> Result<(), Error> {
         match self {
-            StyleWriterKind::Plain => output.render_plain(writer),
-            StyleWriterKind::Ansi => render_in_styles(output, Ansi::new(writer)),
-            StyleWriterKind::NoColor => render_in_styles(output, NoColor::new(writer)),
-            StyleWriterKind::Sequences => output.render(&mut SequenceWriter::new(writer, usize::MAX)),
+            StyleWriterKind::Plain => call.render_plain(writer),
+            StyleWriterKind::Ansi => render_in_styles(call, Ansi::new(writer)),
+            StyleWriterKind::NoColor => render_in_styles(call, NoColor::new(writer)),
+            StyleWriterKind::Sequences => call.render(&mut SequenceWriter::new(writer, usize::MAX)),
         }
     }
 
@@ -81,12 +81,12 @@ impl StyleWriterKind {
     pub fn record<D: Render>(
         self,
         alloc: Global,
-        output: &D,
+        call: &D,
         text: &str,
     ) -> Result<Recording, Failure> {
         let mut recording = Recording::new(alloc);
-        self.render(output, &mut recording)?;
-        let has_sequences = self.shows_style_marks() && output.has_style_marks();
+        self.render(call, &mut recording)?;
+        let has_sequences = self.shows_style_marks() && call.has_style_marks();
         let bytes = recording.text();
         let is_text = if has_sequences {
             bytes.len() > text.len()
