@@ -24,7 +24,7 @@
 
 mod direct;
 mod sequence_writer;
-mod failure;
+mod errors;
 mod judging;
 mod recording;
 mod rendering;

@@ -1,7 +1,7 @@
 //! Runs into writers that stop.
 
 use crate::sequence_writer::SequenceWriter;
-use crate::failure::{Failure, WriterKind};
+use crate::errors::{WrongRun, WriterKind};
 use crate::recording::Recording;
 use crate::rendering::Render;
 use crate::style_writers::StyleWriterKind;
@@ -32,14 +32,14 @@ pub fn judge_stops<D: Render>(
     style_writer: StyleWriterKind,
     call: &D,
     recording: &Recording,
-) -> Result<usize, Failure> {
+) -> Result<usize, WrongRun> {
     let whole = recording.text();
     let slow = Recording::stopping(alloc, 1, usize::MAX, Stop::Fails);
     if !stops_at(style_writer, call, slow, whole, whole.len()) {
-        return Err(Failure::Stopped(style_writer, WriterKind::Slow, 0));
+        return Err(WrongRun::Stopped(style_writer, WriterKind::Slow, 0));
     }
     if recording.starts.first() != Some(&0) {
-        return Err(Failure::NoFirstWrite(style_writer));
+        return Err(WrongRun::NoFirstWrite(style_writer));
     }
     let mut runs = 1usize;
     for stop in STOPS {
@@ -47,14 +47,14 @@ pub fn judge_stops<D: Render>(
             let stopping = Recording::stopping(alloc, usize::MAX, writes, stop);
             let length = written_length(stop, *start, whole.len());
             if !stops_at(style_writer, call, stopping, whole, length) {
-                return Err(Failure::Stopped(style_writer, WriterKind::AtWrite(stop), writes));
+                return Err(WrongRun::Stopped(style_writer, WriterKind::AtWrite(stop), writes));
             }
             runs = runs.saturating_add(1);
         }
         let stopping = Recording::stopping(alloc, usize::MAX, recording.starts.len(), stop);
         if !stops_at(style_writer, call, stopping, whole, whole.len()) {
             let writes = recording.starts.len();
-            return Err(Failure::Stopped(style_writer, WriterKind::AtWrite(stop), writes));
+            return Err(WrongRun::Stopped(style_writer, WriterKind::AtWrite(stop), writes));
         }
         runs = runs.saturating_add(1);
     }
@@ -98,7 +98,7 @@ pub fn judge_style_marks<D: Render>(
     alloc: Global,
     call: &D,
     whole: &[u8],
-) -> Result<usize, Failure> {
+) -> Result<usize, WrongRun> {
     let mut style_marks = 0usize;
     for (position, byte) in whole.iter().enumerate() {
         if *byte == b'\x1b' {
@@ -116,8 +116,8 @@ pub fn judge_style_marks<D: Render>(
 }
 
 /// Returns the error of a run with a writer that fails at the style mark after this many.
-fn stopped_at_style_mark(style_marks: usize) -> Failure {
-    Failure::Stopped(
+fn stopped_at_style_mark(style_marks: usize) -> WrongRun {
+    WrongRun::Stopped(
         StyleWriterKind::Sequences,
         WriterKind::AtStyleMark,
         style_marks,

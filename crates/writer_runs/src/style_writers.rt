@@ -1,7 +1,7 @@
 //! The writers of styles between a call and a writer of bytes.
 
 use crate::sequence_writer::SequenceWriter;
-use crate::failure::Failure;
+use crate::errors::WrongRun;
 use crate::recording::Recording;
 use crate::rendering::Render;
 use codespan_base::files::Error;
@@ -83,7 +83,7 @@ impl StyleWriterKind {
         alloc: Global,
         call: &D,
         text: &str,
-    ) -> Result<Recording, Failure> {
+    ) -> Result<Recording, WrongRun> {
         let mut recording = Recording::new(alloc);
         self.render(call, &mut recording)?;
         let has_sequences = self.shows_style_marks() && call.has_style_marks();
@@ -97,7 +97,7 @@ impl StyleWriterKind {
         if is_text {
             Ok(recording)
         } else {
-            Err(Failure::OtherText(self))
+            Err(WrongRun::OtherText(self))
         }
     }
 }

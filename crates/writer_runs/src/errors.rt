@@ -23,7 +23,7 @@ pub enum WriterKind {
 
 /// An error of a run.
 #[derive(Drop)]
-pub enum Failure {
+pub enum WrongRun {
     /// A call or an allocation failed, although no writer stops.
     Failed(Error),
     /// The text differs from the one that is expected.
@@ -45,13 +45,13 @@ pub enum Failure {
 
 /// An error, with the style and the call in which it occurred.
 #[derive(Drop)]
-pub struct FailureAt {
+pub struct WrongRunAt {
     /// The style; `None` for a direct call, and before any text is rendered.
     pub style: Option<DisplayStyle>,
     /// The call; `None` for a direct call, and before a call writes to a writer.
     pub call: Option<RenderCall>,
     /// The error.
-    pub failure: Failure,
+    pub wrong_run: WrongRun,
 }
 
 /// An error that ends the program.
@@ -92,9 +92,9 @@ impl fmt::Display for FatalError {
 }
 
 /// Converts an error of a call or an allocation to `Failed`.
-impl From<Error> for Failure {
-    fn from(error: Error) -> Failure {
-        Failure::Failed(error)
+impl From<Error> for WrongRun {
+    fn from(error: Error) -> WrongRun {
+        WrongRun::Failed(error)
     }
 }
 
@@ -113,16 +113,16 @@ impl fmt::Display for WriterKind {
 }
 
 /// Writes a few words.
-impl fmt::Display for Failure {
+impl fmt::Display for WrongRun {
     fn fmt<W: Write>(&self, f: &mut fmt::Formatter<W>) -> fmt::Result {
         match self {
-            Failure::Failed(error) => write!(f, "error: {error}"),
-            Failure::UnexpectedText => f.write_str("another text than expected"),
-            Failure::OtherString => f.write_str("another string"),
-            Failure::OtherText(style_writer) => write!(f, "by {style_writer}: another text"),
-            Failure::OtherColors => f.write_str("other colors than expected"),
-            Failure::NoFirstWrite(style_writer) => write!(f, "by {style_writer}: no first write"),
-            Failure::Stopped(style_writer, writer, after) => {
+            WrongRun::Failed(error) => write!(f, "error: {error}"),
+            WrongRun::UnexpectedText => f.write_str("another text than expected"),
+            WrongRun::OtherString => f.write_str("another string"),
+            WrongRun::OtherText(style_writer) => write!(f, "by {style_writer}: another text"),
+            WrongRun::OtherColors => f.write_str("other colors than expected"),
+            WrongRun::NoFirstWrite(style_writer) => write!(f, "by {style_writer}: no first write"),
+            WrongRun::Stopped(style_writer, writer, after) => {
                 write!(
                     f,
                     "by {style_writer}: wrong where a writer {writer}, after {after}"
@@ -133,7 +133,7 @@ impl fmt::Display for Failure {
 }
 
 /// Writes the error, after its style and its call.
-impl fmt::Display for FailureAt {
+impl fmt::Display for WrongRunAt {
     fn fmt<W: Write>(&self, f: &mut fmt::Formatter<W>) -> fmt::Result {
         f.write_str(match self.style {
             Some(DisplayStyle::Rich) => "rich, ",
@@ -144,7 +144,7 @@ impl fmt::Display for FailureAt {
         if let Some(call) = self.call {
             write!(f, "{call}, ")?;
         }
-        let failure = &self.failure;
-        write!(f, "{failure}")
+        let wrong_run = &self.wrong_run;
+        write!(f, "{wrong_run}")
     }
 }
