@@ -29,11 +29,11 @@ pub enum WrongRun {
     /// The text differs from the one that is expected.
     UnexpectedText,
     /// A string to which the text was appended is not its old text followed by the new one.
-    OtherString,
+    UnexpectedString,
     /// The bytes written by way of a writer of styles differ from the text.
-    OtherText(StyleWriterKind),
+    UnexpectedBytes(StyleWriterKind),
     /// The text in escape sequences differs from what is expected.
-    OtherColors,
+    UnexpectedColors,
     /// By way of a writer of styles, no write begins at the first byte, although no output is
     /// empty.
     NoFirstWrite(StyleWriterKind),
@@ -118,9 +118,9 @@ impl fmt::Display for WrongRun {
         match self {
             WrongRun::Failed(error) => write!(f, "error: {error}"),
             WrongRun::UnexpectedText => f.write_str("another text than expected"),
-            WrongRun::OtherString => f.write_str("another string"),
-            WrongRun::OtherText(style_writer) => write!(f, "by {style_writer}: another text"),
-            WrongRun::OtherColors => f.write_str("other colors than expected"),
+            WrongRun::UnexpectedString => f.write_str("another string"),
+            WrongRun::UnexpectedBytes(style_writer) => write!(f, "by {style_writer}: another text"),
+            WrongRun::UnexpectedColors => f.write_str("other colors than expected"),
             WrongRun::NoFirstWrite(style_writer) => write!(f, "by {style_writer}: no first write"),
             WrongRun::Stopped(style_writer, writer, after) => {
                 write!(

@@ -167,7 +167,7 @@ fn text_over<'files, F: Files<'files>>(
     if string.as_str().strip_prefix(OLD_TEXT) == Some(text.as_str()) {
         Ok(text)
     } else {
-        Err(WrongRun::OtherString)
+        Err(WrongRun::UnexpectedString)
     }
 }
 
@@ -210,7 +210,7 @@ fn judge_colors<D: Render>(
     if !call.has_style_marks() || colors.is_met_by(bytes) {
         Ok(())
     } else {
-        Err(WrongRun::OtherColors)
+        Err(WrongRun::UnexpectedColors)
     }
 }
 

@@ -77,7 +77,7 @@ impl StyleWriterKind {
     /// # Errors
     ///
     /// - `Failed`: rendering or an allocation fails.
-    /// - `OtherText`: what was written is not as said above.
+    /// - `UnexpectedBytes`: what was written is not as said above.
     pub fn record<D: Render>(
         self,
         alloc: Global,
@@ -97,7 +97,7 @@ impl StyleWriterKind {
         if is_text {
             Ok(recording)
         } else {
-            Err(WrongRun::OtherText(self))
+            Err(WrongRun::UnexpectedBytes(self))
         }
     }
 }
