@@ -10,9 +10,9 @@ use std::fmt::Write;
 use std::{fmt, io};
 use test_writers::stopping::Stop;
 
-/// A kind of writer of bytes, by how it stops.
+/// Where and how a run is stopped: by the writer of bytes, or by the writer of styles.
 #[derive(Clone, Copy)]
-pub enum WriterKind {
+pub enum StopKind {
     /// Never: it accepts one byte at a time.
     Slow,
     /// In this way, at a write.
@@ -40,7 +40,7 @@ pub enum WrongRun {
     /// By way of a writer of styles, with a writer that stops in this way after this many writes or
     /// style marks: the result is not the expected one (`Io` if the writer stopped, and else `Ok`),
     /// the writer does not hold exactly what it accepted, or it was called again or flushed.
-    Stopped(StyleWriterKind, WriterKind, usize),
+    UnexpectedResult(StyleWriterKind, StopKind, usize),
 }
 
 /// An error, with the style and the call in which it occurred.
@@ -99,15 +99,15 @@ impl From<Error> for WrongRun {
 }
 
 /// Writes a few words.
-impl fmt::Display for WriterKind {
+impl fmt::Display for StopKind {
     fn fmt<W: Write>(&self, f: &mut fmt::Formatter<W>) -> fmt::Result {
         f.write_str(match self {
-            WriterKind::Slow => "takes one byte at a time",
-            WriterKind::AtWrite(Stop::Fails) => "fails at a write",
-            WriterKind::AtWrite(Stop::TakesNothing) => "takes nothing of a write",
-            WriterKind::AtWrite(Stop::IsInterrupted) => "is interrupted",
-            WriterKind::AtWrite(Stop::TakesOneByte) => "takes one byte and then fails",
-            WriterKind::AtStyleMark => "fails at a style mark",
+            StopKind::Slow => "takes one byte at a time",
+            StopKind::AtWrite(Stop::Fails) => "fails at a write",
+            StopKind::AtWrite(Stop::TakesNothing) => "takes nothing of a write",
+            StopKind::AtWrite(Stop::IsInterrupted) => "is interrupted",
+            StopKind::AtWrite(Stop::TakesOneByte) => "takes one byte and then fails",
+            StopKind::AtStyleMark => "fails at a style mark",
         })
     }
 }
@@ -122,7 +122,7 @@ impl fmt::Display for WrongRun {
             WrongRun::UnexpectedBytes(style_writer) => write!(f, "by {style_writer}: another text"),
             WrongRun::UnexpectedColors => f.write_str("other colors than expected"),
             WrongRun::NoFirstWrite(style_writer) => write!(f, "by {style_writer}: no first write"),
-            WrongRun::Stopped(style_writer, writer, after) => {
+            WrongRun::UnexpectedResult(style_writer, writer, after) => {
                 write!(
                     f,
                     "by {style_writer}: wrong where a writer {writer}, after {after}"

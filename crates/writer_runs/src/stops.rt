@@ -1,7 +1,7 @@
 //! Runs into writers that stop.
 
 use crate::sequence_writer::SequenceWriter;
-use crate::errors::{WrongRun, WriterKind};
+use crate::errors::{WrongRun, StopKind};
 use crate::recording::Recording;
 use crate::rendering::Render;
 use crate::style_writers::StyleWriterKind;
@@ -25,7 +25,7 @@ pub const WRITERS: usize = STOPS.len() + 2;
 ///
 /// # Errors
 ///
-/// - `Stopped`: the first run whose result or whose writer is not as expected.
+/// - `UnexpectedResult`: the first run whose result or whose writer is not as expected.
 /// - `NoFirstWrite`: no write of `recording` begins at the first byte, although no output is empty.
 pub fn judge_stops<D: Render>(
     alloc: Global,
@@ -36,7 +36,7 @@ pub fn judge_stops<D: Render>(
     let whole = recording.text();
     let slow = Recording::stopping(alloc, 1, usize::MAX, Stop::Fails);
     if !stops_at(style_writer, call, slow, whole, whole.len()) {
-        return Err(WrongRun::Stopped(style_writer, WriterKind::Slow, 0));
+        return Err(WrongRun::UnexpectedResult(style_writer, StopKind::Slow, 0));
     }
     if recording.starts.first() != Some(&0) {
         return Err(WrongRun::NoFirstWrite(style_writer));
@@ -47,14 +47,14 @@ pub fn judge_stops<D: Render>(
             let stopping = Recording::stopping(alloc, usize::MAX, writes, stop);
             let length = written_length(stop, *start, whole.len());
             if !stops_at(style_writer, call, stopping, whole, length) {
-                return Err(WrongRun::Stopped(style_writer, WriterKind::AtWrite(stop), writes));
+                return Err(WrongRun::UnexpectedResult(style_writer, StopKind::AtWrite(stop), writes));
             }
             runs = runs.saturating_add(1);
         }
         let stopping = Recording::stopping(alloc, usize::MAX, recording.starts.len(), stop);
         if !stops_at(style_writer, call, stopping, whole, whole.len()) {
             let writes = recording.starts.len();
-            return Err(WrongRun::Stopped(style_writer, WriterKind::AtWrite(stop), writes));
+            return Err(WrongRun::UnexpectedResult(style_writer, StopKind::AtWrite(stop), writes));
         }
         runs = runs.saturating_add(1);
     }
@@ -93,7 +93,7 @@ fn stops_at<D: Render>(
 ///
 /// # Errors
 ///
-/// `Stopped`: the first run whose result or whose writer is not as expected.
+/// `UnexpectedResult`: the first run whose result or whose writer is not as expected.
 pub fn judge_style_marks<D: Render>(
     alloc: Global,
     call: &D,
@@ -117,9 +117,9 @@ pub fn judge_style_marks<D: Render>(
 
 /// Returns the error of a run with a writer that fails at the style mark after this many.
 fn stopped_at_style_mark(style_marks: usize) -> WrongRun {
-    WrongRun::Stopped(
+    WrongRun::UnexpectedResult(
         StyleWriterKind::Sequences,
-        WriterKind::AtStyleMark,
+        StopKind::AtStyleMark,
         style_marks,
     )
 }
