@@ -291,7 +291,7 @@ fn judge_recording(returned: &Result<(), Error>, recording: &Recording, output: 
         Ok(()) => judge_success(!recording.has_failed && bytes == output.as_bytes()),
         Err(Error::Io(_)) if recording.has_failed && is_prefix => Outcome::Failed,
         Err(Error::Io(_)) if recording.has_failed => Outcome::Wrong(Wrong::Changed),
-        Err(_) if recording.has_failed => Outcome::Wrong(Wrong::Failure),
+        Err(_) if recording.has_failed => Outcome::Wrong(Wrong::Error),
         Err(error) => judge_failure(error, is_prefix),
     }
 }

@@ -133,7 +133,7 @@ fn locus_of(
 fn judge_calls(alloc: Global, needed: &mut Prepared<'_>) -> Outcome {
     match render_all(alloc, needed) {
         Ok(()) => judge_results(alloc, needed),
-        Err(_) => Outcome::Wrong(Wrong::Failure),
+        Err(_) => Outcome::Wrong(Wrong::Error),
     }
 }
 
