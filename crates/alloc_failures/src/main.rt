@@ -17,7 +17,7 @@
 #![tactic(auto)]
 
 mod builders;
-mod cases;
+mod worked_outputs;
 mod clones;
 mod copying;
 mod databases;

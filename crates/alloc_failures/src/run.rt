@@ -4,7 +4,7 @@ ghost use Rattle.std.specs.Prelude.{◌≤◌};
 
 use crate::outcome::Outcome;
 use crate::rendering::RenderCall;
-use crate::subject::{NamedSubject, Subject, calls, cases, render_calls};
+use crate::subject::{NamedSubject, Subject, calls, worked_outputs, render_calls};
 use std::alloc::Global;
 use std::io;
 use std::io::Write;
@@ -44,7 +44,7 @@ fn judge_all<W: Write>(alloc: Global, stdout: &mut W) -> io::Result<bool> {
         are_done &= judge_calls(alloc, calls, stdout)?;
     }
     for (name, call) in render_calls() {
-        are_done &= judge_cases(alloc, name, *call, stdout)?;
+        are_done &= judge_worked_outputs(alloc, name, *call, stdout)?;
     }
     Ok(are_done)
 }
@@ -66,15 +66,15 @@ fn judge_calls<W: Write>(
 
 /// Judges the subjects of a call that renders, writes a line for each, and returns whether all are
 /// done.
-fn judge_cases<W: Write>(
+fn judge_worked_outputs<W: Write>(
     alloc: Global,
     call_name: &str,
     call: RenderCall,
     stdout: &mut W,
 ) -> io::Result<bool> {
     let mut are_done = true;
-    for (name, case) in cases() {
-        let outcome = Subject::Rendering(call, *case).judge(alloc);
+    for (name, worked) in worked_outputs() {
+        let outcome = Subject::Rendering(call, *worked).judge(alloc);
         writeln!(stdout, "{call_name} {name}: {outcome}")?;
         are_done &= outcome == Outcome::Done;
     }

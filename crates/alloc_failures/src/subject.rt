@@ -3,8 +3,8 @@
 use crate::builders::{
     DiagnosticCall, LabelCall, ListCall, TextCall, judge_diagnostic, judge_label,
 };
-use crate::cases::{
-    COLOURED_HEADER, Case, MAPPED_NUMBERS, MEDIUM, MISMATCHED_TYPES, MUTABLE_BORROWS, SHORT,
+use crate::worked_outputs::{
+    COLOURED_HEADER, WorkedOutput, MAPPED_NUMBERS, MEDIUM, MISMATCHED_TYPES, MUTABLE_BORROWS, SHORT,
     SURROUNDING_LINES, TWO_FILES,
 };
 use crate::clones::{CloneCall, judge_clone};
@@ -28,7 +28,7 @@ pub enum Subject {
     /// A call of a file database.
     Database(DatabaseCall),
     /// A call that renders, and what it renders.
-    Rendering(RenderCall, &'static Case<'static>),
+    Rendering(RenderCall, &'static WorkedOutput<'static>),
     /// A call of `codespan_styled` or `codespan_lsp`.
     Document(DocumentCall),
     /// The call of `codespan_native`.
@@ -155,8 +155,8 @@ static RENDER_CALLS: [(&str, RenderCall); 6] = [
     ("emit_to_string", RenderCall::EmitToString),
 ];
 
-/// The second words of the subjects named by two words, with their cases.
-static CASES: [(&str, &Case<'static>); 8] = [
+/// The second words of the subjects named by two words, with what they name.
+static WORKED_OUTPUTS: [(&str, &WorkedOutput<'static>); 8] = [
     ("mutable_borrows", &MUTABLE_BORROWS),
     ("mismatched_types", &MISMATCHED_TYPES),
     ("coloured_header", &COLOURED_HEADER),
@@ -177,9 +177,9 @@ pub fn render_calls() -> &'static [(&'static str, RenderCall)] {
     &RENDER_CALLS
 }
 
-/// Returns the second words of the subjects named by two words, with their cases.
-pub fn cases() -> &'static [(&'static str, &'static Case<'static>)] {
-    &CASES
+/// Returns the second words of the subjects named by two words, with what they name.
+pub fn worked_outputs() -> &'static [(&'static str, &'static WorkedOutput<'static>)] {
+    &WORKED_OUTPUTS
 }
 
 impl Subject {
@@ -187,9 +187,9 @@ impl Subject {
     pub fn from_arguments(args: &[String]) -> Option<Subject> {
         match args {
             [word] => call_named(word.as_str()),
-            [call, case_name] => Some(Subject::Rendering(
+            [call, worked_name] => Some(Subject::Rendering(
                 entry_named(render_calls(), call.as_str())?,
-                entry_named(cases(), case_name.as_str())?,
+                entry_named(worked_outputs(), worked_name.as_str())?,
             )),
             _ => None,
         }
@@ -202,7 +202,7 @@ impl Subject {
             Subject::Diagnostic(call) => judge_diagnostic(alloc, call),
             Subject::Clone(call) => judge_clone(alloc, call),
             Subject::Database(call) => judge_database(alloc, call),
-            Subject::Rendering(call, case) => judge_rendering(alloc, call, case),
+            Subject::Rendering(call, worked) => judge_rendering(alloc, call, worked),
             Subject::Document(call) => judge_document(alloc, call),
             Subject::Native => Ok(judge_native(alloc)),
             Subject::WithoutAlloc(extent) => judge_without_alloc(alloc, extent),
