@@ -3,7 +3,7 @@
 ghost use Rattle.std.specs.Prelude.{◌≡◌, ◌++◌, ℕ, List, IfOk, IsOk, IsErrAnd, IsErrOf, IsTrue, codes, string_bytes, false, true};
 ghost use Rattle.codespan_base.specs.Errors.{IsIo};
 
-use crate::worked_outputs::{WorkedOutput, Database};
+use crate::worked_outputs::{WorkedOutput, DatabaseKind};
 use crate::copying::Copying;
 use crate::diagnostics::diagnostic_of;
 use crate::outcome::{Outcome, Wrong, judge_failure, judge_success};
@@ -66,15 +66,15 @@ pub fn judge_rendering(alloc: Global, call: RenderCall, worked: &WorkedOutput<'_
     let config = worked.config();
     let rendering = Rendering { call, worked, config };
     match worked.database {
-        Database::Simple => judge_simple(alloc, &rendering),
-        Database::Mapped => judge_mapped(alloc, &rendering),
-        Database::Copying => judge_copying(alloc, &rendering),
+        DatabaseKind::Several => judge_several(alloc, &rendering),
+        DatabaseKind::Mapped => judge_mapped(alloc, &rendering),
+        DatabaseKind::Copying => judge_copying(alloc, &rendering),
     }
 }
 
-/// Makes a call over a file database and judges it: in escape sequences, if it writes style marks
+/// Makes a call over several files and judges it: in escape sequences, if it writes style marks
 /// and it is rendered in these.
-fn judge_simple(alloc: Global, rendering: &Rendering<'_>) -> Result<Outcome, Error> {
+fn judge_several(alloc: Global, rendering: &Rendering<'_>) -> Result<Outcome, Error> {
     let mut files = SimpleFiles::new(alloc);
     for (name, source) in rendering.worked.files {
         files.add(*name, *source)?;

@@ -5,11 +5,11 @@ use codespan_base::diagnostic::LabelStyle::{Primary, Secondary};
 use codespan_base::term::{Config, DisplayStyle};
 use std::ops::Range;
 
-/// The file database that a diagnostic is rendered over.
+/// The kind of file database that a worked output is rendered over.
 #[derive(Clone, Copy)]
-pub enum Database {
+pub enum DatabaseKind {
     /// A `SimpleFiles` of the files.
-    Simple,
+    Several,
     /// A `MappedFile` of the first file, whose third line has the number 100.
     Mapped,
     /// The first file, where each lookup of a line's range allocates.
@@ -22,7 +22,7 @@ type LabelFields<'text> = (LabelStyle, usize, Range<usize>, &'text str);
 /// A worked output: a diagnostic, its files, and the expected text.
 pub struct WorkedOutput<'text> {
     /// The file database.
-    pub database: Database,
+    pub database: DatabaseKind,
     /// The style of the configuration.
     pub display_style: DisplayStyle,
     /// How many lines are shown after the first line of a multi-line label.
@@ -49,7 +49,7 @@ pub struct WorkedOutput<'text> {
 
 /// An empty error, by the default configuration.
 const EMPTY: WorkedOutput<'static> = WorkedOutput {
-    database: Database::Simple,
+    database: DatabaseKind::Several,
     display_style: DisplayStyle::Rich,
     start_context_lines: 3,
     before_label_lines: 0,
@@ -209,7 +209,7 @@ pub const SHORT: WorkedOutput<'static> = WorkedOutput {
 
 /// A label over three lines, of which the second has the number 100.
 pub const MAPPED_NUMBERS: WorkedOutput<'static> = WorkedOutput {
-    database: Database::Mapped,
+    database: DatabaseKind::Mapped,
     files: &[("m", "a\nb\nc\nd")],
     labels: &[(Primary, 0, 2..7, "x")],
     output: "error: \n\
@@ -225,7 +225,7 @@ pub const MAPPED_NUMBERS: WorkedOutput<'static> = WorkedOutput {
 /// A label at the end of a file, with two lines of context before it, where each lookup of a line's
 /// range allocates.
 pub const SURROUNDING_LINES: WorkedOutput<'static> = WorkedOutput {
-    database: Database::Copying,
+    database: DatabaseKind::Copying,
     before_label_lines: 2,
     after_label_lines: 1,
     files: &[(
