@@ -168,7 +168,7 @@ static WORKED_OUTPUTS: [(&str, &WorkedOutput<'static>); 8] = [
 ];
 
 /// Returns the subjects named by one word.
-pub fn calls() -> [&'static [NamedSubject]; 5] {
+pub fn named_subjects() -> [&'static [NamedSubject]; 5] {
     [&BUILDERS, &CLONES, &DATABASES, &DOCUMENTS, &OTHERS]
 }
 
@@ -186,7 +186,7 @@ impl Subject {
     /// Returns the subject that the arguments name, or `None` if there is none of that name.
     pub fn from_arguments(args: &[String]) -> Option<Subject> {
         match args {
-            [word] => call_named(word.as_str()),
+            [word] => subject_named(word.as_str()),
             [call, worked_name] => Some(Subject::Rendering(
                 entry_named(render_calls(), call.as_str())?,
                 entry_named(worked_outputs(), worked_name.as_str())?,
@@ -211,9 +211,9 @@ impl Subject {
 }
 
 /// Returns the subject that a single word names, if there is one.
-fn call_named(name: &str) -> Option<Subject> {
-    for calls in &calls() {
-        if let Some(subject) = entry_named(calls, name) {
+fn subject_named(name: &str) -> Option<Subject> {
+    for subjects in &named_subjects() {
+        if let Some(subject) = entry_named(subjects, name) {
             return Some(subject);
         }
     }
