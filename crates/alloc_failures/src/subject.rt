@@ -9,7 +9,7 @@ use crate::worked_outputs::{
 };
 use crate::clones::{CloneCall, judge_clone};
 use crate::databases::{DatabaseCall, judge_database};
-use crate::documents::{DocumentCall, Format, judge_document};
+use crate::documents::{StyledOrLspCall, Format, judge_styled_or_lsp};
 use crate::native::judge_native;
 use crate::outcome::{Outcome, outcome_of};
 use crate::rendering::{RenderCall, judge_rendering};
@@ -30,7 +30,7 @@ pub enum Subject {
     /// A call that renders, and what it renders.
     Rendering(RenderCall, &'static WorkedOutput<'static>),
     /// A call of `codespan_styled` or `codespan_lsp`.
-    Document(DocumentCall),
+    StyledOrLsp(StyledOrLspCall),
     /// The call of `codespan_native`.
     Native,
     /// The calls that do not allocate.
@@ -113,25 +113,25 @@ static DATABASES: [NamedSubject; 4] = [
 ];
 
 /// The calls of `codespan_styled` and `codespan_lsp`.
-static DOCUMENTS: [NamedSubject; 7] = [
-    ("styled_text", Subject::Document(DocumentCall::StyledText)),
+static STYLED_OR_LSP: [NamedSubject; 7] = [
+    ("styled_text", Subject::StyledOrLsp(StyledOrLspCall::StyledText)),
     (
         "to_html",
-        Subject::Document(DocumentCall::Format(Format::Html)),
+        Subject::StyledOrLsp(StyledOrLspCall::Format(Format::Html)),
     ),
-    ("html_styles", Subject::Document(DocumentCall::HtmlStyles)),
+    ("html_styles", Subject::StyledOrLsp(StyledOrLspCall::HtmlStyles)),
     (
         "to_svg",
-        Subject::Document(DocumentCall::Format(Format::Svg)),
+        Subject::StyledOrLsp(StyledOrLspCall::Format(Format::Svg)),
     ),
     (
         "to_terminal",
-        Subject::Document(DocumentCall::Format(Format::Terminal)),
+        Subject::StyledOrLsp(StyledOrLspCall::Format(Format::Terminal)),
     ),
-    ("safe_text", Subject::Document(DocumentCall::SafeText)),
+    ("safe_text", Subject::StyledOrLsp(StyledOrLspCall::SafeText)),
     (
         "to_lsp_diagnostics",
-        Subject::Document(DocumentCall::ToLspDiagnostics),
+        Subject::StyledOrLsp(StyledOrLspCall::ToLspDiagnostics),
     ),
 ];
 
@@ -169,7 +169,7 @@ static WORKED_OUTPUTS: [(&str, &WorkedOutput<'static>); 8] = [
 
 /// Returns the subjects named by one word.
 pub fn named_subjects() -> [&'static [NamedSubject]; 5] {
-    [&BUILDERS, &CLONES, &DATABASES, &DOCUMENTS, &OTHERS]
+    [&BUILDERS, &CLONES, &DATABASES, &STYLED_OR_LSP, &OTHERS]
 }
 
 /// Returns the first words of the subjects named by two words, with their calls.
@@ -203,7 +203,7 @@ impl Subject {
             Subject::Clone(call) => judge_clone(alloc, call),
             Subject::Database(call) => judge_database(alloc, call),
             Subject::Rendering(call, worked) => judge_rendering(alloc, call, worked),
-            Subject::Document(call) => judge_document(alloc, call),
+            Subject::StyledOrLsp(call) => judge_styled_or_lsp(alloc, call),
             Subject::Native => Ok(judge_native(alloc)),
             Subject::WithoutAlloc(extent) => judge_without_alloc(alloc, extent),
         })
