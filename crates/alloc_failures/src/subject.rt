@@ -13,7 +13,7 @@ use crate::documents::{StyledOrLspCall, Format, judge_styled_or_lsp};
 use crate::native::judge_native;
 use crate::outcome::{Outcome, outcome_of};
 use crate::rendering::{RenderCall, judge_rendering};
-use crate::without_alloc::{Extent, judge_without_alloc};
+use crate::without_alloc::{Stage, judge_without_alloc};
 use std::alloc::Global;
 
 /// A call that is made and judged.
@@ -34,7 +34,7 @@ pub enum Subject {
     /// The call of `codespan_native`.
     Native,
     /// The calls that do not allocate.
-    WithoutAlloc(Extent),
+    WithoutAlloc(Stage),
 }
 
 /// A subject named by one word, with its name.
@@ -140,9 +140,9 @@ static OTHERS: [NamedSubject; 3] = [
     ("codespan_emit", Subject::Native),
     (
         "without_alloc_prepared",
-        Subject::WithoutAlloc(Extent::Preparation),
+        Subject::WithoutAlloc(Stage::Preparation),
     ),
-    ("without_alloc", Subject::WithoutAlloc(Extent::Calls)),
+    ("without_alloc", Subject::WithoutAlloc(Stage::Calls)),
 ];
 
 /// The first words of the subjects named by two words, with their calls.
@@ -205,7 +205,7 @@ impl Subject {
             Subject::Rendering(call, worked) => judge_rendering(alloc, call, worked),
             Subject::StyledOrLsp(call) => judge_styled_or_lsp(alloc, call),
             Subject::Native => Ok(judge_native(alloc)),
-            Subject::WithoutAlloc(extent) => judge_without_alloc(alloc, extent),
+            Subject::WithoutAlloc(stage) => judge_without_alloc(alloc, stage),
         })
     }
 }

@@ -21,9 +21,9 @@ use std::alloc::Global;
 use std::convert::AsStr;
 use std::ops::Range;
 
-/// How much of the subject is done.
+/// How far the subject goes.
 #[derive(Clone, Copy)]
-pub enum Extent {
+pub enum Stage {
     /// What the calls need is prepared, and no call is made.
     Preparation,
     /// The calls are made too.
@@ -73,11 +73,11 @@ struct Databases<'text> {
 /// # Errors
 ///
 /// `OutOfMemory` if an allocation of the preparation fails.
-pub fn judge_without_alloc(alloc: Global, extent: Extent) -> Result<Outcome, Error> {
+pub fn judge_without_alloc(alloc: Global, stage: Stage) -> Result<Outcome, Error> {
     let mut needed = prepare(alloc)?;
-    match extent {
-        Extent::Preparation => Ok(Outcome::Done),
-        Extent::Calls => Ok(judge_calls(alloc, &mut needed)),
+    match stage {
+        Stage::Preparation => Ok(Outcome::Done),
+        Stage::Calls => Ok(judge_calls(alloc, &mut needed)),
     }
 }
 
