@@ -105,7 +105,7 @@ fn judge_copying(alloc: Global, rendering: &Rendering<'_>) -> Result<Outcome, Er
     judge_call(alloc, rendering, &file, &diagnostic)
 }
 
-/// Makes a call, as plain text, and judges it. Fails if the string to append to can not be made.
+/// Makes a call, as plain text, and judges it. Fails if the string to append to cannot be made.
 fn judge_call<'files, F: Files<'files>>(
     alloc: Global,
     rendering: &Rendering<'_>,

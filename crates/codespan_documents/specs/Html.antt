@@ -21,7 +21,7 @@ is_forbidden_control c =
 abbrev pub is_noncharacter : ℕ → Bool
 is_noncharacter c = (nat_le 64976 c && nat_le c 65007) || nat_le 65534 (c % 65536)
 
--- a character as an element shows it: U+FFFD for one that HTML text can not hold
+-- a character as an element shows it: U+FFFD for one that HTML text cannot hold
 abbrev pub replaced_character : ℕ → ℕ
 replaced_character c = if is_forbidden_control c || is_noncharacter c then 65533 else c
 

@@ -14,7 +14,7 @@ use Rattle.codespan_documents.specs.Svg.{first_pen, background_tag_content, is_f
 -- ---- characters
 
 -- a character as a document shows it: four control characters by a backslash and a letter or
--- digit, and any other that XML can not hold as U+FFFD
+-- digit, and any other that XML cannot hold as U+FFFD
 abbrev pub shown_in_svg : ℕ → List ℕ
 shown_in_svg c =
     if c == 10 then 10 ∷ []

@@ -21,7 +21,7 @@ use std::alloc::{AllocError, Global};
 ///
 /// A text can neither start nor end a tag, an attribute or an entity: each of the characters `&`,
 /// `<`, `>`, `"` and `'` becomes an entity. A control character other than a tab, a newline and a
-/// form feed, and a noncharacter, which HTML text can not hold, become U+FFFD. With its tags taken
+/// form feed, and a noncharacter, which HTML text cannot hold, become U+FFFD. With its tags taken
 /// out and its entities read back the element is the text, with U+FFFD for these characters.
 ///
 /// # Errors

@@ -52,7 +52,7 @@ const FONT_AND_BACKGROUND: &str =
 ///
 /// A text can neither start nor end a tag or an entity: each of the characters `&`, `<` and `>`
 /// becomes an entity. The escape character, U+0000, the carriage return and the tab are shown as
-/// `\e`, `\0`, `\r` and `\t`, and any other character that XML can not hold as U+FFFD.
+/// `\e`, `\0`, `\r` and `\t`, and any other character that XML cannot hold as U+FFFD.
 ///
 /// # Errors
 ///
