@@ -21,7 +21,7 @@ pub enum StopKind {
     AtStyleMark,
 }
 
-/// An error of a run.
+/// What is wrong in a run.
 #[derive(Drop)]
 pub enum WrongRun {
     /// A call or an allocation failed, although no writer stops.
