@@ -1,6 +1,6 @@
-//! The diagnostics of the cases.
+//! The diagnostics of the worked outputs.
 
-use crate::cases::Case;
+use crate::worked_outputs::WorkedOutput;
 use codespan_base::diagnostic::{Diagnostic, Label};
 use codespan_base::files::Error;
 use std::alloc::Global;
@@ -13,22 +13,22 @@ use std::alloc::Global;
 /// - `OutOfMemory`: an allocation fails.
 pub fn diagnostic_of<FileId: Copy + Drop>(
     alloc: Global,
-    case: &Case<'_>,
+    worked: &WorkedOutput<'_>,
     ids: &[FileId],
 ) -> Result<Diagnostic<FileId>, Error> {
-    let mut diagnostic = header_of(alloc, case)?;
-    for (style, file, range, message) in case.labels {
+    let mut diagnostic = header_of(alloc, worked)?;
+    for (style, file, range, message) in worked.labels {
         let id = ids.get(*file).ok_or(Error::FileMissing)?;
         let label = Label::new(alloc, *style, *id, range.start..range.end);
         add_label(&mut diagnostic.labels, label, message)?;
     }
-    with_notes(diagnostic, case.notes)
+    with_notes(diagnostic, worked.notes)
 }
 
 /// Returns the diagnostic without its labels and notes.
-fn header_of<FileId: Drop>(alloc: Global, case: &Case<'_>) -> Result<Diagnostic<FileId>, Error> {
-    let diagnostic = Diagnostic::error(alloc).with_message(case.message)?;
-    match case.code {
+fn header_of<FileId: Drop>(alloc: Global, worked: &WorkedOutput<'_>) -> Result<Diagnostic<FileId>, Error> {
+    let diagnostic = Diagnostic::error(alloc).with_message(worked.message)?;
+    match worked.code {
         Some(code) => diagnostic.with_code(code),
         None => Ok(diagnostic),
     }

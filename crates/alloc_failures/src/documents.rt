@@ -20,7 +20,7 @@ use std::alloc::{AllocError, Global};
 
 /// A call of `codespan_styled` or `codespan_lsp`.
 #[derive(Clone, Copy)]
-pub enum DocumentCall {
+pub enum StyledOrLspCall {
     /// `styled_text`
     StyledText,
     /// One that writes a styled text in this format
@@ -94,19 +94,19 @@ const CSS: &str = ".diagnostic .header-bug { }\n\
 /// # Errors
 ///
 /// `OutOfMemory` if an allocation of the preparation fails.
-pub fn judge_document(alloc: Global, call: DocumentCall) -> Result<Outcome, Error> {
+pub fn judge_styled_or_lsp(alloc: Global, call: StyledOrLspCall) -> Result<Outcome, Error> {
     match call {
-        DocumentCall::StyledText => judge_styled(alloc),
-        DocumentCall::Format(format) => judge_format(alloc, format),
-        DocumentCall::HtmlStyles => {
+        StyledOrLspCall::StyledText => judge_styled(alloc),
+        StyledOrLspCall::Format(format) => judge_format(alloc, format),
+        StyledOrLspCall::HtmlStyles => {
             let returned = html_styles(alloc, &Styles::no_color());
             Ok(judge_string(&returned, CSS))
         }
-        DocumentCall::SafeText => {
+        StyledOrLspCall::SafeText => {
             let returned = with_error(safe_text(alloc, "a\u{202e}b\x1b[c"));
             Ok(judge_string(&returned, "ab[c"))
         }
-        DocumentCall::ToLspDiagnostics => judge_lsp(alloc),
+        StyledOrLspCall::ToLspDiagnostics => judge_lsp(alloc),
     }
 }
 

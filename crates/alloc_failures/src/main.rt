@@ -17,7 +17,7 @@
 #![tactic(auto)]
 
 mod builders;
-mod cases;
+mod worked_outputs;
 mod clones;
 mod copying;
 mod databases;
@@ -44,7 +44,7 @@ fn main(rt: HostRuntime) -> ExitCode {
     ExitCode::from(status)
 }
 
-/// Returns the outcome where the arguments can not be read: those that are not UTF-8 name no
+/// Returns the outcome where the arguments cannot be read: those that are not UTF-8 name no
 /// subject.
 fn unreadable_arguments(error: ArgumentsError) -> Outcome {
     match error {

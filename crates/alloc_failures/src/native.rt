@@ -112,7 +112,7 @@ pub fn judge_native(alloc: Global) -> Outcome {
     } else if outcome.status == OUT_OF_MEMORY {
         judge_unwritten(&out, outcome.written)
     } else {
-        Outcome::Wrong(Wrong::Failure)
+        Outcome::Wrong(Wrong::Error)
     }
 }
 

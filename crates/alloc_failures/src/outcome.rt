@@ -29,7 +29,7 @@ pub enum Wrong {
     /// The call returned `Ok` with another value.
     Value,
     /// The call failed with an error that it may not return.
-    Failure,
+    Error,
     /// The call failed, and something has changed.
     Changed,
 }
@@ -59,7 +59,7 @@ impl Outcome {
                 "wrong: preparing it failed, not by a failed allocation"
             }
             Outcome::Wrong(Wrong::Value) => "wrong: not the expected value",
-            Outcome::Wrong(Wrong::Failure) => "wrong: an error that the call may not return",
+            Outcome::Wrong(Wrong::Error) => "wrong: an error that the call may not return",
             Outcome::Wrong(Wrong::Changed) => "wrong: the call failed and has changed something",
         }
     }
@@ -103,7 +103,7 @@ pub fn judge_failure(error: &Error, is_unchanged: bool) -> Outcome
     match error {
         Error::OutOfMemory if is_unchanged => Outcome::Failed,
         Error::OutOfMemory => Outcome::Wrong(Wrong::Changed),
-        _ => Outcome::Wrong(Wrong::Failure),
+        _ => Outcome::Wrong(Wrong::Error),
     }
 }
 

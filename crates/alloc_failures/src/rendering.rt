@@ -1,9 +1,9 @@
-//! The views and the emit calls, each over each worked diagnostic.
+//! The views and the emit calls, each over each worked output.
 
 ghost use Rattle.std.specs.Prelude.{◌≡◌, ◌++◌, ℕ, List, IfOk, IsOk, IsErrAnd, IsErrOf, IsTrue, codes, string_bytes, false, true};
 ghost use Rattle.codespan_base.specs.Errors.{IsIo};
 
-use crate::cases::{Case, Database};
+use crate::worked_outputs::{WorkedOutput, DatabaseKind};
 use crate::copying::Copying;
 use crate::diagnostics::diagnostic_of;
 use crate::outcome::{Outcome, Wrong, judge_failure, judge_success};
@@ -51,36 +51,36 @@ const OLD_TEXT: &str = "kept";
 
 /// A call that renders, and what it renders, by this configuration.
 #[derive(Drop)]
-struct Rendering<'case> {
+struct Rendering<'worked> {
     call: RenderCall,
-    case: &'case Case<'case>,
-    config: Config<'case>,
+    worked: &'worked WorkedOutput<'worked>,
+    config: Config<'worked>,
 }
 
-/// Makes a call over a worked diagnostic and judges it.
+/// Makes a call over a worked output and judges it.
 ///
 /// # Errors
 ///
 /// An error of the preparation: `OutOfMemory` if an allocation fails.
-pub fn judge_rendering(alloc: Global, call: RenderCall, case: &Case<'_>) -> Result<Outcome, Error> {
-    let config = case.config();
-    let rendering = Rendering { call, case, config };
-    match case.database {
-        Database::Simple => judge_simple(alloc, &rendering),
-        Database::Mapped => judge_mapped(alloc, &rendering),
-        Database::Copying => judge_copying(alloc, &rendering),
+pub fn judge_rendering(alloc: Global, call: RenderCall, worked: &WorkedOutput<'_>) -> Result<Outcome, Error> {
+    let config = worked.config();
+    let rendering = Rendering { call, worked, config };
+    match worked.database {
+        DatabaseKind::Several => judge_several(alloc, &rendering),
+        DatabaseKind::Mapped => judge_mapped(alloc, &rendering),
+        DatabaseKind::Copying => judge_copying(alloc, &rendering),
     }
 }
 
-/// Makes a call over a file database and judges it: in escape sequences, if it writes style marks
-/// and the case is rendered in these.
-fn judge_simple(alloc: Global, rendering: &Rendering<'_>) -> Result<Outcome, Error> {
+/// Makes a call over several files and judges it: in escape sequences, if it writes style marks
+/// and it is rendered in these.
+fn judge_several(alloc: Global, rendering: &Rendering<'_>) -> Result<Outcome, Error> {
     let mut files = SimpleFiles::new(alloc);
-    for (name, source) in rendering.case.files {
+    for (name, source) in rendering.worked.files {
         files.add(*name, *source)?;
     }
-    let diagnostic = diagnostic_of(alloc, rendering.case, &[0, 1])?;
-    match rendering.case.colored {
+    let diagnostic = diagnostic_of(alloc, rendering.worked, &[0, 1])?;
+    match rendering.worked.colored {
         Some(output) if rendering.call.is_styled() => {
             Ok(judge_colored(alloc, rendering, output, &files, &diagnostic))
         }
@@ -90,22 +90,22 @@ fn judge_simple(alloc: Global, rendering: &Rendering<'_>) -> Result<Outcome, Err
 
 /// Makes a call over the first file, whose third line has the number 100, and judges it.
 fn judge_mapped(alloc: Global, rendering: &Rendering<'_>) -> Result<Outcome, Error> {
-    let (name, source) = rendering.case.files.first().ok_or(Error::FileMissing)?;
+    let (name, source) = rendering.worked.files.first().ok_or(Error::FileMissing)?;
     let mut file = MappedFile::new(alloc, *name, *source)?;
     file.set_line(2, 100)?;
-    let diagnostic = diagnostic_of(alloc, rendering.case, &[()])?;
+    let diagnostic = diagnostic_of(alloc, rendering.worked, &[()])?;
     judge_call(alloc, rendering, &file, &diagnostic)
 }
 
 /// Makes a call over the first file, where each lookup of a line's range allocates, and judges it.
 fn judge_copying(alloc: Global, rendering: &Rendering<'_>) -> Result<Outcome, Error> {
-    let (name, source) = rendering.case.files.first().ok_or(Error::FileMissing)?;
+    let (name, source) = rendering.worked.files.first().ok_or(Error::FileMissing)?;
     let file = Copying::new(alloc, name, source)?;
-    let diagnostic = diagnostic_of(alloc, rendering.case, &[()])?;
+    let diagnostic = diagnostic_of(alloc, rendering.worked, &[()])?;
     judge_call(alloc, rendering, &file, &diagnostic)
 }
 
-/// Makes a call, as plain text, and judges it. Fails if the string to append to can not be made.
+/// Makes a call, as plain text, and judges it. Fails if the string to append to cannot be made.
 fn judge_call<'files, F: Files<'files>>(
     alloc: Global,
     rendering: &Rendering<'_>,
@@ -115,7 +115,7 @@ fn judge_call<'files, F: Files<'files>>(
     match rendering.call {
         RenderCall::EmitIntoString => {
             let returned = emit_into_string(&rendering.config, files, diagnostic);
-            Ok(judge_string(&returned, rendering.case.output))
+            Ok(judge_string(&returned, rendering.worked.output))
         }
         RenderCall::EmitToString => {
             let string = String::from_str(alloc, OLD_TEXT)?;
@@ -136,7 +136,7 @@ fn judge_append<'files, F: Files<'files>>(
     diagnostic: &Diagnostic<F::FileId>,
 ) -> Outcome {
     let returned = emit_to_string(&mut string, &rendering.config, files, diagnostic);
-    judge_appended(&returned, string.as_str(), rendering.case.output)
+    judge_appended(&returned, string.as_str(), rendering.worked.output)
 }
 
 /// Makes a call that writes to a writer, as plain text, and judges it.
@@ -148,7 +148,7 @@ fn judge_written<'files, F: Files<'files>>(
 ) -> Outcome {
     let mut recording = Recording::new(alloc);
     let returned = render_to(&mut recording, rendering, files, diagnostic);
-    judge_recording(&returned, &recording, rendering.case.output)
+    judge_recording(&returned, &recording, rendering.worked.output)
 }
 
 /// Makes a call that writes style marks to a writer, in escape sequences, and judges it.
@@ -291,7 +291,7 @@ fn judge_recording(returned: &Result<(), Error>, recording: &Recording, output: 
         Ok(()) => judge_success(!recording.has_failed && bytes == output.as_bytes()),
         Err(Error::Io(_)) if recording.has_failed && is_prefix => Outcome::Failed,
         Err(Error::Io(_)) if recording.has_failed => Outcome::Wrong(Wrong::Changed),
-        Err(_) if recording.has_failed => Outcome::Wrong(Wrong::Failure),
+        Err(_) if recording.has_failed => Outcome::Wrong(Wrong::Error),
         Err(error) => judge_failure(error, is_prefix),
     }
 }

@@ -4,7 +4,7 @@ ghost use Rattle.std.specs.Prelude.{◌≤◌};
 
 use crate::outcome::Outcome;
 use crate::rendering::RenderCall;
-use crate::subject::{NamedSubject, Subject, calls, cases, render_calls};
+use crate::subject::{NamedSubject, Subject, named_subjects, worked_outputs, render_calls};
 use std::alloc::Global;
 use std::io;
 use std::io::Write;
@@ -40,23 +40,23 @@ pub fn conclude<W: Write>(outcome: Outcome, stdout: &mut W) -> u8
 /// Judges all subjects, writes a line for each, and returns whether all are done.
 fn judge_all<W: Write>(alloc: Global, stdout: &mut W) -> io::Result<bool> {
     let mut are_done = true;
-    for calls in &calls() {
-        are_done &= judge_calls(alloc, calls, stdout)?;
+    for subjects in &named_subjects() {
+        are_done &= judge_subjects(alloc, subjects, stdout)?;
     }
     for (name, call) in render_calls() {
-        are_done &= judge_cases(alloc, name, *call, stdout)?;
+        are_done &= judge_worked_outputs(alloc, name, *call, stdout)?;
     }
     Ok(are_done)
 }
 
 /// Judges subjects named by one word, writes a line for each, and returns whether all are done.
-fn judge_calls<W: Write>(
+fn judge_subjects<W: Write>(
     alloc: Global,
-    calls: &[NamedSubject],
+    subjects: &[NamedSubject],
     stdout: &mut W,
 ) -> io::Result<bool> {
     let mut are_done = true;
-    for (name, subject) in calls {
+    for (name, subject) in subjects {
         let outcome = subject.judge(alloc);
         writeln!(stdout, "{name}: {outcome}")?;
         are_done &= outcome == Outcome::Done;
@@ -66,15 +66,15 @@ fn judge_calls<W: Write>(
 
 /// Judges the subjects of a call that renders, writes a line for each, and returns whether all are
 /// done.
-fn judge_cases<W: Write>(
+fn judge_worked_outputs<W: Write>(
     alloc: Global,
     call_name: &str,
     call: RenderCall,
     stdout: &mut W,
 ) -> io::Result<bool> {
     let mut are_done = true;
-    for (name, case) in cases() {
-        let outcome = Subject::Rendering(call, *case).judge(alloc);
+    for (name, worked) in worked_outputs() {
+        let outcome = Subject::Rendering(call, *worked).judge(alloc);
         writeln!(stdout, "{call_name} {name}: {outcome}")?;
         are_done &= outcome == Outcome::Done;
     }

@@ -3,17 +3,17 @@
 use crate::builders::{
     DiagnosticCall, LabelCall, ListCall, TextCall, judge_diagnostic, judge_label,
 };
-use crate::cases::{
-    COLOURED_HEADER, Case, MAPPED_NUMBERS, MEDIUM, MISMATCHED_TYPES, MUTABLE_BORROWS, SHORT,
+use crate::worked_outputs::{
+    COLOURED_HEADER, WorkedOutput, MAPPED_NUMBERS, MEDIUM, MISMATCHED_TYPES, MUTABLE_BORROWS, SHORT,
     SURROUNDING_LINES, TWO_FILES,
 };
 use crate::clones::{CloneCall, judge_clone};
 use crate::databases::{DatabaseCall, judge_database};
-use crate::documents::{DocumentCall, Format, judge_document};
+use crate::documents::{StyledOrLspCall, Format, judge_styled_or_lsp};
 use crate::native::judge_native;
 use crate::outcome::{Outcome, outcome_of};
 use crate::rendering::{RenderCall, judge_rendering};
-use crate::without_alloc::{Extent, judge_without_alloc};
+use crate::without_alloc::{Stage, judge_without_alloc};
 use std::alloc::Global;
 
 /// A call that is made and judged.
@@ -28,13 +28,13 @@ pub enum Subject {
     /// A call of a file database.
     Database(DatabaseCall),
     /// A call that renders, and what it renders.
-    Rendering(RenderCall, &'static Case<'static>),
+    Rendering(RenderCall, &'static WorkedOutput<'static>),
     /// A call of `codespan_styled` or `codespan_lsp`.
-    Document(DocumentCall),
+    StyledOrLsp(StyledOrLspCall),
     /// The call of `codespan_native`.
     Native,
     /// The calls that do not allocate.
-    WithoutAlloc(Extent),
+    WithoutAlloc(Stage),
 }
 
 /// A subject named by one word, with its name.
@@ -113,25 +113,25 @@ static DATABASES: [NamedSubject; 4] = [
 ];
 
 /// The calls of `codespan_styled` and `codespan_lsp`.
-static DOCUMENTS: [NamedSubject; 7] = [
-    ("styled_text", Subject::Document(DocumentCall::StyledText)),
+static STYLED_OR_LSP: [NamedSubject; 7] = [
+    ("styled_text", Subject::StyledOrLsp(StyledOrLspCall::StyledText)),
     (
         "to_html",
-        Subject::Document(DocumentCall::Format(Format::Html)),
+        Subject::StyledOrLsp(StyledOrLspCall::Format(Format::Html)),
     ),
-    ("html_styles", Subject::Document(DocumentCall::HtmlStyles)),
+    ("html_styles", Subject::StyledOrLsp(StyledOrLspCall::HtmlStyles)),
     (
         "to_svg",
-        Subject::Document(DocumentCall::Format(Format::Svg)),
+        Subject::StyledOrLsp(StyledOrLspCall::Format(Format::Svg)),
     ),
     (
         "to_terminal",
-        Subject::Document(DocumentCall::Format(Format::Terminal)),
+        Subject::StyledOrLsp(StyledOrLspCall::Format(Format::Terminal)),
     ),
-    ("safe_text", Subject::Document(DocumentCall::SafeText)),
+    ("safe_text", Subject::StyledOrLsp(StyledOrLspCall::SafeText)),
     (
         "to_lsp_diagnostics",
-        Subject::Document(DocumentCall::ToLspDiagnostics),
+        Subject::StyledOrLsp(StyledOrLspCall::ToLspDiagnostics),
     ),
 ];
 
@@ -140,9 +140,9 @@ static OTHERS: [NamedSubject; 3] = [
     ("codespan_emit", Subject::Native),
     (
         "without_alloc_prepared",
-        Subject::WithoutAlloc(Extent::Preparation),
+        Subject::WithoutAlloc(Stage::Preparation),
     ),
-    ("without_alloc", Subject::WithoutAlloc(Extent::Calls)),
+    ("without_alloc", Subject::WithoutAlloc(Stage::Calls)),
 ];
 
 /// The first words of the subjects named by two words, with their calls.
@@ -155,8 +155,8 @@ static RENDER_CALLS: [(&str, RenderCall); 6] = [
     ("emit_to_string", RenderCall::EmitToString),
 ];
 
-/// The second words of the subjects named by two words, with their cases.
-static CASES: [(&str, &Case<'static>); 8] = [
+/// The second words of the subjects named by two words, with what they name.
+static WORKED_OUTPUTS: [(&str, &WorkedOutput<'static>); 8] = [
     ("mutable_borrows", &MUTABLE_BORROWS),
     ("mismatched_types", &MISMATCHED_TYPES),
     ("coloured_header", &COLOURED_HEADER),
@@ -168,8 +168,8 @@ static CASES: [(&str, &Case<'static>); 8] = [
 ];
 
 /// Returns the subjects named by one word.
-pub fn calls() -> [&'static [NamedSubject]; 5] {
-    [&BUILDERS, &CLONES, &DATABASES, &DOCUMENTS, &OTHERS]
+pub fn named_subjects() -> [&'static [NamedSubject]; 5] {
+    [&BUILDERS, &CLONES, &DATABASES, &STYLED_OR_LSP, &OTHERS]
 }
 
 /// Returns the first words of the subjects named by two words, with their calls.
@@ -177,19 +177,19 @@ pub fn render_calls() -> &'static [(&'static str, RenderCall)] {
     &RENDER_CALLS
 }
 
-/// Returns the second words of the subjects named by two words, with their cases.
-pub fn cases() -> &'static [(&'static str, &'static Case<'static>)] {
-    &CASES
+/// Returns the second words of the subjects named by two words, with what they name.
+pub fn worked_outputs() -> &'static [(&'static str, &'static WorkedOutput<'static>)] {
+    &WORKED_OUTPUTS
 }
 
 impl Subject {
     /// Returns the subject that the arguments name, or `None` if there is none of that name.
     pub fn from_arguments(args: &[String]) -> Option<Subject> {
         match args {
-            [word] => call_named(word.as_str()),
-            [call, case_name] => Some(Subject::Rendering(
+            [word] => subject_named(word.as_str()),
+            [call, worked_name] => Some(Subject::Rendering(
                 entry_named(render_calls(), call.as_str())?,
-                entry_named(cases(), case_name.as_str())?,
+                entry_named(worked_outputs(), worked_name.as_str())?,
             )),
             _ => None,
         }
@@ -202,18 +202,18 @@ impl Subject {
             Subject::Diagnostic(call) => judge_diagnostic(alloc, call),
             Subject::Clone(call) => judge_clone(alloc, call),
             Subject::Database(call) => judge_database(alloc, call),
-            Subject::Rendering(call, case) => judge_rendering(alloc, call, case),
-            Subject::Document(call) => judge_document(alloc, call),
+            Subject::Rendering(call, worked) => judge_rendering(alloc, call, worked),
+            Subject::StyledOrLsp(call) => judge_styled_or_lsp(alloc, call),
             Subject::Native => Ok(judge_native(alloc)),
-            Subject::WithoutAlloc(extent) => judge_without_alloc(alloc, extent),
+            Subject::WithoutAlloc(stage) => judge_without_alloc(alloc, stage),
         })
     }
 }
 
 /// Returns the subject that a single word names, if there is one.
-fn call_named(name: &str) -> Option<Subject> {
-    for calls in &calls() {
-        if let Some(subject) = entry_named(calls, name) {
+fn subject_named(name: &str) -> Option<Subject> {
+    for subjects in &named_subjects() {
+        if let Some(subject) = entry_named(subjects, name) {
             return Some(subject);
         }
     }

@@ -21,9 +21,9 @@ use std::alloc::Global;
 use std::convert::AsStr;
 use std::ops::Range;
 
-/// How much of the subject is done.
+/// How far the subject goes.
 #[derive(Clone, Copy)]
-pub enum Extent {
+pub enum Stage {
     /// What the calls need is prepared, and no call is made.
     Preparation,
     /// The calls are made too.
@@ -39,9 +39,9 @@ struct Prepared<'text> {
     /// What the calls write to.
     recordings: Recordings,
     /// The locus of the snippet's start.
-    start: Locus,
+    snippet_locus: Locus,
     /// The locus of the header.
-    row_locus: Locus,
+    header_locus: Locus,
     /// The file databases.
     databases: Databases<'text>,
 }
@@ -73,11 +73,11 @@ struct Databases<'text> {
 /// # Errors
 ///
 /// `OutOfMemory` if an allocation of the preparation fails.
-pub fn judge_without_alloc(alloc: Global, extent: Extent) -> Result<Outcome, Error> {
+pub fn judge_without_alloc(alloc: Global, stage: Stage) -> Result<Outcome, Error> {
     let mut needed = prepare(alloc)?;
-    match extent {
-        Extent::Preparation => Ok(Outcome::Done),
-        Extent::Calls => Ok(judge_calls(alloc, &mut needed)),
+    match stage {
+        Stage::Preparation => Ok(Outcome::Done),
+        Stage::Calls => Ok(judge_calls(alloc, &mut needed)),
     }
 }
 
@@ -85,8 +85,8 @@ pub fn judge_without_alloc(alloc: Global, extent: Extent) -> Result<Outcome, Err
 fn prepare<'text>(alloc: Global) -> Result<Prepared<'text>, Error> {
     Ok(Prepared {
         recordings: prepare_recordings(alloc)?,
-        start: locus_of(alloc, "f", 1, 1)?,
-        row_locus: locus_of(alloc, "Test.fun", 4, 11)?,
+        snippet_locus: locus_of(alloc, "f", 1, 1)?,
+        header_locus: locus_of(alloc, "Test.fun", 4, 11)?,
         databases: prepare_databases(alloc)?,
     })
 }
@@ -133,7 +133,7 @@ fn locus_of(
 fn judge_calls(alloc: Global, needed: &mut Prepared<'_>) -> Outcome {
     match render_all(alloc, needed) {
         Ok(()) => judge_results(alloc, needed),
-        Err(_) => Outcome::Wrong(Wrong::Failure),
+        Err(_) => Outcome::Wrong(Wrong::Error),
     }
 }
 
@@ -144,7 +144,7 @@ fn judge_calls(alloc: Global, needed: &mut Prepared<'_>) -> Outcome {
 /// The error of the first call that fails, and `FormatError` if lanes are not in order.
 fn render_all(alloc: Global, needed: &mut Prepared<'_>) -> Result<(), Error> {
     let recordings = &mut needed.recordings;
-    render_rows(&mut recordings.rows, &needed.start, &needed.row_locus)?;
+    render_rows(&mut recordings.rows, &needed.snippet_locus, &needed.header_locus)?;
     render_colored(&mut recordings.colored)?;
     render_bug(alloc, &mut recordings.bug, &needed.databases.files)
 }

@@ -15,8 +15,8 @@ use Rattle.codespan_base.specs.declared.diagnostic.Severity.TheVariants.{Bug, Er
 use Rattle.codespan_documents.specs.declared.style.Style.{Style}
 use Rattle.codespan_documents.specs.declared.style.Style.TheVariants.{Plain, Header, HeaderMessage, LineNumber, NoteBullet, SourceBorder, Label}
 use Rattle.codespan_documents.specs.declared.text.Run.{Run}
-use Rattle.codespan_documents.specs.Html.{html_character, html_element, html_run, html_text, is_forbidden_control, is_noncharacter, replaced_character, shown_text, span_tag_content}
-use Rattle.codespan_documents.specs.HtmlReading.{InEntity, InTag, InText, Token, Tag, TextByte, element_tokens, html_tokens, tokens_from, run_tokens, text_of_html, text_of_tokens, text_tokens, without_newline}
+use Rattle.codespan_documents.specs.Html.{html_character, html_element, html_run, escaped_text, is_forbidden_control, is_noncharacter, replaced_character, shown_text, span_tag_content}
+use Rattle.codespan_documents.specs.HtmlReading.{InEntity, InTag, InText, Token, Tag, TextByte, element_tokens, read_tokens, tokens_from, run_tokens, text_of_html, text_of_tokens, text_tokens, without_newline}
 use Rattle.codespan_documents.specs.Runs.{RunView, is_plain, joined, run_view}
 
 -- ---- bytes of text
@@ -112,7 +112,7 @@ characters-read (c ∷ cs) rest =
 
 -- a text
 text-read : (text rest : List ℕ)
-    → tokens_from InText (html_text text ++ rest) ≡ text_tokens text ++ tokens_from InText rest
+    → tokens_from InText (escaped_text text ++ rest) ≡ text_tokens text ++ tokens_from InText rest
 text-read text rest = characters-read (chars text) rest
 
 -- ---- runs
@@ -120,10 +120,10 @@ text-read text rest = characters-read (chars text) rest
 -- a text and the tag that ends its run
 ended-read : (text rest : List ℕ)
     → tokens_from InText
-    ((html_text text ++ codes "</span>") ++ rest) ≡ (text_tokens text ++ Tag (codes "/span") ∷ [])
+    ((escaped_text text ++ codes "</span>") ++ rest) ≡ (text_tokens text ++ Tag (codes "/span") ∷ [])
     ++ tokens_from InText rest
 ended-read text rest =
-    ap (tokens_from InText) (append_assoc (html_text text) (codes "</span>") rest)
+    ap (tokens_from InText) (append_assoc (escaped_text text) (codes "</span>") rest)
     ∙ text-read text (codes "</span>" ++ rest)
     ∙ sym (append_assoc (text_tokens text) (Tag (codes "/span") ∷ []) (tokens_from InText rest))
 
@@ -186,7 +186,7 @@ runs-read (run ∷ runs) rest =
     ∙ sym (append_assoc (run_tokens run) (flat_map run_tokens runs) (tokens_from InText rest))
 
 -- the element of runs reads back
-pub element-read : (runs : List RunView) → html_tokens (html_element runs) ≡ element_tokens runs
+pub element-read : (runs : List RunView) → read_tokens (html_element runs) ≡ element_tokens runs
 element-read runs =
     ap (λ (tokens : List Token). Tag (codes "pre class=\"diagnostic\"") ∷ TextByte 10 ∷ tokens)
     (runs-read runs (codes "</pre>"))

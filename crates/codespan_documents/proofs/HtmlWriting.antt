@@ -6,21 +6,21 @@ use Rattle.std.specs.List.{flat_map}
 use Rattle.std.specs.Str.{IsUtf8}
 use Rattle.std.proofs.lemmas.Str.{chars-nil, chars_past_char}
 use Rattle.codespan_documents.specs.declared.text.Run.{Run}
-use Rattle.codespan_documents.specs.Html.{html_character, html_element, html_run, html_text, style_class}
+use Rattle.codespan_documents.specs.Html.{html_character, html_element, html_run, escaped_text, style_class}
 use Rattle.codespan_documents.specs.Runs.{is_plain, run_view}
 
 -- a character of the text that is left
 pub text-more : (front next whole rest more : List ℕ) (c : ℕ) → IsUtf8 rest
     → rest ≡ encode_utf8 c ++ more → next ≡ front ++ html_character c
-    → front ++ html_text rest ≡ whole
-    → next ++ html_text more ≡ whole
+    → front ++ escaped_text rest ≡ whole
+    → next ++ escaped_text more ≡ whole
 text-more front next whole rest more c u e is before =
-    ap (λ f. f ++ html_text more) is ∙ append_assoc front (html_character c) (html_text more)
+    ap (λ f. f ++ escaped_text more) is ∙ append_assoc front (html_character c) (escaped_text more)
     ∙ ap (λ cs. front ++ flat_map html_character cs) (sym (chars_past_char rest more c u e))
     ∙ before
 
 -- no text is left
-pub text-end : (front whole rest : List ℕ) → length rest ≡ 0 → front ++ html_text rest ≡ whole
+pub text-end : (front whole rest : List ℕ) → length rest ≡ 0 → front ++ escaped_text rest ≡ whole
     → front ≡ whole
 text-end front whole [] none before =
     sym (append-nil front) ∙ ap (λ cs. front ++ flat_map html_character cs) (sym chars-nil) ∙ before
@@ -29,7 +29,7 @@ text-end front whole (b ∷ rest) none before = absurd (omega arith)
 -- a run between its tags
 pub run-written : (run : Run) (front b1 b2 b3 b4 b5 class : List ℕ) → is_plain run.style ≡ false
     → b1 ≡ front ++ codes "<span class=\"" → class ≡ style_class run.style → b2 ≡ b1 ++ class
-    → b3 ≡ b2 ++ codes "\">" → b4 ≡ b3 ++ html_text (string_bytes run.text)
+    → b3 ≡ b2 ++ codes "\">" → b4 ≡ b3 ++ escaped_text (string_bytes run.text)
     → b5 ≡ b4 ++ codes "</span>" → b5 ≡ front ++ html_run (run_view run)
 run-written run front b1 b2 b3 b4 b5 class styled e1 named e2 e3 e4 e5 =
     rw (e5, e4, e3, e2, named, e1, styled) (simp append_assoc)

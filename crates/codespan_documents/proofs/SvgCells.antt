@@ -56,7 +56,7 @@ one_ink x y e =
     ap (λ (color : Option Color). inked color y.bold) (one_color x.color y.color same.0)
     ∙ ap (λ (bold : Bool). inked x.color bold) (one_weight x.bold y.bold same.1)
 
--- glyphs of one text have one ink
+-- glyphs of one `text` element have one ink
 joined_inks : (glyph next : Glyph) → joins glyph next ≡ true → next.ink ≡ glyph.ink
 joined_inks glyph next e =
     one_ink glyph.ink next.ink

@@ -14,7 +14,7 @@ use Rattle.codespan_documents.specs.SvgReading.{Piece, RowEnd, Text, joined_glyp
 
 -- ---- glyph by glyph
 
--- the tag that ends a text
+-- the tag that ends a `text` element
 abbrev pub end_tag : List Token
 end_tag = Tag (codes "/text") ∷ []
 
@@ -79,7 +79,7 @@ joined_width glyph (next ∷ others) =
 
 -- ---- tokens
 
--- the tokens of a text from a glyph on
+-- the tokens of a `text` element from a glyph on
 abbrev text_tokens : Glyph → List Glyph → List Token
 text_tokens glyph others = map TextByte (shown_glyphs (glyph ∷ others)) ++ end_tag
 
@@ -89,7 +89,7 @@ tokens_left before [] = []
 tokens_left before (glyph ∷ glyphs) =
     if follows before glyph then text_tokens glyph (joined_glyphs glyph glyphs) else []
 
--- a text ends, or goes on
+-- a `text` element ends, or goes on
 ended_tokens : (glyph : Glyph) (others : List Glyph)
     → (if joins_next glyph others then [] else end_tag) ++ tokens_left (Some glyph) others ≡ map
     TextByte (shown_glyphs (joined_glyphs glyph others)) ++ end_tag
@@ -110,7 +110,7 @@ regrouped shown ended left joined rest e =
     ∙ sym (append_assoc shown (joined ++ end_tag) rest)
     ∙ ap (λ (tokens : List Token). tokens ++ rest) (sym (append_assoc shown joined end_tag))
 
--- glyphs are read as the rest of a text, and then as their pieces
+-- glyphs are read as the rest of a `text` element, and then as their pieces
 tokens_by_pieces : (pen : Pen) (glyphs : List Glyph)
     → tokens_of_glyphs pen glyphs ≡ tokens_left pen.before glyphs ++ flat_map piece_tokens
     (pieces_from pen glyphs)

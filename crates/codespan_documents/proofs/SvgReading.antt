@@ -10,10 +10,10 @@ use Rattle.codespan_documents.specs.declared.svg.glyph.Glyph.{Glyph}
 use Rattle.codespan_documents.specs.declared.svg.ink.Ink.{Ink}
 use Rattle.codespan_documents.specs.declared.svg.Pen.{Pen}
 use Rattle.codespan_documents.specs.Glyphs.{cells_of, extent_from, follows, glyphs_of, glyphs_of_run, joins_next, is_newline_glyph, joined_cells, start}
-use Rattle.codespan_documents.specs.HtmlReading.{InText, Token, Tag, TextByte, html_tokens, tokens_from, text_of_tokens}
+use Rattle.codespan_documents.specs.HtmlReading.{InText, Token, Tag, TextByte, read_tokens, tokens_from, text_of_tokens}
 use Rattle.codespan_documents.specs.Runs.{RunView, run_characters}
 use Rattle.codespan_documents.specs.Svg.{first_pen, glyph_text, background_tag_content, next_pen, svg_document, svg_tag_content, text_tag_content, text_tag, texts_from, xml_character}
-use Rattle.codespan_documents.specs.SvgReading.{piece_tokens, pieces_from, svg_tokens, shown_in_svg, svg_text}
+use Rattle.codespan_documents.specs.SvgReading.{piece_tokens, pieces_from, svg_tokens, shown_in_svg, shown_svg_text}
 use Rattle.codespan_documents.proofs.HtmlReading.{text_of-append, text_of-bytes}
 use Rattle.codespan_documents.proofs.SvgPieces.{glyph_tokens, tokens_of_glyphs, tokens_of_pieces, two_ifs}
 use Rattle.codespan_documents.proofs.SvgElements.{is_inside, text-inside, svg-inside, tag-read, character-read}
@@ -100,7 +100,7 @@ regrouped : (lt head gt line background end texts last : List ℕ)
 regrouped lt head gt line background end texts last = simp append_assoc
 
 -- the document of glyphs reads back
-pub svg-read : (glyphs : List Glyph) → html_tokens (svg_document glyphs) ≡ svg_tokens glyphs
+pub svg-read : (glyphs : List Glyph) → read_tokens (svg_document glyphs) ≡ svg_tokens glyphs
 unfolding background_tag_content
 svg-read glyphs =
     let head = svg_tag_content (extent_from start glyphs) in
@@ -116,7 +116,7 @@ svg-read glyphs =
     glyphs-read first_pen glyphs last
     ∙ ap (λ (tokens : List Token). tokens ++ tokens_from InText last)
     (tokens_of_pieces glyphs) in
-    ap html_tokens whole
+    ap read_tokens whole
     ∙ tag-read head (codes "\n<" ++ background_tag_content ++ codes ">\n" ++ (texts ++ last))
     (svg-inside (extent_from start glyphs))
     ∙ ap
@@ -193,9 +193,9 @@ characters-are styles (run ∷ runs) =
     ∙ ap (λ cs. chars run.text ++ cs) (characters-are styles runs)
 
 -- the text of a document is that of its runs
-pub svg-text : (styles : Styles) (runs : List RunView)
-    → text_of_tokens (html_tokens (svg_document (glyphs_of styles runs))) ≡ svg_text runs
-svg-text styles runs =
+pub shown-svg-text : (styles : Styles) (runs : List RunView)
+    → text_of_tokens (read_tokens (svg_document (glyphs_of styles runs))) ≡ shown_svg_text runs
+shown-svg-text styles runs =
     let glyphs = glyphs_of styles runs in
     let last = Tag (codes "/svg") ∷ TextByte 10 ∷ [] in
     ap text_of_tokens (svg-read glyphs)

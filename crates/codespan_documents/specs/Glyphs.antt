@@ -53,28 +53,28 @@ extent_from position (glyph ∷ glyphs) =
     let rest = extent_from (after_glyph position glyph) glyphs in
     record { row = rest.row; column = max position.column rest.column }
 
--- ---- glyphs of one text
+-- ---- glyphs of one `text` element
 
 -- the glyph occupies at most one cell and is no newline
 abbrev pub is_narrow : Glyph → Bool
 is_narrow glyph = not (is_newline_glyph glyph) && nat_le (cells_of glyph) 1
 
--- the glyph belongs to the text of the one before it: both are narrow, in one ink
+-- the glyph belongs to the `text` element of the one before it: both are narrow, in one ink
 abbrev pub joins : Glyph → Glyph → Bool
 joins before glyph =
     is_narrow before && is_narrow glyph && same_ink before.ink glyph.ink
 
--- the glyph belongs to the text of the one before it, if there is one
+-- the glyph belongs to the `text` element of the one before it, if there is one
 abbrev pub follows : Option Glyph → Glyph → Bool
 follows None glyph = false
 follows (Some before) glyph = joins before glyph
 
--- the first of the glyphs after it belongs to the text of the glyph
+-- the first of the glyphs after it belongs to the `text` element of the glyph
 abbrev pub joins_next : Glyph → List Glyph → Bool
 joins_next glyph [] = false
 joins_next glyph (next ∷ glyphs) = joins glyph next
 
--- the number of cells of the glyphs that follow this one in its text
+-- the number of cells of the glyphs that follow this one in its `text` element
 abbrev pub joined_cells : Glyph → List Glyph → ℕ
 joined_cells before [] = 0
 joined_cells before (glyph ∷ glyphs) =

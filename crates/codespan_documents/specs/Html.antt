@@ -21,7 +21,7 @@ is_forbidden_control c =
 abbrev pub is_noncharacter : ℕ → Bool
 is_noncharacter c = (nat_le 64976 c && nat_le c 65007) || nat_le 65534 (c % 65536)
 
--- a character as an element shows it: U+FFFD for one that HTML text can not hold
+-- a character as an element shows it: U+FFFD for one that HTML text cannot hold
 abbrev pub replaced_character : ℕ → ℕ
 replaced_character c = if is_forbidden_control c || is_noncharacter c then 65533 else c
 
@@ -40,9 +40,9 @@ html_character c =
     else if c == 39 then codes "&#39;"
     else encode_utf8 (replaced_character c)
 
--- a text in an element
-abbrev pub html_text : List ℕ → List ℕ
-html_text text = flat_map html_character (chars text)
+-- a text in an element, escaped
+abbrev pub escaped_text : List ℕ → List ℕ
+escaped_text text = flat_map html_character (chars text)
 
 -- ---- classes
 
@@ -74,8 +74,8 @@ span_tag_content style = codes "span class=\"" ++ style_class style ++ codes "\"
 -- a run: a plain one as its text, any other between two tags
 abbrev pub html_run : RunView → List ℕ
 html_run run =
-    if is_plain run.style then html_text run.text
-    else codes "<" ++ span_tag_content run.style ++ codes ">" ++ html_text run.text
+    if is_plain run.style then escaped_text run.text
+    else codes "<" ++ span_tag_content run.style ++ codes ">" ++ escaped_text run.text
     ++ codes "</span>"
 
 -- the element of runs; HTML does not show the newline after the first tag

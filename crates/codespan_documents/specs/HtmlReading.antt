@@ -40,9 +40,9 @@ tokens_from (InEntity name) (b ∷ bs) =
     if b == 59 then map TextByte (entity_text name) ++ tokens_from InText bs
     else tokens_from (InEntity (name ++ b ∷ [])) bs
 
--- the tokens of an element
-abbrev pub html_tokens : List ℕ → List Token
-html_tokens element = tokens_from InText element
+-- the tokens that a reader finds in bytes
+abbrev pub read_tokens : List ℕ → List Token
+read_tokens element = tokens_from InText element
 
 -- the text of tokens
 abbrev pub text_of_tokens : List Token → List ℕ
@@ -57,7 +57,7 @@ without_newline (b ∷ text) = if b == 10 then text else b ∷ text
 
 -- the text of an element that begins with the tag of a `pre`: tags taken out, entities read back
 abbrev pub text_of_html : List ℕ → List ℕ
-text_of_html element = without_newline (text_of_tokens (html_tokens element))
+text_of_html element = without_newline (text_of_tokens (read_tokens element))
 
 -- ---- the tokens of the element of runs
 

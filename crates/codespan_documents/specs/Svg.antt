@@ -83,8 +83,8 @@ first_pen = record { position = start; before = None }
 abbrev pub next_pen : Pen → Glyph → Pen
 next_pen pen glyph = record { position = after_glyph pen.position glyph; before = Some glyph }
 
--- a glyph before others: a newline ends a row; any other is part of one text with those that it
--- joins, between the tags of the text
+-- a glyph before others: a newline ends a row; any other is part of one `text` element with those
+-- that it joins
 abbrev pub glyph_text : Pen → Glyph → List Glyph → List ℕ
 glyph_text pen glyph others =
     if is_newline_glyph glyph then codes "\n"

@@ -14,7 +14,7 @@ use Rattle.codespan_documents.specs.Svg.{first_pen, background_tag_content, is_f
 -- ---- characters
 
 -- a character as a document shows it: four control characters by a backslash and a letter or
--- digit, and any other that XML can not hold as U+FFFD
+-- digit, and any other that XML cannot hold as U+FFFD
 abbrev pub shown_in_svg : ℕ → List ℕ
 shown_in_svg c =
     if c == 10 then 10 ∷ []
@@ -29,19 +29,19 @@ shown_in_svg c =
 abbrev pub shown_glyphs : List Glyph → List ℕ
 shown_glyphs glyphs = flat_map (λ (glyph : Glyph). shown_in_svg glyph.character) glyphs
 
--- the text of a document of runs: theirs, after two line ends of its head and before one
-abbrev pub svg_text : List RunView → List ℕ
-svg_text runs = 10 ∷ 10 ∷ flat_map shown_in_svg (run_characters runs) ++ 10 ∷ []
+-- what a document of runs shows: their text, after two line ends of its head and before one
+abbrev pub shown_svg_text : List RunView → List ℕ
+shown_svg_text runs = 10 ∷ 10 ∷ flat_map shown_in_svg (run_characters runs) ++ 10 ∷ []
 
 -- ---- pieces
 
--- a piece of a document: the end of a row, or a text: the position where it begins, its first
--- glyph, and the others
+-- a piece of a document: the end of a row, or a `text` element: the position where it begins, its
+-- first glyph, and the others
 pub data Piece : Type 0 where
   RowEnd : Piece
   Text : CellPosition → Glyph → List Glyph → Piece
 
--- the glyphs that follow this one in its text
+-- the glyphs that follow this one in its `text` element
 abbrev pub joined_glyphs : Glyph → List Glyph → List Glyph
 joined_glyphs before [] = []
 joined_glyphs before (glyph ∷ glyphs) =
@@ -53,7 +53,7 @@ text_width [] = 0
 text_width (glyph ∷ glyphs) = cells_of glyph + text_width glyphs
 
 -- the pieces of glyphs: a newline ends a row, and any other that does not follow the one before it
--- begins a text
+-- begins a `text` element
 abbrev pub pieces_from : Pen → List Glyph → List Piece
 pieces_from pen [] = []
 pieces_from pen (glyph ∷ glyphs) =
@@ -64,7 +64,7 @@ pieces_from pen (glyph ∷ glyphs) =
 
 -- ---- the tokens of a document
 
--- a text is between two tags, and as long as its cells
+-- a `text` element has two tags, and is as long as its cells
 abbrev pub piece_tokens : Piece → List Token
 piece_tokens RowEnd = TextByte 10 ∷ []
 piece_tokens (Text position first others) =
@@ -86,7 +86,7 @@ pub record CharacterInCell : Type 0 where
   pub ink : Ink
   pub position : CellPosition
 
--- the characters of a text in one ink, the first one at this position
+-- the characters of a `text` element, in one ink, the first one at this position
 abbrev pub text_characters : Ink → CellPosition → List Glyph → List CharacterInCell
 text_characters ink position [] = []
 text_characters ink position (glyph ∷ glyphs) =

@@ -1,8 +1,8 @@
 //! Styled text as an HTML element.
 
 ghost use Rattle.std.specs.Prelude.{◌≡◌, ◌++◌, IfErr, IfOk, OnOk, flat_map, map, string_bytes};
-ghost use Rattle.codespan_documents.specs.Html.{html_character, html_element, html_run, html_text, is_forbidden_control, is_noncharacter, replaced_character, shown_text, style_class};
-ghost use Rattle.codespan_documents.specs.HtmlReading.{element_tokens, html_tokens, text_of_html};
+ghost use Rattle.codespan_documents.specs.Html.{html_character, html_element, html_run, escaped_text, is_forbidden_control, is_noncharacter, replaced_character, shown_text, style_class};
+ghost use Rattle.codespan_documents.specs.HtmlReading.{element_tokens, read_tokens, text_of_html};
 ghost use Rattle.codespan_documents.specs.Runs.{joined, run_view, styled_runs};
 
 use crate::style::Style;
@@ -21,7 +21,7 @@ use std::alloc::{AllocError, Global};
 ///
 /// A text can neither start nor end a tag, an attribute or an entity: each of the characters `&`,
 /// `<`, `>`, `"` and `'` becomes an entity. A control character other than a tab, a newline and a
-/// form feed, and a noncharacter, which HTML text can not hold, become U+FFFD. With its tags taken
+/// form feed, and a noncharacter, which HTML text cannot hold, become U+FFFD. With its tags taken
 /// out and its entities read back the element is the text, with U+FFFD for these characters.
 ///
 /// # Errors
@@ -38,7 +38,7 @@ pub fn to_html(alloc: Global, text: &StyledText) -> Result<String, Error>
     ensures element { IfOk result (λ html.
         string_bytes html ≡ html_element (styled_runs text.now)) }
     ensures tokens { IfOk result (λ html.
-        html_tokens (string_bytes html) ≡ element_tokens (styled_runs text.now)) }
+        read_tokens (string_bytes html) ≡ element_tokens (styled_runs text.now)) }
     ensures text { IfOk result (λ html.
         text_of_html (string_bytes html) ≡ shown_text (joined (styled_runs text.now))) }
     ensures failed { IfErr result (λ error. error ≡ Error.OutOfMemory) }
@@ -79,7 +79,7 @@ fn push_run(html: &mut String, run: &Run) -> Result<(), AllocError>
 
 /// Appends a text, with entities.
 fn push_text(html: &mut String, text: &str) -> Result<(), AllocError>
-    ensures { OnOk result (string_bytes html.new ≡ string_bytes html.old ++ html_text text.now) }
+    ensures { OnOk result (string_bytes html.new ≡ string_bytes html.old ++ escaped_text text.now) }
 {
     for c in text.chars() {
         push_character(html, c)?;

@@ -2,10 +2,10 @@
 
 ghost use Rattle.std.specs.Prelude.{◌≡◌, ◌≤◌, ◌++◌, ◌*◌, ◌^◌, ◌<◌, IfErr, IfOk, OnOk, codes, string_bytes};
 ghost use Rattle.codespan_documents.specs.Glyphs.{glyphs_of};
-ghost use Rattle.codespan_documents.specs.HtmlReading.{html_tokens, text_of_tokens};
+ghost use Rattle.codespan_documents.specs.HtmlReading.{read_tokens, text_of_tokens};
 ghost use Rattle.codespan_documents.specs.Runs.{styled_runs};
 ghost use Rattle.codespan_documents.specs.Svg.{color_attribute, first_pen, glyph_text, color_on_dark, svg_tag_start, svg_document, text_tag, texts_from, weight_attribute, xml_character};
-ghost use Rattle.codespan_documents.specs.SvgReading.{svg_tokens, svg_text};
+ghost use Rattle.codespan_documents.specs.SvgReading.{svg_tokens, shown_svg_text};
 
 mod glyph;
 mod ink;
@@ -52,7 +52,7 @@ const FONT_AND_BACKGROUND: &str =
 ///
 /// A text can neither start nor end a tag or an entity: each of the characters `&`, `<` and `>`
 /// becomes an entity. The escape character, U+0000, the carriage return and the tab are shown as
-/// `\e`, `\0`, `\r` and `\t`, and any other character that XML can not hold as U+FFFD.
+/// `\e`, `\0`, `\r` and `\t`, and any other character that XML cannot hold as U+FFFD.
 ///
 /// # Errors
 ///
@@ -68,9 +68,9 @@ pub fn to_svg(alloc: Global, text: &StyledText, styles: &Styles) -> Result<Strin
     ensures document { IfOk result (λ svg.
         string_bytes svg ≡ svg_document (glyphs_of styles.now (styled_runs text.now))) }
     ensures tokens { IfOk result (λ svg.
-        html_tokens (string_bytes svg) ≡ svg_tokens (glyphs_of styles.now (styled_runs text.now))) }
+        read_tokens (string_bytes svg) ≡ svg_tokens (glyphs_of styles.now (styled_runs text.now))) }
     ensures text { IfOk result (λ svg.
-        text_of_tokens (html_tokens (string_bytes svg)) ≡ svg_text (styled_runs text.now)) }
+        text_of_tokens (read_tokens (string_bytes svg)) ≡ shown_svg_text (styled_runs text.now)) }
     ensures failed { IfErr result (λ error. error ≡ Error.OutOfMemory) }
 {
     let glyphs = glyphs(alloc, styles, text.runs.as_slice())?;

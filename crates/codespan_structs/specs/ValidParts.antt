@@ -6,7 +6,7 @@ use Rattle.codespan_structs.specs.declared.raw.RawChars.{RawChars}
 use Rattle.codespan_structs.specs.declared.raw.RawConfig.{RawConfig}
 use Rattle.codespan_structs.specs.declared.raw.RawDiagnostic.{RawDiagnostic}
 use Rattle.codespan_structs.specs.declared.raw.RawFile.{RawFile}
-use Rattle.codespan_structs.specs.Validity.{HasTextMessage, HasTextName, HasTextSource, HasValidLines, HasValidLocations, IsValidText}
+use Rattle.codespan_structs.specs.Validity.{HasValidMessage, HasValidName, HasValidSource, HasValidLines, HasValidLocations, IsValidText}
 
 -- the caller's characters
 pub record AreCustomChars (c : RawChars) : Type 0 where
@@ -34,8 +34,8 @@ pub record AreValidChars (c : RawConfig) : Type 0 where
 
 -- a file
 pub record IsValidFile (f : RawFile) : Type 0 where
-  pub name : HasTextName f
-  pub source : HasTextSource f
+  pub name : HasValidName f
+  pub source : HasValidSource f
   pub lines : HasValidLines f
   pub locations : HasValidLocations f
 
@@ -43,5 +43,5 @@ pub record IsValidFile (f : RawFile) : Type 0 where
 pub record IsValidDiagnostic (d : RawDiagnostic) : Type 0 where
   pub code : IsUtf8 d.code.now
   pub message : IsUtf8 d.message.now
-  pub labels : All HasTextMessage d.labels.now
+  pub labels : All HasValidMessage d.labels.now
   pub notes : All IsValidText d.notes.now

@@ -38,7 +38,7 @@ color_specs_of s =
     ∷ s.source_border ∷ s.note_bullet ∷ []
 
 -- both colors of a style are numbers of colors: from 0, for none, to 8
-pub record IsColorSpec (s : RawColorSpec) : Type 0 where
+pub record IsValidColorSpec (s : RawColorSpec) : Type 0 where
   pub fg : s.fg ≤ 8
   pub bg : s.bg ≤ 8
 
@@ -47,31 +47,39 @@ abbrev pub AreValidLines : List ℕ → ℕ → List RawLine → Type 0
 AreValidLines text first_byte [] = Unit {0}
 AreValidLines text first_byte (l ∷ ls) = are_lines text first_byte (l ∷ ls) ≡ true
 
--- facts of a file, of a label and of a note
-abbrev pub HasTextName : RawFile → Type 0
-HasTextName f = IsUtf8 f.name.now
+-- ---- facts of a file, of a label and of a note
 
-abbrev pub HasTextSource : RawFile → Type 0
-HasTextSource f = IsUtf8 f.source.now
+-- the name of a file is UTF-8
+abbrev pub HasValidName : RawFile → Type 0
+HasValidName f = IsUtf8 f.name.now
 
+-- the source of a file is UTF-8
+abbrev pub HasValidSource : RawFile → Type 0
+HasValidSource f = IsUtf8 f.source.now
+
+-- the lines of a file are lines of its source
 abbrev pub HasValidLines : RawFile → Type 0
 HasValidLines f = AreValidLines f.source.now f.first_byte f.lines.now
 
+-- the locations of a file ascend
 abbrev pub HasValidLocations : RawFile → Type 0
 HasValidLocations f = locations_ascend f.first_byte f.locations.now ≡ true
 
-abbrev pub HasLabelStyle : RawLabel → Type 0
-HasLabelStyle l = l.style ≤ 1
+-- the style of a label is primary or secondary
+abbrev pub HasValidStyle : RawLabel → Type 0
+HasValidStyle l = l.style ≤ 1
 
-abbrev pub HasTextMessage : RawLabel → Type 0
-HasTextMessage l = IsUtf8 l.message.now
+-- the message of a label is UTF-8
+abbrev pub HasValidMessage : RawLabel → Type 0
+HasValidMessage l = IsUtf8 l.message.now
 
+-- a text is UTF-8
 abbrev pub IsValidText : RawText → Type 0
 IsValidText t = IsUtf8 t.bytes.now
 
 -- the label is of one of so many files
-abbrev pub HasLabelFile : ℕ → RawLabel → Type 0
-HasLabelFile count l = l.file < count
+abbrev pub HasValidFile : ℕ → RawLabel → Type 0
+HasValidFile count l = l.file < count
 
 -- ---- arguments
 
@@ -128,17 +136,17 @@ module _ (files : List RawFile) (d : RawDiagnostic) (c : RawConfig) where
   IsValidAt Characters i = c.characters ≤ 2
   IsValidAt SnippetStart i = c.characters ≡ 2 → IsUtf8 c.chars.snippet_start.now
   IsValidAt Character i = c.characters ≡ 2 → HoldsIfAt InScalarRange (code_points_of c.chars) i
-  IsValidAt Color i = c.spelling ≡ 2 → HoldsIfAt IsColorSpec (color_specs_of c.styles) i
-  IsValidAt FileName i = HoldsIfAt HasTextName files i
-  IsValidAt FileSource i = HoldsIfAt HasTextSource files i
+  IsValidAt Color i = c.spelling ≡ 2 → HoldsIfAt IsValidColorSpec (color_specs_of c.styles) i
+  IsValidAt FileName i = HoldsIfAt HasValidName files i
+  IsValidAt FileSource i = HoldsIfAt HasValidSource files i
   IsValidAt FileLines i = HoldsIfAt HasValidLines files i
   IsValidAt FileLocations i = HoldsIfAt HasValidLocations files i
   IsValidAt Severity i = d.severity ≤ 4
   IsValidAt Code i = IsUtf8 d.code.now
   IsValidAt Message i = IsUtf8 d.message.now
-  IsValidAt LabelStyle i = HoldsIfAt HasLabelStyle d.labels.now i
-  IsValidAt LabelMessage i = HoldsIfAt HasTextMessage d.labels.now i
-  IsValidAt LabelFile i = HoldsIfAt (HasLabelFile (length files)) d.labels.now i
+  IsValidAt LabelStyle i = HoldsIfAt HasValidStyle d.labels.now i
+  IsValidAt LabelMessage i = HoldsIfAt HasValidMessage d.labels.now i
+  IsValidAt LabelFile i = HoldsIfAt (HasValidFile (length files)) d.labels.now i
   IsValidAt Note i = HoldsIfAt IsValidText d.notes.now i
 
   -- every argument is valid

@@ -87,7 +87,8 @@ pub fn status_for(argument: Argument) -> u32
 /// [`TOO_SMALL`].
 ///
 /// For [`INVALID`] it writes what the argument must be: `argument` is the number of an
-/// [`Argument`], and is read for this status alone. The text is ASCII, and at most 128 bytes long.
+/// [`Argument`], and is read for this status alone. The text is ASCII, and at most
+/// `STATUS_TEXT_MAX` bytes long, which is 128.
 pub fn write_status(status: u32, argument: u32, out: &mut [u8], written: &mut usize) -> u32
     ensures ok { result ≡ OK → IsWritten (text_for status argument) out.old out.new written.new }
     ensures too_small { result ≡ TOO_SMALL

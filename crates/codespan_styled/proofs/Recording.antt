@@ -38,7 +38,7 @@ recorded-started old new next ended style empty =
     ∙ ap (λ s. recorded old ++ style_number s ∷ new.text.items) style
     ∙ ap (λ bytes. recorded old ++ style_number next ∷ bytes) empty)
 
--- a run that can not end changes nothing
+-- a run that cannot end changes nothing
 pub nothing_appended : (old new : Recorder) (bytes : List ℕ) → recorded new ≡ recorded old
     → PrefixAppended (Some (recorded old)) bytes (Some (recorded new))
 unfolding extended

@@ -180,7 +180,8 @@ shows_safe styles runs texts =
     record {
       ends_in_text = ap (state_after Text) (sym (append-nil cs)) ∙ read.after [];
       shows = shows;
-      in_columns = λ tab. ap (columns tab 0) shows ∙ columns_stay tab 0 (run_characters runs);
+      in_columns = λ tab_width.
+          ap (columns tab_width 0) shows ∙ columns_stay tab_width 0 (run_characters runs);
     }
 
 -- the texts of runs that are strings are UTF-8

@@ -109,8 +109,9 @@ unsafe_cells c h =
     (λ (e : is_bidi_control c ≡ true). no_cells (cells_of c) (empty_directional c e)) kinds.1
 
 -- the column after it is the same
-unsafe_column : (tab column c : ℕ) → is_safe c ≡ false → column_after tab column c ≡ column
-unsafe_column tab column c h =
+unsafe_column : (tab_width column c : ℕ) → is_safe c ≡ false
+    → column_after tab_width column c ≡ column
+unsafe_column tab_width column c h =
     let kinds = unsafe_kinds ((c == 9) || (c == 10)) (is_control c) (is_bidi_control c) h in
     let parts = or_parts (c == 9) (c == 10) kinds.0 in
     rw (parts.1, parts.0, unsafe_cells c h) (add-zero column)
@@ -118,19 +119,19 @@ unsafe_column tab column c h =
 -- ---- columns
 
 -- a step of the law, by whether the character is safe
-columns_step : (tab column c : ℕ) (cs : List ℕ) (b : Bool) → is_safe c ≡ b
-    → ((at : ℕ) → columns tab at (safe_characters cs) ≡ safe_columns tab at cs)
-    → columns tab column (cond b (c ∷ safe_characters cs) (safe_characters cs))
-    ≡ cond b ((c, column) ∷ safe_columns tab (column_after tab column c) cs)
-    (safe_columns tab (column_after tab column c) cs)
-columns_step tab column c cs true h rest =
-    ap (λ (l : List CharacterInColumn). (c, column) ∷ l) (rest (column_after tab column c))
-columns_step tab column c cs false h rest =
-    rest column ∙ ap (λ at. safe_columns tab at cs) (sym (unsafe_column tab column c h))
+columns_step : (tab_width column c : ℕ) (cs : List ℕ) (b : Bool) → is_safe c ≡ b
+    → ((at : ℕ) → columns tab_width at (safe_characters cs) ≡ safe_columns tab_width at cs)
+    → columns tab_width column (cond b (c ∷ safe_characters cs) (safe_characters cs))
+    ≡ cond b ((c, column) ∷ safe_columns tab_width (column_after tab_width column c) cs)
+    (safe_columns tab_width (column_after tab_width column c) cs)
+columns_step tab_width column c cs true h rest =
+    ap (λ (l : List CharacterInColumn). (c, column) ∷ l) (rest (column_after tab_width column c))
+columns_step tab_width column c cs false h rest =
+    rest column ∙ ap (λ at. safe_columns tab_width at cs) (sym (unsafe_column tab_width column c h))
 
 -- the characters that are kept have the columns that they had
-pub columns_stay : (tab column : ℕ) (cs : List ℕ)
-    → columns tab column (safe_characters cs) ≡ safe_columns tab column cs
-columns_stay tab column [] = refl
-columns_stay tab column (c ∷ cs) =
-    columns_step tab column c cs (is_safe c) refl (λ at. columns_stay tab at cs)
+pub columns_stay : (tab_width column : ℕ) (cs : List ℕ)
+    → columns tab_width column (safe_characters cs) ≡ safe_columns tab_width column cs
+columns_stay tab_width column [] = refl
+columns_stay tab_width column (c ∷ cs) =
+    columns_step tab_width column c cs (is_safe c) refl (λ at. columns_stay tab_width at cs)

@@ -97,16 +97,18 @@ CharacterInColumn = ℕ × ℕ
 
 -- the column after a character: a newline ends the row
 abbrev pub column_after : ℕ → ℕ → ℕ → ℕ
-column_after tab column c = if c == 10 then 0 else column + width_at tab column c
+column_after tab_width column c = if c == 10 then 0 else column + width_at tab_width column c
 
 -- the characters with their columns, the first one at this column
 abbrev pub columns : ℕ → ℕ → List ℕ → List CharacterInColumn
-columns tab column [] = []
-columns tab column (c ∷ cs) = (c, column) ∷ columns tab (column_after tab column c) cs
+columns tab_width column [] = []
+columns tab_width column (c ∷ cs) =
+    (c, column) ∷ columns tab_width (column_after tab_width column c) cs
 
 -- the safe ones of these
 abbrev pub safe_columns : ℕ → ℕ → List ℕ → List CharacterInColumn
-safe_columns tab column cs = filter (λ (p : CharacterInColumn). is_safe p.0) (columns tab column cs)
+safe_columns tab_width column cs =
+    filter (λ (p : CharacterInColumn). is_safe p.0) (columns tab_width column cs)
 
 -- ---- the whole
 
@@ -118,8 +120,9 @@ pub record ShowsSafe (text : List ℕ) (runs : List RunView) : Type 0 where
   -- it shows the safe characters of the runs
   pub shows : visible Text (chars text) ≡ safe_characters (run_characters runs)
   -- each has the column that it has among all characters of the runs
-  pub in_columns : (tab : ℕ)
-      → columns tab 0 (visible Text (chars text)) ≡ safe_columns tab 0 (run_characters runs)
+  pub in_columns : (tab_width : ℕ)
+      → columns tab_width 0 (visible Text (chars text))
+      ≡ safe_columns tab_width 0 (run_characters runs)
 
 -- each character of the runs is safe
 abbrev pub AreSafe : List RunView → Type 0

@@ -13,7 +13,7 @@ use std::panic::Expect;
 use std::process::Abort;
 use test_writers::counting::CountingWriter;
 use test_writers::stopping::{Stop, StoppingWriter};
-use test_writers::style_marks::set_styles;
+use test_writers::style_marks::write_each_style_mark;
 
 /// A lane mark: the lane, 0-based, the style of the label and what the label does on the
 /// line.
@@ -71,7 +71,7 @@ fn endless_padding(rt: HostRuntime) {
 
 /// Writes a style mark of each kind and some text, and then flushes once.
 pub fn write_style_marks<W: WriteStyle>(rt: &impl Abort, w: &mut W) {
-    set_styles(w).expect(rt, "the style marks");
+    write_each_style_mark(w).expect(rt, "the style marks");
     w.write_all(b"text").expect(rt, "the text");
     w.put(b"\n").expect(rt, "the newline");
     w.flush().expect(rt, "the flush");

@@ -8,4 +8,4 @@ use Rattle.examples.specs.declared.errors.settings.SettingsError.TheVariants.{No
 abbrev pub error_range : SettingsError → Range ℕ
 error_range (NotANumber key value) = value
 error_range (SetTwice key first again) = again
-error_range (UnknownKey name suggestion) = name
+error_range (UnknownKey key_range suggestion) = key_range

@@ -29,7 +29,7 @@ pub fn run(rt: &HostRuntime) -> Result<(), Error> {
             value: 22..26,
         },
         SettingsError::UnknownKey {
-            name: 27..33,
+            key_range: 27..33,
             suggestion: Some(Key::Timeout),
         },
         SettingsError::SetTwice {

@@ -5,4 +5,4 @@ use Rattle.examples_library.specs.declared.config.Token.{Token}
 
 -- the range of a token
 abbrev pub byte_range : Token → Range ℕ
-byte_range w = record { start = w.start; end = w.end }
+byte_range token = record { start = token.start; end = token.end }

@@ -68,7 +68,7 @@ impl ParseError {
 ///
 /// `AllocError`: an allocation fails.
 pub fn lex(alloc: Global, text: &str) -> Result<Vec<Token>, AllocError>
-    ensures { IfOk result (λ tokens. All (λ w. w.end ≤ length text.now) tokens.items) }
+    ensures { IfOk result (λ tokens. All (λ token. token.end ≤ length text.now) tokens.items) }
 {
     let mut tokens = Vec::new(alloc);
     let mut start = None;

@@ -1,4 +1,4 @@
-//! The output.
+//! Writing to standard output, or to any writer.
 
 ghost use Rattle.std.specs.Prelude.{OnOk};
 ghost use Rattle.std.specs.Io.KnownBytes.{Appends};

@@ -27,7 +27,7 @@ use std::ops::Range;
 /// message.
 pub type ScriptLabel<'input> = (LabelStyle, Range<usize>, &'input str);
 
-/// What a script states, with texts borrowed from the input that it was parsed from.
+/// What a script states, and the source after it: texts borrowed from the input.
 #[derive(Drop)]
 pub struct Script<'input> {
     /// The severity; `Error` if the script states none.

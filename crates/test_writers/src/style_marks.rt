@@ -9,7 +9,7 @@ use std::io;
 /// # Errors
 ///
 /// That of the first style mark that fails.
-pub fn set_styles<W: WriteStyle>(w: &mut W) -> io::Result<()> {
+pub fn write_each_style_mark<W: WriteStyle>(w: &mut W) -> io::Result<()> {
     w.set_header(Severity::Error)?;
     w.set_header_message()?;
     w.set_line_number()?;

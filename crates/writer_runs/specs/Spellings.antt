@@ -1,4 +1,4 @@
--- The spelling of this program's writer of styles.
+-- The spelling of style marks by a `SequenceWriter`.
 use Rattle.std.specs.Prelude.{ℕ, Bool, List, [], ◌∷◌, Option, codes}
 use Rattle.codespan_base.specs.Streams.{StyleMark, Header, HeaderMessage, LineNumber, NoteBullet, SourceBorder, LabelStyleMark, Reset}
 use Rattle.codespan_base.specs.WriterLaw.{Sink}
@@ -14,8 +14,8 @@ sequence (LabelStyleMark severity style) = 0x1b ∷ codes "[6m"
 sequence Reset = 0x1b ∷ codes "[0m"
 
 -- the writer, as the law of writers sees it
-abbrev pub spelling_sink : Bool → Option (List ℕ) → Sink
-spelling_sink failed contents =
+abbrev pub sequence_sink : Bool → Option (List ℕ) → Sink
+sequence_sink failed contents =
     record {
       frame = record { spelling = sequence; failed = failed; borrows = [] };
       contents

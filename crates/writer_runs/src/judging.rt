@@ -2,7 +2,7 @@
 
 use crate::direct::DirectCall;
 use crate::direct::rows::DirectRow;
-use crate::failure::{Failure, FailureAt};
+use crate::errors::{WrongRun, WrongRunAt};
 use crate::rendering::{CALLS, Render, RenderCall, RenderInput, Rendering};
 use crate::stops::{judge_stops, judge_style_marks};
 use crate::style_writers::{STYLE_WRITERS, StyleWriterKind};
@@ -15,7 +15,7 @@ use gallery_script::database::{Database, database_of};
 use std::alloc::Global;
 
 /// The styles in which each worked output is rendered.
-pub const STYLES: [DisplayStyle; 3] = [
+pub const DISPLAY_STYLES: [DisplayStyle; 3] = [
     DisplayStyle::Rich,
     DisplayStyle::Medium,
     DisplayStyle::Short,
@@ -26,7 +26,7 @@ pub const STYLES: [DisplayStyle; 3] = [
 /// # Errors
 ///
 /// The first error of a run, with its style and its call.
-pub fn judge_output(alloc: Global, worked: &WorkedOutput<'_>) -> Result<usize, FailureAt> {
+pub fn judge_output(alloc: Global, worked: &WorkedOutput<'_>) -> Result<usize, WrongRunAt> {
     let database = before_any_call(database_of(alloc, &worked.case))?;
     judge_styles(alloc, worked, &database)
 }
@@ -36,9 +36,9 @@ fn judge_styles(
     alloc: Global,
     worked: &WorkedOutput<'_>,
     database: &Database<'_>,
-) -> Result<usize, FailureAt> {
+) -> Result<usize, WrongRunAt> {
     let mut runs = 0usize;
-    for style in STYLES {
+    for style in DISPLAY_STYLES {
         let more = judge_style(alloc, worked, database, style)?;
         runs = runs.saturating_add(more);
     }
@@ -46,10 +46,10 @@ fn judge_styles(
 }
 
 /// Adds to an error that it occurred before any call.
-fn before_any_call<T: Drop>(made: Result<T, Error>) -> Result<T, FailureAt> {
+fn before_any_call<T: Drop>(made: Result<T, Error>) -> Result<T, WrongRunAt> {
     match made {
         Ok(made) => Ok(made),
-        Err(error) => at(None, None, Err(Failure::Failed(error))),
+        Err(error) => at(None, None, Err(WrongRun::Failed(error))),
     }
 }
 
@@ -59,7 +59,7 @@ fn judge_style(
     worked: &WorkedOutput<'_>,
     database: &Database<'_>,
     style: DisplayStyle,
-) -> Result<usize, FailureAt> {
+) -> Result<usize, WrongRunAt> {
     let config = before_any_call(worked.config(style))?;
     let input = RenderInput {
         config: &config,
@@ -74,7 +74,7 @@ fn judge_input(
     alloc: Global,
     worked: &WorkedOutput<'_>,
     input: RenderInput<'_, '_>,
-) -> Result<usize, FailureAt> {
+) -> Result<usize, WrongRunAt> {
     let style = input.config.display_style;
     let text = at(Some(style), None, checked_text(alloc, worked, input))?;
     judge_calls(alloc, input, text.as_str(), worked.colors(style))
@@ -87,7 +87,7 @@ fn judge_calls(
     input: RenderInput<'_, '_>,
     text: &str,
     colors: ExpectedColors<'_>,
-) -> Result<usize, FailureAt> {
+) -> Result<usize, WrongRunAt> {
     let mut runs = 0usize;
     for call in CALLS {
         let more = judge_render_call(alloc, Rendering { call, input }, text, colors)?;
@@ -102,7 +102,7 @@ fn judge_render_call(
     rendering: Rendering<'_, '_>,
     text: &str,
     colors: ExpectedColors<'_>,
-) -> Result<usize, FailureAt> {
+) -> Result<usize, WrongRunAt> {
     let (style, call) = (rendering.input.config.display_style, rendering.call);
     at(
         Some(style),
@@ -115,14 +115,14 @@ fn judge_render_call(
 fn at<T: Drop>(
     style: Option<DisplayStyle>,
     call: Option<RenderCall>,
-    judged: Result<T, Failure>,
-) -> Result<T, FailureAt> {
+    judged: Result<T, WrongRun>,
+) -> Result<T, WrongRunAt> {
     match judged {
         Ok(made) => Ok(made),
-        Err(failure) => Err(FailureAt {
+        Err(wrong_run) => Err(WrongRunAt {
             style,
             call,
-            failure,
+            wrong_run,
         }),
     }
 }
@@ -136,16 +136,16 @@ fn checked_text(
     alloc: Global,
     worked: &WorkedOutput<'_>,
     input: RenderInput<'_, '_>,
-) -> Result<String, Failure> {
+) -> Result<String, WrongRun> {
     let text = rendered_text(alloc, input)?;
     match worked.plain_text(input.config.display_style) {
-        Some(want) if text.as_str() != want => Err(Failure::UnexpectedText),
+        Some(want) if text.as_str() != want => Err(WrongRun::UnexpectedText),
         _ => Ok(text),
     }
 }
 
 /// Returns the plain text. It is compared with what is appended to a string.
-fn rendered_text(alloc: Global, input: RenderInput<'_, '_>) -> Result<String, Failure> {
+fn rendered_text(alloc: Global, input: RenderInput<'_, '_>) -> Result<String, WrongRun> {
     let config = input.config;
     match input.database {
         Database::One(file, diagnostic) => text_over(alloc, config, file, diagnostic),
@@ -160,14 +160,14 @@ fn text_over<'files, F: Files<'files>>(
     config: &Config<'_>,
     files: &'files F,
     diagnostic: &Diagnostic<F::FileId>,
-) -> Result<String, Failure> {
+) -> Result<String, WrongRun> {
     let text = emit_into_string(config, files, diagnostic)?;
     let mut string = old_text(alloc)?;
     emit_to_string(&mut string, config, files, diagnostic)?;
     if string.as_str().strip_prefix(OLD_TEXT) == Some(text.as_str()) {
         Ok(text)
     } else {
-        Err(Failure::OtherString)
+        Err(WrongRun::UnexpectedString)
     }
 }
 
@@ -179,22 +179,22 @@ fn old_text(alloc: Global) -> Result<String, Error> {
 /// Makes all runs of a call, and returns their number.
 fn judge_call<D: Render>(
     alloc: Global,
-    output: &D,
+    call: &D,
     text: &str,
     colors: ExpectedColors<'_>,
-) -> Result<usize, Failure> {
+) -> Result<usize, WrongRun> {
     let mut runs = 0usize;
     for style_writer in STYLE_WRITERS {
-        let recording = style_writer.record(alloc, output, text)?;
+        let recording = style_writer.record(alloc, call, text)?;
         let more = match style_writer {
             StyleWriterKind::Ansi => {
-                judge_colors(output, recording.text(), colors)?;
+                judge_colors(call, recording.text(), colors)?;
                 0
             }
-            StyleWriterKind::Custom => judge_style_marks(alloc, output, recording.text())?,
+            StyleWriterKind::Sequences => judge_style_marks(alloc, call, recording.text())?,
             StyleWriterKind::Plain | StyleWriterKind::NoColor => 0,
         };
-        let stops = judge_stops(alloc, style_writer, output, &recording)?;
+        let stops = judge_stops(alloc, style_writer, call, &recording)?;
         runs = runs.saturating_add(more).saturating_add(stops);
     }
     Ok(runs)
@@ -203,14 +203,14 @@ fn judge_call<D: Render>(
 /// Compares the text in escape sequences with what is expected, if the call writes style marks.
 /// This is no run of its own.
 fn judge_colors<D: Render>(
-    output: &D,
+    call: &D,
     bytes: &[u8],
     colors: ExpectedColors<'_>,
-) -> Result<(), Failure> {
-    if !output.has_style_marks() || colors.is_met_by(bytes) {
+) -> Result<(), WrongRun> {
+    if !call.has_style_marks() || colors.is_met_by(bytes) {
         Ok(())
     } else {
-        Err(Failure::OtherColors)
+        Err(WrongRun::UnexpectedColors)
     }
 }
 
@@ -219,12 +219,12 @@ fn judge_colors<D: Render>(
 /// # Errors
 ///
 /// The first error of a run, without a style or a call.
-pub fn judge_direct(alloc: Global, row: &DirectRow<'_>) -> Result<usize, FailureAt> {
+pub fn judge_direct(alloc: Global, row: &DirectRow<'_>) -> Result<usize, WrongRunAt> {
     at(None, None, judge_direct_call(alloc, row))
 }
 
 /// Makes all runs of a direct call, and returns their number, or the first error.
-fn judge_direct_call(alloc: Global, row: &DirectRow<'_>) -> Result<usize, Failure> {
+fn judge_direct_call(alloc: Global, row: &DirectRow<'_>) -> Result<usize, WrongRun> {
     let direct = DirectCall::new(alloc, row.call)?;
     judge_call(alloc, &direct, row.text, row.colors)
 }

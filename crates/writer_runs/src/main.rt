@@ -23,8 +23,8 @@
 #![tactic(auto)]
 
 mod direct;
-mod failing_writer;
-mod failure;
+mod sequence_writer;
+mod errors;
 mod judging;
 mod recording;
 mod rendering;

@@ -70,7 +70,7 @@ pub trait Render {
 pub struct RenderInput<'a, 'text> {
     /// The configuration.
     pub config: &'a Config<'text>,
-    /// The file database; one of one file has a diagnostic by its own id.
+    /// The file database; with a database of one file goes a diagnostic with its id.
     pub database: &'a Database<'a>,
     /// The diagnostic, where the database is one of several files.
     pub diagnostic: &'a Diagnostic<usize>,

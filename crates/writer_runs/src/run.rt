@@ -3,8 +3,8 @@
 ghost use Rattle.std.specs.Prelude.{◌≤◌};
 
 use crate::direct::rows::{DirectRow, rows};
-use crate::failure::{FailureAt, FatalError};
-use crate::judging::{STYLES, judge_direct, judge_output};
+use crate::errors::{WrongRunAt, FatalError};
+use crate::judging::{DISPLAY_STYLES, judge_direct, judge_output};
 use crate::rendering::CALLS;
 use crate::stops::WRITERS;
 use crate::worked_output::WorkedOutput;
@@ -50,7 +50,7 @@ impl Counts {
         &mut self,
         stdout: &mut W,
         title: T,
-        judged: Result<usize, FailureAt>,
+        judged: Result<usize, WrongRunAt>,
         calls: D,
     ) -> io::Result<()> {
         self.outputs_and_rows = self.outputs_and_rows.saturating_add(1);
@@ -59,9 +59,9 @@ impl Counts {
                 self.runs = self.runs.saturating_add(runs);
                 writeln!(stdout, "{title}: {calls}, {WRITERS} writers")
             }
-            Err(failure) => {
+            Err(wrong_run) => {
                 self.is_wrong = true;
-                writeln!(stdout, "{title}: wrong: {failure}")
+                writeln!(stdout, "{title}: wrong: {wrong_run}")
             }
         }
     }
@@ -111,7 +111,7 @@ fn judge_outputs<W: Write>(
     stdout: &mut W,
     counts: &mut Counts,
 ) -> Result<(), FatalError> {
-    let (styles, calls) = (STYLES.len(), CALLS.len());
+    let (styles, calls) = (DISPLAY_STYLES.len(), CALLS.len());
     for worked in worked_outputs {
         let judged = judge_output(alloc, worked);
         let calls = format_args!("{calls} calls in {styles} styles");

@@ -1,7 +1,7 @@
 //! The writers of styles between a call and a writer of bytes.
 
-use crate::failing_writer::FailingWriter;
-use crate::failure::Failure;
+use crate::sequence_writer::SequenceWriter;
+use crate::errors::WrongRun;
 use crate::recording::Recording;
 use crate::rendering::Render;
 use codespan_base::files::Error;
@@ -20,8 +20,8 @@ pub enum StyleWriterKind {
     Ansi,
     /// A `StylesWriter` over `NoColor`.
     NoColor,
-    /// The writer of styles of this program.
-    Custom,
+    /// A `SequenceWriter`.
+    Sequences,
 }
 
 /// The writers of styles.
@@ -29,7 +29,7 @@ pub const STYLE_WRITERS: [StyleWriterKind; 4] = [
     StyleWriterKind::Plain,
     StyleWriterKind::Ansi,
     StyleWriterKind::NoColor,
-    StyleWriterKind::Custom,
+    StyleWriterKind::Sequences,
 ];
 
 /// Writes the name of the writer.
@@ -39,15 +39,15 @@ impl fmt::Display for StyleWriterKind {
             StyleWriterKind::Plain => "plain text",
             StyleWriterKind::Ansi => "Ansi",
             StyleWriterKind::NoColor => "NoColor",
-            StyleWriterKind::Custom => "a custom writer",
+            StyleWriterKind::Sequences => "a custom writer",
         })
     }
 }
 
 /// Renders to a `StylesWriter` over a writer of colors, in the default styles.
-fn render_in_styles<D: Render, W: WriteColor + Drop>(output: &D, writer: W) -> Result<(), Error> {
+fn render_in_styles<D: Render, W: WriteColor + Drop>(call: &D, writer: W) -> Result<(), Error> {
     let styles = Styles::default();
-    output.render(&mut StylesWriter::new(writer, &styles))
+    call.render(&mut StylesWriter::new(writer, &styles))
 }
 
 impl StyleWriterKind {
@@ -56,18 +56,18 @@ impl StyleWriterKind {
     /// # Errors
     ///
     /// Those of rendering.
-    pub fn render<D: Render, W: Write>(self, output: &D, writer: &mut W) -> Result<(), Error> {
+    pub fn render<D: Render, W: Write>(self, call: &D, writer: &mut W) -> Result<(), Error> {
         match self {
-            StyleWriterKind::Plain => output.render_plain(writer),
-            StyleWriterKind::Ansi => render_in_styles(output, Ansi::new(writer)),
-            StyleWriterKind::NoColor => render_in_styles(output, NoColor::new(writer)),
-            StyleWriterKind::Custom => output.render(&mut FailingWriter::new(writer, usize::MAX)),
+            StyleWriterKind::Plain => call.render_plain(writer),
+            StyleWriterKind::Ansi => render_in_styles(call, Ansi::new(writer)),
+            StyleWriterKind::NoColor => render_in_styles(call, NoColor::new(writer)),
+            StyleWriterKind::Sequences => call.render(&mut SequenceWriter::new(writer, usize::MAX)),
         }
     }
 
     /// Returns whether this writer of styles writes style marks as escape sequences.
     fn shows_style_marks(self) -> bool {
-        matches!(self, StyleWriterKind::Ansi | StyleWriterKind::Custom)
+        matches!(self, StyleWriterKind::Ansi | StyleWriterKind::Sequences)
     }
 
     /// Renders by way of this writer of styles to a writer that records, and returns the recording.
@@ -77,16 +77,16 @@ impl StyleWriterKind {
     /// # Errors
     ///
     /// - `Failed`: rendering or an allocation fails.
-    /// - `OtherText`: what was written is not as said above.
+    /// - `UnexpectedBytes`: what was written is not as said above.
     pub fn record<D: Render>(
         self,
         alloc: Global,
-        output: &D,
+        call: &D,
         text: &str,
-    ) -> Result<Recording, Failure> {
+    ) -> Result<Recording, WrongRun> {
         let mut recording = Recording::new(alloc);
-        self.render(output, &mut recording)?;
-        let has_sequences = self.shows_style_marks() && output.has_style_marks();
+        self.render(call, &mut recording)?;
+        let has_sequences = self.shows_style_marks() && call.has_style_marks();
         let bytes = recording.text();
         let is_text = if has_sequences {
             bytes.len() > text.len()
@@ -97,7 +97,7 @@ impl StyleWriterKind {
         if is_text {
             Ok(recording)
         } else {
-            Err(Failure::OtherText(self))
+            Err(WrongRun::UnexpectedBytes(self))
         }
     }
 }

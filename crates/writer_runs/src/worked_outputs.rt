@@ -14,7 +14,7 @@
 //! `multi_bottom`, `multi_primary_caret_end` or `multi_secondary_caret_end`. Any other field, and a
 //! C that is not one character, is the error `UnknownName`.
 
-use crate::failure::FatalError;
+use crate::errors::FatalError;
 use crate::worked_output::{TextKind, WorkedOutput};
 use codespan_base::term::Chars;
 use gallery_script::errors::LineError;

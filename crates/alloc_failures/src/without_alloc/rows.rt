@@ -16,32 +16,32 @@ use std::io::Write;
 /// The error of the first call that fails, and `FormatError` if lanes are not in order.
 pub fn render_rows<W: Write>(
     writer: &mut W,
-    start: &Locus,
-    row_locus: &Locus,
+    snippet_locus: &Locus,
+    header_locus: &Locus,
 ) -> Result<(), Error> {
-    render_each(&mut PlainWriter::new(writer), start, row_locus)
+    render_each(&mut PlainWriter::new(writer), snippet_locus, header_locus)
 }
 
 /// Makes each `render_` call.
 fn render_each<W: WriteStyle>(
     writer: &mut W,
-    start: &Locus,
-    row_locus: &Locus,
+    snippet_locus: &Locus,
+    header_locus: &Locus,
 ) -> Result<(), Error> {
     let config = Config::default();
     let mut renderer = Renderer::new(writer, &config);
     renderer.render_header(None, Severity::Error, None, "")?;
-    renderer.render_snippet_start(1, start)?;
+    renderer.render_snippet_start(1, snippet_locus)?;
     renderer.render_snippet_empty(1, Severity::Error, 2, &[])?;
     render_crossing(&mut renderer)?;
     renderer.render_empty()?;
-    render_other_rows(&mut renderer, row_locus)
+    render_other_rows(&mut renderer, header_locus)
 }
 
 /// Writes rows of other kinds. Fails with `FormatError` if the lanes are not in order.
 fn render_other_rows<W: WriteStyle>(
     renderer: &mut Renderer<'_, '_, W>,
-    row_locus: &Locus,
+    header_locus: &Locus,
 ) -> Result<(), Error> {
     render_hanging(renderer)?;
     let multi_labels = [(0, Primary, MultiLabel::Left)];
@@ -50,7 +50,7 @@ fn render_other_rows<W: WriteStyle>(
     }
     renderer.render_snippet_break(2, Severity::Error, 1, &multi_labels)?;
     let message = "unexpected type in application of `_+_`";
-    renderer.render_header(Some(row_locus), Severity::Error, Some("E0001"), message)?;
+    renderer.render_header(Some(header_locus), Severity::Error, Some("E0001"), message)?;
     renderer.render_snippet_note(0, "a\r\n\nb\n")
 }
 

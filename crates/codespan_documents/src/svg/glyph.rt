@@ -44,7 +44,8 @@ impl Glyph {
         !self.is_newline() && self.cells() <= 1
     }
 
-    /// Returns whether the next glyph belongs to the same text: both are narrow, in one ink.
+    /// Returns whether the next glyph belongs to the same `text` element: both are narrow, in one
+    /// ink.
     fn joins(self, next: Glyph) -> bool
         ensures { result ≡ joins self next }
     {
@@ -52,7 +53,7 @@ impl Glyph {
     }
 }
 
-/// Returns whether a glyph belongs to the text of the one before it, if there is one.
+/// Returns whether a glyph belongs to the `text` element of the one before it, if there is one.
 pub(super) fn follows(before: Option<Glyph>, glyph: Glyph) -> bool
     ensures { result ≡ follows before glyph }
 {
@@ -62,7 +63,7 @@ pub(super) fn follows(before: Option<Glyph>, glyph: Glyph) -> bool
     }
 }
 
-/// Returns whether the first of the glyphs after a glyph belongs to its text.
+/// Returns whether the first of the glyphs after a glyph belongs to its `text` element.
 pub(super) fn joins_next(glyph: Glyph, others: &[Glyph]) -> bool
     ensures { result ≡ joins_next glyph others.now }
 {
@@ -72,7 +73,7 @@ pub(super) fn joins_next(glyph: Glyph, others: &[Glyph]) -> bool
     }
 }
 
-/// Returns the number of cells of the glyphs after `before` that belong to its text.
+/// Returns the number of cells of the glyphs after `before` that belong to its `text` element.
 pub(super) fn joined_cells(before: Glyph, others: &[Glyph]) -> u128
     ensures value { result ≡ joined_cells before others.now }
     ensures bound { result ≤ length others.now }

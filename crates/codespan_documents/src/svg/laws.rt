@@ -8,9 +8,9 @@ ghost use Rattle.codespan_documents.specs.Runs.{RunView};
 ghost use Rattle.codespan_documents.specs.Svg.{first_pen};
 ghost use Rattle.codespan_documents.specs.SvgReading.{piece_characters, pieces_from, characters_from};
 
-/// States that the texts of a document have each character but newlines once, in the order of the
-/// runs, in its ink, and, counted from where the text begins, in the cell that it has among all
-/// characters.
+/// States that the `text` elements of a document have each character but newlines once, in the
+/// order of the runs, in its ink, and, counted from where the element begins, in the cell that it
+/// has among all characters.
 pub fn characters_are_in_their_cells()
     ensures { (styles : Styles) (runs : List RunView) →
         flat_map piece_characters (pieces_from first_pen (glyphs_of styles runs))

@@ -34,49 +34,50 @@ newline_lawful name text first_line stated u fits =
 boundary : (text : List ℕ) (i : ℕ) → is_char_boundary text i ≡ true → IsCharBoundary text i
 boundary text i e = grind (arith, nat_tests, e)
 
-module _ (text : List ℕ) (first : ℕ) where
+module _ (text : List ℕ) (first_byte : ℕ) where
   -- lines one after another
   record Chain (ls : List RawLine) : Type 0 where
-    pub rising : (i : ℕ) → i + 1 < length (starts_of first ls)
-        → slice_index (starts_of first ls) i < slice_index (starts_of first ls) (i + 1)
-    pub starts_on_boundaries : (i : ℕ) → i < length (starts_of first ls)
-        → IsCharBoundary text (slice_index (starts_of first ls) i)
-    pub ends_on_boundaries : (i : ℕ) → i < length (starts_of first ls)
-        → IsCharBoundary text (slice_index (ends_of first ls) i)
-    pub ends_after_start : (i : ℕ) → i < length (starts_of first ls)
-        → slice_index (starts_of first ls) i ≤ slice_index (ends_of first ls) i
-    pub ends_before_next : (i : ℕ) → i + 1 < length (starts_of first ls)
-        → slice_index (ends_of first ls) i ≤ slice_index (starts_of first ls) (i + 1)
+    pub rising : (i : ℕ) → i + 1 < length (starts_of first_byte ls)
+        → slice_index (starts_of first_byte ls) i < slice_index (starts_of first_byte ls) (i + 1)
+    pub starts_on_boundaries : (i : ℕ) → i < length (starts_of first_byte ls)
+        → IsCharBoundary text (slice_index (starts_of first_byte ls) i)
+    pub ends_on_boundaries : (i : ℕ) → i < length (starts_of first_byte ls)
+        → IsCharBoundary text (slice_index (ends_of first_byte ls) i)
+    pub ends_after_start : (i : ℕ) → i < length (starts_of first_byte ls)
+        → slice_index (starts_of first_byte ls) i ≤ slice_index (ends_of first_byte ls) i
+    pub ends_before_next : (i : ℕ) → i + 1 < length (starts_of first_byte ls)
+        → slice_index (ends_of first_byte ls) i ≤ slice_index (starts_of first_byte ls) (i + 1)
 
   -- what `are_next_lines` says of the first of some lines, and of those after it
   record Step (start end : ℕ) (l : RawLine) (ls : List RawLine) : Type 0 where
-    pub later : start < l.start - first
-    pub apart : end ≤ l.start - first
-    pub inside : l.start - first ≤ l.end - first
-    pub start_cut : IsCharBoundary text (l.start - first)
-    pub end_cut : IsCharBoundary text (l.end - first)
-    pub rest : are_next_lines text first (l.start - first) (l.end - first) ls ≡ true
+    pub later : start < l.start - first_byte
+    pub apart : end ≤ l.start - first_byte
+    pub inside : l.start - first_byte ≤ l.end - first_byte
+    pub start_cut : IsCharBoundary text (l.start - first_byte)
+    pub end_cut : IsCharBoundary text (l.end - first_byte)
+    pub rest : are_next_lines text first_byte (l.start - first_byte) (l.end - first_byte) ls ≡ true
 
   step : (start end : ℕ) (l : RawLine) (ls : List RawLine)
-      → are_next_lines text first start end (l ∷ ls) ≡ true → Step start end l ls
+      → are_next_lines text first_byte start end (l ∷ ls) ≡ true → Step start end l ls
   step start end l ls e =
-      let a = and_parts (nat_lt start (l.start - first)) _ e in
-      let b = and_parts (nat_le end (l.start - first)) _ a.1 in
-      let c = and_parts (nat_le (l.start - first) (l.end - first)) _ b.1 in
-      let d = and_parts (is_char_boundary text (l.start - first)) _ c.1 in
-      let f = and_parts (is_char_boundary text (l.end - first)) _ d.1 in
+      let a = and_parts (nat_lt start (l.start - first_byte)) _ e in
+      let b = and_parts (nat_le end (l.start - first_byte)) _ a.1 in
+      let c = and_parts (nat_le (l.start - first_byte) (l.end - first_byte)) _ b.1 in
+      let d = and_parts (is_char_boundary text (l.start - first_byte)) _ c.1 in
+      let f = and_parts (is_char_boundary text (l.end - first_byte)) _ d.1 in
       record {
         later = grind (arith, nat_tests, a.0);
         apart = grind (arith, nat_tests, b.0);
         inside = grind (arith, nat_tests, c.0);
-        start_cut = boundary text (l.start - first) d.0;
-        end_cut = boundary text (l.end - first) f.0;
+        start_cut = boundary text (l.start - first_byte) d.0;
+        end_cut = boundary text (l.end - first_byte) f.0;
         rest = f.1;
       }
 
   -- one line is a chain
-  chain_one : (l : RawLine) → IsCharBoundary text (l.start - first)
-      → IsCharBoundary text (l.end - first) → l.start - first ≤ l.end - first → Chain (l ∷ [])
+  chain_one : (l : RawLine) → IsCharBoundary text (l.start - first_byte)
+      → IsCharBoundary text (l.end - first_byte) → l.start - first_byte ≤ l.end - first_byte
+      → Chain (l ∷ [])
   chain_one l s e h = record {
     rising = λ i p. absurd (omega (arith, p));
     starts_on_boundaries = start_on_boundary;
@@ -86,23 +87,24 @@ module _ (text : List ℕ) (first : ℕ) where
   }
     where
       start_on_boundary : (i : ℕ) → i < 1
-          → IsCharBoundary text (slice_index ((l.start - first) ∷ []) i)
+          → IsCharBoundary text (slice_index ((l.start - first_byte) ∷ []) i)
       start_on_boundary zero p = s
       start_on_boundary (suc i) p = absurd (omega (arith, p))
 
-      end_on_boundary : (i : ℕ) → i < 1 → IsCharBoundary text (slice_index ((l.end - first) ∷ []) i)
+      end_on_boundary : (i : ℕ) → i < 1
+          → IsCharBoundary text (slice_index ((l.end - first_byte) ∷ []) i)
       end_on_boundary zero p = e
       end_on_boundary (suc i) p = absurd (omega (arith, p))
 
       end_after_start : (i : ℕ) → i < 1
-          → slice_index ((l.start - first) ∷ []) i ≤ slice_index ((l.end - first) ∷ []) i
+          → slice_index ((l.start - first_byte) ∷ []) i ≤ slice_index ((l.end - first_byte) ∷ []) i
       end_after_start zero p = h
       end_after_start (suc i) p = absurd (omega (arith, p))
 
   -- a line before a chain that follows it
-  chain_more : (l m : RawLine) (ms : List RawLine) → IsCharBoundary text (l.start - first)
-      → IsCharBoundary text (l.end - first) → l.start - first ≤ l.end - first
-      → l.start - first < m.start - first → l.end - first ≤ m.start - first
+  chain_more : (l m : RawLine) (ms : List RawLine) → IsCharBoundary text (l.start - first_byte)
+      → IsCharBoundary text (l.end - first_byte) → l.start - first_byte ≤ l.end - first_byte
+      → l.start - first_byte < m.start - first_byte → l.end - first_byte ≤ m.start - first_byte
       → Chain (m ∷ ms) → Chain (l ∷ m ∷ ms)
   chain_more l m ms s e h later apart c = record {
     rising = rising;
@@ -112,59 +114,60 @@ module _ (text : List ℕ) (first : ℕ) where
     ends_before_next = ends_before_next;
   }
     where
-      rising : (i : ℕ) → i + 1 < length (starts_of first (l ∷ m ∷ ms))
-          → slice_index (starts_of first (l ∷ m ∷ ms)) i
-          < slice_index (starts_of first (l ∷ m ∷ ms)) (i + 1)
+      rising : (i : ℕ) → i + 1 < length (starts_of first_byte (l ∷ m ∷ ms))
+          → slice_index (starts_of first_byte (l ∷ m ∷ ms)) i
+          < slice_index (starts_of first_byte (l ∷ m ∷ ms)) (i + 1)
       rising zero p = later
       rising (suc k) p =
           let q : suc k + 1 ≡ suc (k + 1) = omega arith in rw q (c.rising k (omega (arith, p)))
 
-      starts_on_boundaries : (i : ℕ) → i < length (starts_of first (l ∷ m ∷ ms))
-          → IsCharBoundary text (slice_index (starts_of first (l ∷ m ∷ ms)) i)
+      starts_on_boundaries : (i : ℕ) → i < length (starts_of first_byte (l ∷ m ∷ ms))
+          → IsCharBoundary text (slice_index (starts_of first_byte (l ∷ m ∷ ms)) i)
       starts_on_boundaries zero p = s
       starts_on_boundaries (suc k) p = c.starts_on_boundaries k (omega (arith, p))
 
-      ends_on_boundaries : (i : ℕ) → i < length (starts_of first (l ∷ m ∷ ms))
-          → IsCharBoundary text (slice_index (ends_of first (l ∷ m ∷ ms)) i)
+      ends_on_boundaries : (i : ℕ) → i < length (starts_of first_byte (l ∷ m ∷ ms))
+          → IsCharBoundary text (slice_index (ends_of first_byte (l ∷ m ∷ ms)) i)
       ends_on_boundaries zero p = e
       ends_on_boundaries (suc k) p = c.ends_on_boundaries k (omega (arith, p))
 
-      ends_after_start : (i : ℕ) → i < length (starts_of first (l ∷ m ∷ ms))
-          → slice_index (starts_of first (l ∷ m ∷ ms)) i
-          ≤ slice_index (ends_of first (l ∷ m ∷ ms)) i
+      ends_after_start : (i : ℕ) → i < length (starts_of first_byte (l ∷ m ∷ ms))
+          → slice_index (starts_of first_byte (l ∷ m ∷ ms)) i
+          ≤ slice_index (ends_of first_byte (l ∷ m ∷ ms)) i
       ends_after_start zero p = h
       ends_after_start (suc k) p = c.ends_after_start k (omega (arith, p))
 
-      ends_before_next : (i : ℕ) → i + 1 < length (starts_of first (l ∷ m ∷ ms))
-          → slice_index (ends_of first (l ∷ m ∷ ms)) i
-          ≤ slice_index (starts_of first (l ∷ m ∷ ms)) (i + 1)
+      ends_before_next : (i : ℕ) → i + 1 < length (starts_of first_byte (l ∷ m ∷ ms))
+          → slice_index (ends_of first_byte (l ∷ m ∷ ms)) i
+          ≤ slice_index (starts_of first_byte (l ∷ m ∷ ms)) (i + 1)
       ends_before_next zero p = apart
       ends_before_next (suc k) p =
           let q : suc k + 1 ≡ suc (k + 1) = omega arith in
           rw q (c.ends_before_next k (omega (arith, p)))
 
   -- lines for which `are_next_lines` holds are a chain
-  chain : (l : RawLine) (ls : List RawLine) → IsCharBoundary text (l.start - first)
-      → IsCharBoundary text (l.end - first) → l.start - first ≤ l.end - first
-      → are_next_lines text first (l.start - first) (l.end - first) ls ≡ true → Chain (l ∷ ls)
+  chain : (l : RawLine) (ls : List RawLine) → IsCharBoundary text (l.start - first_byte)
+      → IsCharBoundary text (l.end - first_byte) → l.start - first_byte ≤ l.end - first_byte
+      → are_next_lines text first_byte (l.start - first_byte) (l.end - first_byte) ls ≡ true
+      → Chain (l ∷ ls)
   chain l [] s e h t = chain_one l s e h
   chain l (m ∷ ms) s e h t =
-      let x = step (l.start - first) (l.end - first) m ms t in
+      let x = step (l.start - first_byte) (l.end - first_byte) m ms t in
       chain_more l m ms s e h x.later x.apart (chain m ms x.start_cut x.end_cut x.inside x.rest)
 
 -- a text cut into lines for which `are_lines` holds makes a lawful file
-pub stated_lawful : (name text : List ℕ) (first : ℕ) (lines : List RawLine)
+pub stated_lawful : (name text : List ℕ) (first_byte : ℕ) (lines : List RawLine)
     (stated : ℕ → Option Location) → IsUtf8 text → length text < 2 ^ 64
-    → are_lines text first lines ≡ true
+    → are_lines text first_byte lines ≡ true
     → IsLawful (native_file_model
-    (record { text = stated_text name text first lines; stated_location = stated }))
-stated_lawful name text first [] stated u fits t = absurd (cc)
-stated_lawful name text first (l ∷ ls) stated u fits t =
-    let a = and_parts (eqb (l.start - first) 0) _ t in
-    let b = and_parts (is_char_boundary text (l.end - first)) _ a.1 in
-    let zero_start : l.start - first ≡ 0 = grind (arith, nat_tests, a.0) in
-    let c = chain text first l ls (rw zero_start (IsCharBoundary-start text u))
-    (boundary text (l.end - first) b.0) (omega (arith, zero_start)) b.1 in
+    (record { text = stated_text name text first_byte lines; stated_location = stated }))
+stated_lawful name text first_byte [] stated u fits t = absurd (cc)
+stated_lawful name text first_byte (l ∷ ls) stated u fits t =
+    let a = and_parts (eqb (l.start - first_byte) 0) _ t in
+    let b = and_parts (is_char_boundary text (l.end - first_byte)) _ a.1 in
+    let zero_start : l.start - first_byte ≡ 0 = grind (arith, nat_tests, a.0) in
+    let c = chain text first_byte l ls (rw zero_start (IsCharBoundary-start text u))
+    (boundary text (l.end - first_byte) b.0) (omega (arith, zero_start)) b.1 in
     record {
       is_utf8 = u;
       fits = fits;

@@ -9,7 +9,7 @@ use crate::native_file::{NewlineText, StatedText};
 use codespan_base::files::Error;
 use std::ops::Range;
 
-/// A text cut into lines.
+/// A file's name and its source, cut into numbered lines.
 #[derive(Drop)]
 pub enum SourceText<'a> {
     /// Cut at newlines.

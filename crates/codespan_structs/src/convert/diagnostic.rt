@@ -5,7 +5,7 @@ ghost use Rattle.std.specs.Str.{IsUtf8};
 ghost use Rattle.std.specs.Option.{option_map};
 ghost use Rattle.codespan_base.specs.Diagnostics.{diagnostic_view, label_view};
 ghost use Rattle.codespan_structs.specs.Converted.{bytes_of, code_of, converted_label, label_style_of, first_byte_of, severity_of, converted_diagnostic};
-ghost use Rattle.codespan_structs.specs.Validity.{HasTextMessage, IsValidText};
+ghost use Rattle.codespan_structs.specs.Validity.{HasValidMessage, IsValidText};
 ghost use Rattle.codespan_structs.specs.ValidParts.{IsValidDiagnostic};
 
 use crate::convert::text::string_of;
@@ -71,7 +71,7 @@ fn labels_of(
     files: &[RawFile<'_>],
     raw: &[RawLabel<'_>],
 ) -> Result<Vec<Label<usize>>, OutOfMemory>
-    requires { All HasTextMessage raw.now }
+    requires { All HasValidMessage raw.now }
     ensures { IfOk result (λ labels.
         map label_view labels.items ≡ map (converted_label files.now) raw.now) }
 {
@@ -88,7 +88,7 @@ fn converted_label(
     files: &[RawFile<'_>],
     raw: &RawLabel<'_>,
 ) -> Result<Label<usize>, AllocError>
-    requires { HasTextMessage raw.now }
+    requires { HasValidMessage raw.now }
     ensures { IfOk result (λ label. label_view label ≡ converted_label files.now raw.now) }
 {
     let first_byte = first_byte_of(files, raw.file);

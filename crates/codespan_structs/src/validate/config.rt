@@ -4,10 +4,10 @@ ghost use Rattle.std.specs.Prelude.{◌≡◌, IsTrue, ◌↔◌};
 ghost use Rattle.std.specs.Char.{InScalarRange};
 ghost use Rattle.std.specs.Str.{IsUtf8};
 ghost use Rattle.codespan_structs.specs.Constants.{ABI};
-ghost use Rattle.codespan_structs.specs.Validity.{code_points_of, color_specs_of, FindsFirstInvalid, FindsFirstWithout, HoldsIfAt, IsColorSpec};
+ghost use Rattle.codespan_structs.specs.Validity.{code_points_of, color_specs_of, FindsFirstInvalid, FindsFirstWithout, HoldsIfAt, IsValidColorSpec};
 
 use crate::raw::{ABI, RawChars, RawColorSpec, RawConfig, RawStyles};
-use crate::validate::values::{is_color_spec, is_scalar_value, is_utf8};
+use crate::validate::values::{is_valid_color_spec, is_scalar_value, is_utf8};
 
 /// The number that chooses the caller's characters.
 const CUSTOM_CHARACTERS: u32 = 2;
@@ -47,7 +47,7 @@ pub fn character_index(config: &RawConfig<'_>) -> Option<usize>
 /// are chosen.
 pub fn color_index(config: &RawConfig<'_>) -> Option<usize>
     ensures { FindsFirstInvalid (λ i. config.now.spelling ≡ 2
-        → HoldsIfAt IsColorSpec (color_specs_of config.now.styles) i) result }
+        → HoldsIfAt IsValidColorSpec (color_specs_of config.now.styles) i) result }
 {
     if config.spelling != CUSTOM_STYLES {
         return None;
@@ -64,9 +64,9 @@ fn code_point_index(codes: &[u32]) -> Option<usize>
 
 /// Returns the index of the first style with a color that is invalid.
 fn color_spec_index(specs: &[RawColorSpec]) -> Option<usize>
-    ensures { FindsFirstWithout IsColorSpec specs.now result }
+    ensures { FindsFirstWithout IsValidColorSpec specs.now result }
 {
-    specs.iter().position(|spec| !is_color_spec(spec))
+    specs.iter().position(|spec| !is_valid_color_spec(spec))
 }
 
 /// Returns the code points of the caller's characters, in the order of the fields.

@@ -1,21 +1,21 @@
 //! Validates the diagnostic.
 
 ghost use Rattle.std.specs.Prelude.{◌≤◌, length};
-ghost use Rattle.codespan_structs.specs.Validity.{FindsFirstWithout, HasLabelStyle, HasTextMessage, HasLabelFile, IsValidText};
+ghost use Rattle.codespan_structs.specs.Validity.{FindsFirstWithout, HasValidStyle, HasValidMessage, HasValidFile, IsValidText};
 
 use crate::raw::{RawFile, RawLabel, RawText};
 use crate::validate::values::is_utf8;
 
 /// Returns the index of the first label whose style is invalid.
 pub fn label_style_index(labels: &[RawLabel<'_>]) -> Option<usize>
-    ensures { FindsFirstWithout HasLabelStyle labels.now result }
+    ensures { FindsFirstWithout HasValidStyle labels.now result }
 {
     labels.iter().position(|label| label.style > 1)
 }
 
 /// Returns the index of the first label whose message is not UTF-8.
 pub fn label_message_index(labels: &[RawLabel<'_>]) -> Option<usize>
-    ensures { FindsFirstWithout HasTextMessage labels.now result }
+    ensures { FindsFirstWithout HasValidMessage labels.now result }
 {
     labels.iter().position(|label| !is_utf8(label.message))
 }
@@ -29,14 +29,14 @@ pub fn note_index(notes: &[RawText<'_>]) -> Option<usize>
 
 /// Returns the index of the first label whose file is not one of these.
 pub fn label_file_index(files: &[RawFile<'_>], labels: &[RawLabel<'_>]) -> Option<usize>
-    ensures { FindsFirstWithout (HasLabelFile (length files.now)) labels.now result }
+    ensures { FindsFirstWithout (HasValidFile (length files.now)) labels.now result }
 {
     missing_file_index(files.len(), labels)
 }
 
 /// Returns the index of the first label whose file is not one of `count` files.
 fn missing_file_index(count: usize, labels: &[RawLabel<'_>]) -> Option<usize>
-    ensures { FindsFirstWithout (HasLabelFile count) labels.now result }
+    ensures { FindsFirstWithout (HasValidFile count) labels.now result }
 {
     labels.iter().position(|label| label.file >= count)
 }

@@ -1,7 +1,7 @@
 //! Validates the files.
 
 ghost use Rattle.std.specs.Prelude.{IsTrue, ◌↔◌};
-ghost use Rattle.codespan_structs.specs.Validity.{FindsFirstWithout, HasTextName, HasTextSource, HasValidLines, HasValidLocations};
+ghost use Rattle.codespan_structs.specs.Validity.{FindsFirstWithout, HasValidName, HasValidSource, HasValidLines, HasValidLocations};
 
 use crate::raw::RawFile;
 use crate::validate::values::is_utf8;
@@ -9,14 +9,14 @@ use codespan_sources::stated_lines::{are_lines, locations_ascend};
 
 /// Returns the index of the first file whose name is not UTF-8.
 pub fn name_index(files: &[RawFile<'_>]) -> Option<usize>
-    ensures { FindsFirstWithout HasTextName files.now result }
+    ensures { FindsFirstWithout HasValidName files.now result }
 {
     files.iter().position(|file| !is_utf8(file.name))
 }
 
 /// Returns the index of the first file whose source is not UTF-8.
 pub fn source_index(files: &[RawFile<'_>]) -> Option<usize>
-    ensures { FindsFirstWithout HasTextSource files.now result }
+    ensures { FindsFirstWithout HasValidSource files.now result }
 {
     files.iter().position(|file| !is_utf8(file.source))
 }

@@ -3,7 +3,7 @@
 ghost use Rattle.std.specs.Prelude.{◌≡◌, ◌-◌, IsTrue, ◌↔◌};
 ghost use Rattle.std.specs.Char.{InScalarRange};
 ghost use Rattle.std.specs.Str.{IsUtf8};
-ghost use Rattle.codespan_structs.specs.Validity.{IsColorSpec};
+ghost use Rattle.codespan_structs.specs.Validity.{IsValidColorSpec};
 
 use crate::raw::RawColorSpec;
 
@@ -22,8 +22,8 @@ pub fn is_scalar_value(code: u32) -> bool
 }
 
 /// Returns whether both colors of a style are numbers of colors: from 0, for none, to 8.
-pub fn is_color_spec(spec: &RawColorSpec) -> bool
-    ensures { IsTrue result ↔ IsColorSpec spec.now }
+pub fn is_valid_color_spec(spec: &RawColorSpec) -> bool
+    ensures { IsTrue result ↔ IsValidColorSpec spec.now }
 {
     spec.fg <= 8 && spec.bg <= 8
 }

@@ -19,8 +19,8 @@ pub fn safe_text_is_shown()
 /// States that each safe character has the column that it has among all characters: those left out
 /// take no cells. So a caret stays under its character.
 pub fn columns_stay()
-    ensures { (tab column : ℕ) (cs : List ℕ) →
-        columns tab column (safe_characters cs) ≡ safe_columns tab column cs }
+    ensures { (tab_width column : ℕ) (cs : List ℕ) →
+        columns tab_width column (safe_characters cs) ≡ safe_columns tab_width column cs }
 {}
 
 /// States that of an output whose characters are safe the text for a terminal is what

@@ -1,4 +1,4 @@
-//! A line number that can not be looked up, a missing file, and a view and a renderer with two
+//! A line number that cannot be looked up, a missing file, and a view and a renderer with two
 //! configurations.
 
 use crate::asserts::assert_bytes;
@@ -28,7 +28,7 @@ fn two_lines_after<'chars>() -> Config<'chars> {
     }
 }
 
-/// Where the number of a context line can not be looked up, the call fails: the context does not
+/// Where the number of a context line cannot be looked up, the call fails: the context does not
 /// end before that line.
 #[test]
 fn mapped_overflow(rt: HostRuntime) {

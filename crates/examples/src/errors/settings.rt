@@ -54,7 +54,7 @@ pub enum SettingsError {
     /// A line sets an unknown key.
     UnknownKey {
         /// The range of the key.
-        name: Range<usize>,
+        key_range: Range<usize>,
         /// The key that may have been meant.
         suggestion: Option<Key>,
     },
@@ -94,8 +94,8 @@ impl SettingsError {
                     .with_label(before.with_message("first set here")?)?
                     .with_note("the last value is used")
             }
-            SettingsError::UnknownKey { name, suggestion } => {
-                let primary_label = Label::primary(alloc, file, name.start..name.end);
+            SettingsError::UnknownKey { key_range, suggestion } => {
+                let primary_label = Label::primary(alloc, file, key_range.start..key_range.end);
                 let diagnostic = Diagnostic::error(alloc)
                     .with_code("S003")?
                     .with_message("unknown key")?

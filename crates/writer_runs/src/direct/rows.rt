@@ -8,20 +8,20 @@ use codespan_base::diagnostic::LabelStyle::Primary;
 use codespan_base::diagnostic::Severity;
 use codespan_renderer::term::renderer::MultiLabel;
 
-/// A row that is rendered by a direct call.
+/// The rows that one direct call writes.
 #[derive(Clone, Copy)]
 pub struct DirectRow<'text> {
-    /// Its name.
+    /// Their name.
     pub name: &'text str,
     /// The call.
     pub call: RowCall<'text>,
-    /// Its text.
+    /// Their text.
     pub text: &'text str,
-    /// What is expected of its text in escape sequences.
+    /// What is expected of their text in escape sequences.
     pub colors: ExpectedColors<'text>,
 }
 
-/// A row of whose escape sequences nothing is expected.
+/// Rows of whose escape sequences nothing is expected.
 const ROW: DirectRow<'static> = DirectRow {
     name: "",
     call: RowCall::Empty,

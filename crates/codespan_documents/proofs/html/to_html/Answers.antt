@@ -1,5 +1,5 @@
 use Rattle.std.proofs.Common.{map, ap, ◌∙◌}
-use Rattle.codespan_documents.specs.HtmlReading.{html_tokens, text_of_html}
+use Rattle.codespan_documents.specs.HtmlReading.{read_tokens, text_of_html}
 use Rattle.codespan_documents.specs.Runs.{run_view}
 use Rattle.codespan_documents.proofs.HtmlReading.{element-read, element-text}
 use Rattle.codespan_documents.proofs.HtmlWriting.{element-written}
@@ -8,7 +8,7 @@ use Rattle.codespan_documents.proofs.html.to_html.Goals as goal
 pub returns-clause-tokens : goal.returns-clause-tokens
 returns-clause-tokens c =
     let runs = c.args.text.now.runs.items in
-    ap html_tokens
+    ap read_tokens
     (element-written runs _ _ _ _ _ c.new-html.ensures.bytes c.in_ok-push_str.ensures.bytes
     c.as_slice.ensures.value c.in_ok-push_runs.ensures c.in_ok-push_str-2.ensures.bytes)
     ∙ element-read (map run_view runs)

@@ -1,9 +1,9 @@
 use Rattle.std.proofs.Common.{map, ap, ◌∙◌}
 use Rattle.codespan_documents.specs.Glyphs.{glyphs_of}
-use Rattle.codespan_documents.specs.HtmlReading.{html_tokens, text_of_tokens}
+use Rattle.codespan_documents.specs.HtmlReading.{read_tokens, text_of_tokens}
 use Rattle.codespan_documents.specs.Runs.{run_view, styled_runs}
 use Rattle.codespan_documents.specs.Svg.{svg_document}
-use Rattle.codespan_documents.proofs.SvgReading.{svg-read, svg-text}
+use Rattle.codespan_documents.proofs.SvgReading.{svg-read, shown-svg-text}
 use Rattle.codespan_documents.proofs.svg.to_svg.Goals as goal
 
 -- the document is that of the glyphs of all runs
@@ -16,10 +16,10 @@ returns-clause-document c =
 
 pub returns-clause-tokens : goal.returns-clause-tokens
 returns-clause-tokens c =
-    ap (λ bytes. html_tokens bytes) (returns-clause-document c)
+    ap (λ bytes. read_tokens bytes) (returns-clause-document c)
     ∙ svg-read (glyphs_of c.args.styles.now (styled_runs c.args.text.now))
 
 pub returns-clause-text : goal.returns-clause-text
 returns-clause-text c =
-    ap (λ bytes. text_of_tokens (html_tokens bytes)) (returns-clause-document c)
-    ∙ svg-text c.args.styles.now (styled_runs c.args.text.now)
+    ap (λ bytes. text_of_tokens (read_tokens bytes)) (returns-clause-document c)
+    ∙ shown-svg-text c.args.styles.now (styled_runs c.args.text.now)

@@ -1,5 +1,5 @@
 use Rattle.codespan_structs.proofs.FirstInvalid.{by_index, by_test}
-use Rattle.codespan_structs.specs.Validity.{HasLabelStyle, HasTextMessage, HasTextName, HasTextSource, HasValidLines, HasValidLocations, HasLabelFile, IsValidText}
+use Rattle.codespan_structs.specs.Validity.{HasValidStyle, HasValidMessage, HasValidName, HasValidSource, HasValidLines, HasValidLocations, HasValidFile, IsValidText}
 use Rattle.codespan_structs.proofs.validate.invalid_index.Goals as goal
 
 pub returns-in-Character : goal.returns-in-Character
@@ -9,10 +9,10 @@ pub returns-in-Color : goal.returns-in-Color
 returns-in-Color c = rw c.in-Color.is c.color_index.ensures
 
 pub returns-in-FileName : goal.returns-in-FileName
-returns-in-FileName c = rw c.in-FileName.is (by_index HasTextName _ _ c.name_index.ensures)
+returns-in-FileName c = rw c.in-FileName.is (by_index HasValidName _ _ c.name_index.ensures)
 
 pub returns-in-FileSource : goal.returns-in-FileSource
-returns-in-FileSource c = rw c.in-FileSource.is (by_index HasTextSource _ _ c.source_index.ensures)
+returns-in-FileSource c = rw c.in-FileSource.is (by_index HasValidSource _ _ c.source_index.ensures)
 
 pub returns-in-FileLines : goal.returns-in-FileLines
 returns-in-FileLines c = rw c.in-FileLines.is (by_index HasValidLines _ _ c.lines_index.ensures)
@@ -23,15 +23,15 @@ returns-in-FileLocations c =
 
 pub returns-in-LabelStyle : goal.returns-in-LabelStyle
 returns-in-LabelStyle c =
-    rw c.in-LabelStyle.is (by_index HasLabelStyle _ _ c.label_style_index.ensures)
+    rw c.in-LabelStyle.is (by_index HasValidStyle _ _ c.label_style_index.ensures)
 
 pub returns-in-LabelMessage : goal.returns-in-LabelMessage
 returns-in-LabelMessage c =
-    rw c.in-LabelMessage.is (by_index HasTextMessage _ _ c.label_message_index.ensures)
+    rw c.in-LabelMessage.is (by_index HasValidMessage _ _ c.label_message_index.ensures)
 
 pub returns-in-LabelFile : goal.returns-in-LabelFile
 returns-in-LabelFile c =
-    rw c.in-LabelFile.is (by_index (HasLabelFile _) _ _ c.label_file_index.ensures)
+    rw c.in-LabelFile.is (by_index (HasValidFile _) _ _ c.label_file_index.ensures)
 
 pub returns-in-Note : goal.returns-in-Note
 returns-in-Note c = rw c.in-Note.is (by_index IsValidText _ _ c.note_index.ensures)

@@ -3,4 +3,4 @@ use Rattle.examples_library.proofs.config.lex.Given as goal
 
 -- the tokens so far are inside the text
 abbrev pub invariant-loop-index : goal.invariant-loop-index
-invariant-loop-index l = All (λ w. w.end ≤ length l.text) l.tokens.items
+invariant-loop-index l = All (λ token. token.end ≤ length l.text) l.tokens.items

@@ -1,11 +1,11 @@
 use Rattle.std.proofs.Common.{rules}
 use Rattle.std.proofs.lemmas.Iterator.{IsFirst-from_position, YieldsList-from_slice}
 use borrow.Author.Tests.{tests}
-use Rattle.codespan_structs.specs.Validity.{IsColorSpec}
+use Rattle.codespan_structs.specs.Validity.{IsValidColorSpec}
 use Rattle.codespan_structs.proofs.validate.config.color_spec_index.Goals as goal
 
 pub returns : goal.returns
 returns c =
-    IsFirst-from_position _ _ _ (λ x. ¬ IsColorSpec x) IsColorSpec c.position.ensures.ran
+    IsFirst-from_position _ _ _ (λ x. ¬ IsValidColorSpec x) IsValidColorSpec c.position.ensures.ran
     (YieldsList-from_slice c.args.specs.now cc) (λ x q k. search (rules, tests))
     (λ x q k. search (rules, tests))

@@ -1,11 +1,11 @@
 use Rattle.std.proofs.Common.{rules}
 use Rattle.std.proofs.lemmas.Iterator.{IsFirst-from_position, YieldsList-from_slice}
 use borrow.Author.Tests.{tests}
-use Rattle.codespan_structs.specs.Validity.{HasTextMessage}
+use Rattle.codespan_structs.specs.Validity.{HasValidMessage}
 use Rattle.codespan_structs.proofs.validate.diagnostic.label_message_index.Goals as goal
 
 pub returns : goal.returns
 returns c =
-    IsFirst-from_position _ _ _ (λ x. ¬ HasTextMessage x) HasTextMessage c.position.ensures.ran
+    IsFirst-from_position _ _ _ (λ x. ¬ HasValidMessage x) HasValidMessage c.position.ensures.ran
     (YieldsList-from_slice c.args.labels.now cc) (λ x q k. search (rules, tests))
     (λ x q k. search (rules, tests))

@@ -1,11 +1,11 @@
 use Rattle.std.proofs.Common.{rules}
 use Rattle.std.proofs.lemmas.Iterator.{IsFirst-from_position, YieldsList-from_slice}
 use borrow.Author.Tests.{tests}
-use Rattle.codespan_structs.specs.Validity.{HasLabelFile}
+use Rattle.codespan_structs.specs.Validity.{HasValidFile}
 use Rattle.codespan_structs.proofs.validate.diagnostic.missing_file_index.Goals as goal
 
 pub returns : goal.returns
 returns c =
-    IsFirst-from_position _ _ _ (λ x. ¬ HasLabelFile c.args.count x) (HasLabelFile c.args.count)
+    IsFirst-from_position _ _ _ (λ x. ¬ HasValidFile c.args.count x) (HasValidFile c.args.count)
     c.position.ensures.ran (YieldsList-from_slice c.args.labels.now cc)
     (λ x q k. search (rules, tests)) (λ x q k. search (rules, tests))

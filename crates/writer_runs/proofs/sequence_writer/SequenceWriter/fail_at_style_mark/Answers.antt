@@ -1,7 +1,7 @@
 use Rattle.std.proofs.Common.{refl}
 use Rattle.codespan_base.proofs.StyleMarks.{is_known_contents, prefix_written}
 use Rattle.writer_runs.proofs.BrokenStyleMarks.{first_written, first_prefix}
-use Rattle.writer_runs.proofs.failing_writer.FailingWriter.fail_at_style_mark.Goals as goal
+use Rattle.writer_runs.proofs.sequence_writer.SequenceWriter.fail_at_style_mark.Goals as goal
 
 pub returns-in-Ok : goal.returns-in-Ok
 returns-in-Ok g c = (

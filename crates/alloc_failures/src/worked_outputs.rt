@@ -1,15 +1,15 @@
-//! Worked diagnostics, and their expected outputs.
+//! Worked outputs.
 
 use codespan_base::diagnostic::LabelStyle;
 use codespan_base::diagnostic::LabelStyle::{Primary, Secondary};
 use codespan_base::term::{Config, DisplayStyle};
 use std::ops::Range;
 
-/// The file database that a diagnostic is rendered over.
+/// The kind of file database that a worked output is rendered over.
 #[derive(Clone, Copy)]
-pub enum Database {
+pub enum DatabaseKind {
     /// A `SimpleFiles` of the files.
-    Simple,
+    Several,
     /// A `MappedFile` of the first file, whose third line has the number 100.
     Mapped,
     /// The first file, where each lookup of a line's range allocates.
@@ -19,10 +19,10 @@ pub enum Database {
 /// A label: its style, the index of its file, its range in bytes and its message.
 type LabelFields<'text> = (LabelStyle, usize, Range<usize>, &'text str);
 
-/// A worked diagnostic, its files, and its expected output.
-pub struct Case<'text> {
+/// A worked output: a diagnostic, its files, and the expected text.
+pub struct WorkedOutput<'text> {
     /// The file database.
-    pub database: Database,
+    pub database: DatabaseKind,
     /// The style of the configuration.
     pub display_style: DisplayStyle,
     /// How many lines are shown after the first line of a multi-line label.
@@ -43,13 +43,13 @@ pub struct Case<'text> {
     pub notes: &'text [&'text str],
     /// The output, in plain text.
     pub output: &'text str,
-    /// The output in escape sequences, if the case is rendered in these too.
+    /// The output in escape sequences, if it is rendered in these too.
     pub colored: Option<&'text str>,
 }
 
 /// An empty error, by the default configuration.
-const EMPTY: Case<'static> = Case {
-    database: Database::Simple,
+const EMPTY: WorkedOutput<'static> = WorkedOutput {
+    database: DatabaseKind::Several,
     display_style: DisplayStyle::Rich,
     start_context_lines: 3,
     before_label_lines: 0,
@@ -63,7 +63,7 @@ const EMPTY: Case<'static> = Case {
     colored: None,
 };
 
-impl Case<'_> {
+impl WorkedOutput<'_> {
     /// Returns the configuration.
     pub fn config<'chars>(&self) -> Config<'chars> {
         Config {
@@ -77,7 +77,7 @@ impl Case<'_> {
 }
 
 /// Three labels of one line, two of whose messages hang.
-pub const MUTABLE_BORROWS: Case<'static> = Case {
+pub const MUTABLE_BORROWS: WorkedOutput<'static> = WorkedOutput {
     files: &[(
         "one_line.rs",
         "fn main() {\n\
@@ -104,7 +104,7 @@ pub const MUTABLE_BORROWS: Case<'static> = Case {
 };
 
 /// A label over nine lines, two of which are left out, and one inside it; and a note.
-pub const MISMATCHED_TYPES: Case<'static> = Case {
+pub const MISMATCHED_TYPES: WorkedOutput<'static> = WorkedOutput {
     start_context_lines: 2,
     files: &[(
         "src/lib.rs",
@@ -138,7 +138,7 @@ pub const MISMATCHED_TYPES: Case<'static> = Case {
 };
 
 /// A header in short style, without a lookup, and in colors if the call writes style marks.
-pub const COLOURED_HEADER: Case<'static> = Case {
+pub const COLOURED_HEADER: WorkedOutput<'static> = WorkedOutput {
     display_style: DisplayStyle::Short,
     message: "m",
     output: "error: m\n",
@@ -147,7 +147,7 @@ pub const COLOURED_HEADER: Case<'static> = Case {
 };
 
 /// A type error that another file explains, without its output.
-const TYPE_ERROR: Case<'static> = Case {
+const TYPE_ERROR: WorkedOutput<'static> = WorkedOutput {
     files: &[
         (
             "Data/Nat.fun",
@@ -175,7 +175,7 @@ const TYPE_ERROR: Case<'static> = Case {
 };
 
 /// The type error in rich style: labels of two files, and a note.
-pub const TWO_FILES: Case<'static> = Case {
+pub const TWO_FILES: WorkedOutput<'static> = WorkedOutput {
     output: "error[E0001]: unexpected type in application of `_+_`\n\
               \x20  ┌─ Test.fun:4:11\n\
               \x20  │\n\
@@ -193,7 +193,7 @@ pub const TWO_FILES: Case<'static> = Case {
 };
 
 /// The type error in medium style.
-pub const MEDIUM: Case<'static> = Case {
+pub const MEDIUM: WorkedOutput<'static> = WorkedOutput {
     display_style: DisplayStyle::Medium,
     output: "Test.fun:4:11: error[E0001]: unexpected type in application of `_+_`\n \
              = expected type `Nat`\n      found type `String`\n",
@@ -201,15 +201,15 @@ pub const MEDIUM: Case<'static> = Case {
 };
 
 /// The type error in short style.
-pub const SHORT: Case<'static> = Case {
+pub const SHORT: WorkedOutput<'static> = WorkedOutput {
     display_style: DisplayStyle::Short,
     output: "Test.fun:4:11: error[E0001]: unexpected type in application of `_+_`\n",
     ..TYPE_ERROR
 };
 
 /// A label over three lines, of which the second has the number 100.
-pub const MAPPED_NUMBERS: Case<'static> = Case {
-    database: Database::Mapped,
+pub const MAPPED_NUMBERS: WorkedOutput<'static> = WorkedOutput {
+    database: DatabaseKind::Mapped,
     files: &[("m", "a\nb\nc\nd")],
     labels: &[(Primary, 0, 2..7, "x")],
     output: "error: \n\
@@ -224,8 +224,8 @@ pub const MAPPED_NUMBERS: Case<'static> = Case {
 
 /// A label at the end of a file, with two lines of context before it, where each lookup of a line's
 /// range allocates.
-pub const SURROUNDING_LINES: Case<'static> = Case {
-    database: Database::Copying,
+pub const SURROUNDING_LINES: WorkedOutput<'static> = WorkedOutput {
+    database: DatabaseKind::Copying,
     before_label_lines: 2,
     after_label_lines: 1,
     files: &[(

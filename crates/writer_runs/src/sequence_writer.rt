@@ -1,9 +1,9 @@
-//! A writer of styles that stops at a style mark.
+//! A writer of styles that spells style marks as escape sequences, and fails at one of them.
 
 ghost use Rattle.std.specs.Prelude.{◌≡◌, false, refl};
 ghost use Rattle.codespan_base.specs.Streams.{byte_stream};
 ghost use Rattle.codespan_base.specs.WriterLaw.{Writes};
-ghost use Rattle.writer_runs.specs.Spellings.{spelling_sink};
+ghost use Rattle.writer_runs.specs.Spellings.{sequence_sink};
 
 use codespan_base::diagnostic::{LabelStyle, Severity};
 use codespan_base::term::WriteStyle;
@@ -23,7 +23,7 @@ fn counted(calls_after: usize, failed: bool) -> usize {
 /// A writer that spells each style mark as an escape sequence. It fails at the style mark after
 /// this many others, once the first byte of its spelling is written.
 #[derive(Drop)]
-pub struct FailingWriter<W> {
+pub struct SequenceWriter<W> {
     inner: W,
     failed: bool,
     style_marks_left: usize,
@@ -31,10 +31,10 @@ pub struct FailingWriter<W> {
     pub calls_after: usize,
 }
 
-impl<W: Write> FailingWriter<W> {
+impl<W: Write> SequenceWriter<W> {
     /// Returns a writer that fails after `style_marks` style marks.
-    pub fn new(writer: W, style_marks: usize) -> FailingWriter<W> {
-        FailingWriter {
+    pub fn new(writer: W, style_marks: usize) -> SequenceWriter<W> {
+        SequenceWriter {
             inner: writer,
             failed: false,
             style_marks_left: style_marks,
@@ -49,9 +49,9 @@ impl<W: Write> FailingWriter<W> {
 
     /// Writes the spelling of a style mark, or only its first byte and fails.
     fn write_style_mark(&mut self, text: &[u8]) -> io::Result<()>
-        ensures { Writes (spelling_sink self.old.failed (W.contents self.old.inner))
+        ensures { Writes (sequence_sink self.old.failed (W.contents self.old.inner))
             (byte_stream text.now) result
-            (spelling_sink self.new.failed (W.contents self.new.inner)) }
+            (sequence_sink self.new.failed (W.contents self.new.inner)) }
     {
         self.calls_after = counted(self.calls_after, self.failed);
         if self.style_marks_left == 0 {
@@ -64,9 +64,9 @@ impl<W: Write> FailingWriter<W> {
 
     /// Writes the first byte and fails.
     fn fail_at_style_mark(&mut self, text: &[u8]) -> io::Result<()>
-        ensures { Writes (spelling_sink self.old.failed (W.contents self.old.inner))
+        ensures { Writes (sequence_sink self.old.failed (W.contents self.old.inner))
             (byte_stream text.now) result
-            (spelling_sink self.new.failed (W.contents self.new.inner)) }
+            (sequence_sink self.new.failed (W.contents self.new.inner)) }
     {
         self.failed = true;
         let (first, _rest) = text.split_at(text.len().min(1));
@@ -77,7 +77,7 @@ impl<W: Write> FailingWriter<W> {
     }
 }
 
-impl<W: Write> Write for FailingWriter<W> {
+impl<W: Write> Write for SequenceWriter<W> {
     ghost contents = { λ t. W.contents t.inner };
 
     fn write(&mut self, buf: &[u8]) -> io::Result<usize> {
@@ -90,8 +90,8 @@ impl<W: Write> Write for FailingWriter<W> {
 }
 
 #[tactic(auto, using(codespan_base::proofs::StyleMarks::spelled_style_marks))]
-impl<W: Write> WriteStyle for FailingWriter<W> {
-    ghost sink = { λ t. spelling_sink t.failed (W.contents t.inner) };
+impl<W: Write> WriteStyle for SequenceWriter<W> {
+    ghost sink = { λ t. sequence_sink t.failed (W.contents t.inner) };
 
     fn set_header(&mut self, _severity: Severity) -> io::Result<()> {
         self.write_style_mark(b"\x1b[1m")

@@ -10,9 +10,9 @@ use std::fmt::Write;
 use std::{fmt, io};
 use test_writers::stopping::Stop;
 
-/// A kind of writer of bytes, by how it stops.
+/// Where and how a run is stopped: by the writer of bytes, or by the writer of styles.
 #[derive(Clone, Copy)]
-pub enum WriterKind {
+pub enum StopKind {
     /// Never: it accepts one byte at a time.
     Slow,
     /// In this way, at a write.
@@ -21,37 +21,37 @@ pub enum WriterKind {
     AtStyleMark,
 }
 
-/// An error of a run.
+/// What is wrong in a run.
 #[derive(Drop)]
-pub enum Failure {
+pub enum WrongRun {
     /// A call or an allocation failed, although no writer stops.
     Failed(Error),
     /// The text differs from the one that is expected.
     UnexpectedText,
     /// A string to which the text was appended is not its old text followed by the new one.
-    OtherString,
+    UnexpectedString,
     /// The bytes written by way of a writer of styles differ from the text.
-    OtherText(StyleWriterKind),
+    UnexpectedBytes(StyleWriterKind),
     /// The text in escape sequences differs from what is expected.
-    OtherColors,
+    UnexpectedColors,
     /// By way of a writer of styles, no write begins at the first byte, although no output is
     /// empty.
     NoFirstWrite(StyleWriterKind),
     /// By way of a writer of styles, with a writer that stops in this way after this many writes or
     /// style marks: the result is not the expected one (`Io` if the writer stopped, and else `Ok`),
     /// the writer does not hold exactly what it accepted, or it was called again or flushed.
-    Stopped(StyleWriterKind, WriterKind, usize),
+    UnexpectedResult(StyleWriterKind, StopKind, usize),
 }
 
 /// An error, with the style and the call in which it occurred.
 #[derive(Drop)]
-pub struct FailureAt {
+pub struct WrongRunAt {
     /// The style; `None` for a direct call, and before any text is rendered.
     pub style: Option<DisplayStyle>,
     /// The call; `None` for a direct call, and before a call writes to a writer.
     pub call: Option<RenderCall>,
     /// The error.
-    pub failure: Failure,
+    pub wrong_run: WrongRun,
 }
 
 /// An error that ends the program.
@@ -92,37 +92,37 @@ impl fmt::Display for FatalError {
 }
 
 /// Converts an error of a call or an allocation to `Failed`.
-impl From<Error> for Failure {
-    fn from(error: Error) -> Failure {
-        Failure::Failed(error)
+impl From<Error> for WrongRun {
+    fn from(error: Error) -> WrongRun {
+        WrongRun::Failed(error)
     }
 }
 
 /// Writes a few words.
-impl fmt::Display for WriterKind {
+impl fmt::Display for StopKind {
     fn fmt<W: Write>(&self, f: &mut fmt::Formatter<W>) -> fmt::Result {
         f.write_str(match self {
-            WriterKind::Slow => "takes one byte at a time",
-            WriterKind::AtWrite(Stop::Fails) => "fails at a write",
-            WriterKind::AtWrite(Stop::TakesNothing) => "takes nothing of a write",
-            WriterKind::AtWrite(Stop::IsInterrupted) => "is interrupted",
-            WriterKind::AtWrite(Stop::TakesOneByte) => "takes one byte and then fails",
-            WriterKind::AtStyleMark => "fails at a style mark",
+            StopKind::Slow => "takes one byte at a time",
+            StopKind::AtWrite(Stop::Fails) => "fails at a write",
+            StopKind::AtWrite(Stop::TakesNothing) => "takes nothing of a write",
+            StopKind::AtWrite(Stop::IsInterrupted) => "is interrupted",
+            StopKind::AtWrite(Stop::TakesOneByte) => "takes one byte and then fails",
+            StopKind::AtStyleMark => "fails at a style mark",
         })
     }
 }
 
 /// Writes a few words.
-impl fmt::Display for Failure {
+impl fmt::Display for WrongRun {
     fn fmt<W: Write>(&self, f: &mut fmt::Formatter<W>) -> fmt::Result {
         match self {
-            Failure::Failed(error) => write!(f, "error: {error}"),
-            Failure::UnexpectedText => f.write_str("another text than expected"),
-            Failure::OtherString => f.write_str("another string"),
-            Failure::OtherText(style_writer) => write!(f, "by {style_writer}: another text"),
-            Failure::OtherColors => f.write_str("other colors than expected"),
-            Failure::NoFirstWrite(style_writer) => write!(f, "by {style_writer}: no first write"),
-            Failure::Stopped(style_writer, writer, after) => {
+            WrongRun::Failed(error) => write!(f, "error: {error}"),
+            WrongRun::UnexpectedText => f.write_str("another text than expected"),
+            WrongRun::UnexpectedString => f.write_str("another string"),
+            WrongRun::UnexpectedBytes(style_writer) => write!(f, "by {style_writer}: another text"),
+            WrongRun::UnexpectedColors => f.write_str("other colors than expected"),
+            WrongRun::NoFirstWrite(style_writer) => write!(f, "by {style_writer}: no first write"),
+            WrongRun::UnexpectedResult(style_writer, writer, after) => {
                 write!(
                     f,
                     "by {style_writer}: wrong where a writer {writer}, after {after}"
@@ -133,7 +133,7 @@ impl fmt::Display for Failure {
 }
 
 /// Writes the error, after its style and its call.
-impl fmt::Display for FailureAt {
+impl fmt::Display for WrongRunAt {
     fn fmt<W: Write>(&self, f: &mut fmt::Formatter<W>) -> fmt::Result {
         f.write_str(match self.style {
             Some(DisplayStyle::Rich) => "rich, ",
@@ -144,7 +144,7 @@ impl fmt::Display for FailureAt {
         if let Some(call) = self.call {
             write!(f, "{call}, ")?;
         }
-        let failure = &self.failure;
-        write!(f, "{failure}")
+        let wrong_run = &self.wrong_run;
+        write!(f, "{wrong_run}")
     }
 }

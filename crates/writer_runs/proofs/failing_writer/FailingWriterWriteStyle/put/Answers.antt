@@ -1,7 +1,0 @@
-use Rattle.writer_runs.specs.Spellings.{spelling_sink}
-use Rattle.writer_runs.proofs.failing_writer.FailingWriterWriteStyle.put.Goals as goal
-
-pub returns-clause-took : goal.returns-clause-took
-returns-clause-took g c =
-    let sink = spelling_sink c.args.self.now.failed (g.W.Write.contents c.args.self.now.inner) in
-    c.forward_put.ensures.took sink.frame
