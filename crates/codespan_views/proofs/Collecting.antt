@@ -120,10 +120,10 @@ module _ {Id : Type 0} (x : LabelToCollect Id) where
       → kind ≡ kind_by_ends x.config x.indices first last line.index line.start x.label
       → lane_mark ≡ multi_kind_by_ends x.indices first last line.index line.start x.label
       → line_annotations x.config x.file x.indices x.label line.index ≡ annotation_if_any
-      x.indices.file line.index kind ++ annotation_if_any x.indices.file line.index lane_mark
+      x.indices.file_index line.index kind ++ annotation_if_any x.indices.file_index line.index lane_mark
   annotation_if_any-line {line} is_first is_last is kind_is multi_is =
       let l = line.index in
-      let f = x.indices.file in
+      let f = x.indices.file_index in
       let by_kind = kind_on-is line is
       ∙ (λ i. kind_by_ends x.config x.indices (is_first i) (is_last i) l line.start x.label)
       ∙ sym kind_is in
