@@ -26,7 +26,10 @@ pub fn diagnostic_of<FileId: Copy + Drop>(
 }
 
 /// Returns the diagnostic without its labels and notes.
-fn header_of<FileId: Drop>(alloc: Global, worked: &WorkedOutput<'_>) -> Result<Diagnostic<FileId>, Error> {
+fn header_of<FileId: Drop>(
+    alloc: Global,
+    worked: &WorkedOutput<'_>,
+) -> Result<Diagnostic<FileId>, Error> {
     let diagnostic = Diagnostic::error(alloc).with_message(worked.message)?;
     match worked.code {
         Some(code) => diagnostic.with_code(code),

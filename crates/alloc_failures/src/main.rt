@@ -17,7 +17,6 @@
 #![tactic(auto)]
 
 mod builders;
-mod worked_outputs;
 mod clones;
 mod copying;
 mod databases;
@@ -30,6 +29,7 @@ mod rendering;
 mod run;
 mod subject;
 mod without_alloc;
+mod worked_outputs;
 
 use outcome::Outcome;
 use program_io::arguments::{ArgumentsError, arguments};

@@ -3,11 +3,11 @@
 ghost use Rattle.std.specs.Prelude.{◌≡◌, ◌++◌, ℕ, List, IfOk, IsOk, IsErrAnd, IsErrOf, IsTrue, codes, string_bytes, false, true};
 ghost use Rattle.codespan_base.specs.Errors.{IsIo};
 
-use crate::worked_outputs::{WorkedOutput, DatabaseKind};
 use crate::copying::Copying;
 use crate::diagnostics::diagnostic_of;
 use crate::outcome::{Outcome, Wrong, judge_failure, judge_success};
 use crate::recording::Recording;
+use crate::worked_outputs::{DatabaseKind, WorkedOutput};
 use codespan_base::diagnostic::Diagnostic;
 use codespan_base::files::{Error, Files, MappedFile, SimpleFiles};
 use codespan_base::term::{
@@ -62,9 +62,17 @@ struct Rendering<'worked> {
 /// # Errors
 ///
 /// An error of the preparation: `OutOfMemory` if an allocation fails.
-pub fn judge_rendering(alloc: Global, call: RenderCall, worked: &WorkedOutput<'_>) -> Result<Outcome, Error> {
+pub fn judge_rendering(
+    alloc: Global,
+    call: RenderCall,
+    worked: &WorkedOutput<'_>,
+) -> Result<Outcome, Error> {
     let config = worked.config();
-    let rendering = Rendering { call, worked, config };
+    let rendering = Rendering {
+        call,
+        worked,
+        config,
+    };
     match worked.database {
         DatabaseKind::Several => judge_several(alloc, &rendering),
         DatabaseKind::Mapped => judge_mapped(alloc, &rendering),

@@ -4,7 +4,7 @@ ghost use Rattle.std.specs.Prelude.{◌≤◌};
 
 use crate::outcome::Outcome;
 use crate::rendering::RenderCall;
-use crate::subject::{NamedSubject, Subject, named_subjects, worked_outputs, render_calls};
+use crate::subject::{NamedSubject, Subject, named_subjects, render_calls, worked_outputs};
 use std::alloc::Global;
 use std::io;
 use std::io::Write;

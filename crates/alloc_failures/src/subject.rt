@@ -3,17 +3,17 @@
 use crate::builders::{
     DiagnosticCall, LabelCall, ListCall, TextCall, judge_diagnostic, judge_label,
 };
-use crate::worked_outputs::{
-    COLOURED_HEADER, WorkedOutput, MAPPED_NUMBERS, MEDIUM, MISMATCHED_TYPES, MUTABLE_BORROWS, SHORT,
-    SURROUNDING_LINES, TWO_FILES,
-};
 use crate::clones::{CloneCall, judge_clone};
 use crate::databases::{DatabaseCall, judge_database};
-use crate::documents::{StyledOrLspCall, Format, judge_styled_or_lsp};
+use crate::documents::{Format, StyledOrLspCall, judge_styled_or_lsp};
 use crate::native::judge_native;
 use crate::outcome::{Outcome, outcome_of};
 use crate::rendering::{RenderCall, judge_rendering};
 use crate::without_alloc::{Stage, judge_without_alloc};
+use crate::worked_outputs::{
+    COLOURED_HEADER, MAPPED_NUMBERS, MEDIUM, MISMATCHED_TYPES, MUTABLE_BORROWS, SHORT,
+    SURROUNDING_LINES, TWO_FILES, WorkedOutput,
+};
 use std::alloc::Global;
 
 /// A call that is made and judged.
@@ -114,12 +114,18 @@ static DATABASES: [NamedSubject; 4] = [
 
 /// The calls of `codespan_styled` and `codespan_lsp`.
 static STYLED_OR_LSP: [NamedSubject; 7] = [
-    ("styled_text", Subject::StyledOrLsp(StyledOrLspCall::StyledText)),
+    (
+        "styled_text",
+        Subject::StyledOrLsp(StyledOrLspCall::StyledText),
+    ),
     (
         "to_html",
         Subject::StyledOrLsp(StyledOrLspCall::Format(Format::Html)),
     ),
-    ("html_styles", Subject::StyledOrLsp(StyledOrLspCall::HtmlStyles)),
+    (
+        "html_styles",
+        Subject::StyledOrLsp(StyledOrLspCall::HtmlStyles),
+    ),
     (
         "to_svg",
         Subject::StyledOrLsp(StyledOrLspCall::Format(Format::Svg)),

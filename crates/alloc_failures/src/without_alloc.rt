@@ -144,7 +144,11 @@ fn judge_calls(alloc: Global, needed: &mut Prepared<'_>) -> Outcome {
 /// The error of the first call that fails, and `FormatError` if lanes are not in order.
 fn render_all(alloc: Global, needed: &mut Prepared<'_>) -> Result<(), Error> {
     let recordings = &mut needed.recordings;
-    render_rows(&mut recordings.rows, &needed.snippet_locus, &needed.header_locus)?;
+    render_rows(
+        &mut recordings.rows,
+        &needed.snippet_locus,
+        &needed.header_locus,
+    )?;
     render_colored(&mut recordings.colored)?;
     render_bug(alloc, &mut recordings.bug, &needed.databases.files)
 }

@@ -78,14 +78,20 @@ as_is : (c : Metrics) → (c.ch ≡ 9 → ⊥) → source_glyph c ≡ glyph c.ch
 unfolding source_glyph
 as_is c h = rw (ne_eqb c.ch 9 h) refl
 
--- so are the characters of a text without a tab
-plain-left : (context : RowContext) (line : Line) (tab byte_index column : ℕ) (cs : List ℕ)
-    → ((c : Metrics) → source_style line c ≡ None) → list_any (λ b. b == 9) (encodes cs) ≡ false
-    → styled context.severity (source_style line) source_glyph None
-    (metrics_then (λ _ _. []) tab byte_index column cs) ≡ byte_stream (encodes cs)
-unfolding style_change byte_stream
-plain-left context line tab byte_index column [] none e = refl
-plain-left context line tab byte_index column (c ∷ cs) none e =
+-- so are characters of a text without a tab that have no style, after the style before them ends
+plain-past : (context : RowContext) (line : Line) (tab byte_index column from top : ℕ)
+    (previous : Option LabelStyle) (cs : List ℕ)
+    → from ≤ byte_index → byte_index + length (encodes cs) ≤ top
+    → ((c : Metrics) → from ≤ c.byte_index → c.byte_index < top → 1 ≤ c.bytes
+    → source_style line c ≡ None)
+    → list_any (λ b. b == 9) (encodes cs) ≡ false
+    → styled context.severity (source_style line) source_glyph previous
+    (metrics_then (λ _ _. []) tab byte_index column cs)
+    ≡ style_change context.severity previous None ++ byte_stream (encodes cs)
+unfolding byte_stream
+plain-past context line tab byte_index column from top previous [] low high none e =
+    sym (append-nil (style_change context.severity previous None))
+plain-past context line tab byte_index column from top previous (c ∷ cs) low high none e =
     let here : Metrics = record {
       ch =
           c;
@@ -95,8 +101,16 @@ plain-left context line tab byte_index column (c ∷ cs) none e =
       unicode_width = width_at tab column c;
     } in
     let parts = no-tab c cs e in
-    rw (none here, as_is here parts.0, plain-left context line tab (byte_index + len_utf8 c) (column + width_at tab column c) cs none parts.1)
-    (sym (byte_stream-append (encode_utf8 c) (encodes cs)))
+    let some = (len_utf8_bounds c).0 in
+    let size = length-append (encode_utf8 c) (encodes cs) in
+    let bare = none here low (omega (arith, high, size, some, length-encode c)) some in
+    let rest =
+    plain-past context line tab (byte_index + len_utf8 c) (column + width_at tab column c) from
+    top None cs (omega arith) (omega (arith, high, size, length-encode c)) none parts.1 in
+    rw (bare, as_is here parts.0, rest, style_change-same context.severity None)
+    (append_assoc (style_change context.severity previous None) (glyph c) (byte_stream (encodes cs))
+    ∙ ap (λ l. style_change context.severity previous None ++ l)
+    (sym (byte_stream-append (encode_utf8 c) (encodes cs))))
 
 -- a text without a tab, in a line without a primary label
 colored-plain : (context : RowContext) (line : Line) → list_any is_primary line.labels ≡ false
@@ -106,8 +120,11 @@ colored-plain : (context : RowContext) (line : Line) → list_any is_primary lin
 unfolding colored_text
 colored-plain context line labels lane_marks tab u =
     let is = encodes-chars line.text u in
-    plain-left context line context.tab_width 0 0 (chars line.text)
-    (λ c. no-style line c labels lane_marks) (ap (list_any (λ b. b == 9)) is ∙ tab)
+    let text = encodes (chars line.text) in
+    plain-past context line context.tab_width 0 0 0 (length text) None (chars line.text)
+    (omega arith) (omega arith) (λ c _ _ _. no-style line c labels lane_marks)
+    (ap (list_any (λ b. b == 9)) is ∙ tab)
+    ∙ ap (λ l. l ++ byte_stream text) (style_change-same context.severity None)
     ∙ ap byte_stream is
 
 -- a test that failed
@@ -159,42 +176,10 @@ no-tab-later from byte_index text h none =
     let parts = or_parts (list_any (λ b. b == 9) (take (byte_index - from) rest))
     (list_any (λ b. b == 9) (drop (byte_index - from) rest))
     (sym
-    (list_any-append (λ b. b == 9) (take (byte_index - from) rest) (drop (byte_index - from) rest)) ∙ ap (list_any (λ b. b == 9)) (take-append-drop (byte_index - from) rest) ∙ none) in
+    (list_any-append (λ b. b == 9) (take (byte_index - from) rest) (drop (byte_index - from) rest))
+    ∙ ap (list_any (λ b. b == 9)) (take-append-drop (byte_index - from) rest)
+    ∙ none) in
     ap (list_any (λ b. b == 9)) (sym step) ∙ parts.1
-
--- such characters are written unchanged, after the style before them ends
-plain-past : (context : RowContext) (line : Line) (tab byte_index column from top : ℕ)
-    (previous : Option LabelStyle) (cs : List ℕ)
-    → from ≤ byte_index → byte_index + length (encodes cs) ≤ top
-    → ((c : Metrics) → from ≤ c.byte_index → c.byte_index < top → 1 ≤ c.bytes
-    → source_style line c ≡ None)
-    → list_any (λ b. b == 9) (encodes cs) ≡ false
-    → styled context.severity (source_style line) source_glyph previous
-    (metrics_then (λ _ _. []) tab byte_index column cs) ≡ style_change context.severity previous None
-    ++ byte_stream (encodes cs)
-unfolding byte_stream
-plain-past context line tab byte_index column from top previous [] low high none e =
-    sym (append-nil (style_change context.severity previous None))
-plain-past context line tab byte_index column from top previous (c ∷ cs) low high none e =
-    let here : Metrics = record {
-      ch =
-          c;
-      byte_index = byte_index;
-      bytes = len_utf8 c;
-      column = column;
-      unicode_width = width_at tab column c;
-    } in
-    let parts = no-tab c cs e in
-    let some = (len_utf8_bounds c).0 in
-    let size = length-append (encode_utf8 c) (encodes cs) in
-    let bare = none here low (omega (arith, high, size, some, length-encode c)) some in
-    let rest =
-    plain-past context line tab (byte_index + len_utf8 c) (column + width_at tab column c) from
-    top None cs (omega arith) (omega (arith, high, size, length-encode c)) none parts.1 in
-    rw (bare, as_is here parts.0, rest, style_change-same context.severity None)
-    (append_assoc (style_change context.severity previous None) (glyph c) (byte_stream (encodes cs))
-    ∙ ap (λ l. style_change context.severity previous None ++ l)
-    (sym (byte_stream-append (encode_utf8 c) (encodes cs))))
 
 -- what is left of a text after a run
 pub text-past : (context : RowContext) (line : Line) (previous : Option LabelStyle) (run : List ℕ)

@@ -28,6 +28,7 @@ pub use Rattle.codespan_picture.specs.OutputStreams
 pub use Rattle.codespan_picture.specs.Picture
 pub use Rattle.codespan_picture.specs.Lookups
 pub use Rattle.codespan_picture.specs.Arguments
+pub use Rattle.codespan_picture.specs.RenderedRows
 -- what an output means
 pub use Rattle.codespan_picture.specs.CaretLaws
 pub use Rattle.codespan_laws.specs.ColorLaws

@@ -23,12 +23,12 @@
 #![tactic(auto)]
 
 mod direct;
-mod sequence_writer;
 mod errors;
 mod judging;
 mod recording;
 mod rendering;
 mod run;
+mod sequence_writer;
 mod stops;
 mod style_writers;
 mod worked_output;

@@ -3,7 +3,7 @@
 ghost use Rattle.std.specs.Prelude.{◌≤◌};
 
 use crate::direct::rows::{DirectRow, rows};
-use crate::errors::{WrongRunAt, FatalError};
+use crate::errors::{FatalError, WrongRunAt};
 use crate::judging::{DISPLAY_STYLES, judge_direct, judge_output};
 use crate::rendering::CALLS;
 use crate::stops::WRITERS;

@@ -1,9 +1,9 @@
 //! Runs into writers that stop.
 
-use crate::sequence_writer::SequenceWriter;
-use crate::errors::{WrongRun, StopKind};
+use crate::errors::{StopKind, WrongRun};
 use crate::recording::Recording;
 use crate::rendering::Render;
+use crate::sequence_writer::SequenceWriter;
 use crate::style_writers::StyleWriterKind;
 use std::alloc::Global;
 use test_writers::stopping::{Stop, is_as_expected};
@@ -47,7 +47,11 @@ pub fn judge_stops<D: Render>(
             let stopping = Recording::stopping(alloc, usize::MAX, writes, stop);
             let length = written_length(stop, *start, whole.len());
             if !stops_at(style_writer, call, stopping, whole, length) {
-                return Err(WrongRun::UnexpectedResult(style_writer, StopKind::AtWrite(stop), writes));
+                return Err(WrongRun::UnexpectedResult(
+                    style_writer,
+                    StopKind::AtWrite(stop),
+                    writes,
+                ));
             }
             runs = runs.saturating_add(1);
         }

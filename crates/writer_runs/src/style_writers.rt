@@ -1,9 +1,9 @@
 //! The writers of styles between a call and a writer of bytes.
 
-use crate::sequence_writer::SequenceWriter;
 use crate::errors::WrongRun;
 use crate::recording::Recording;
 use crate::rendering::Render;
+use crate::sequence_writer::SequenceWriter;
 use codespan_base::files::Error;
 use codespan_base::term::{Ansi, NoColor, Styles, StylesWriter, WriteColor};
 use std::alloc::Global;

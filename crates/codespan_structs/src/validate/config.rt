@@ -7,7 +7,7 @@ ghost use Rattle.codespan_structs.specs.Constants.{ABI};
 ghost use Rattle.codespan_structs.specs.Validity.{code_points_of, color_specs_of, FindsFirstInvalid, FindsFirstWithout, HoldsIfAt, IsValidColorSpec};
 
 use crate::raw::{ABI, RawChars, RawColorSpec, RawConfig, RawStyles};
-use crate::validate::values::{is_valid_color_spec, is_scalar_value, is_utf8};
+use crate::validate::values::{is_scalar_value, is_utf8, is_valid_color_spec};
 
 /// The number that chooses the caller's characters.
 const CUSTOM_CHARACTERS: u32 = 2;

@@ -94,7 +94,10 @@ impl SettingsError {
                     .with_label(before.with_message("first set here")?)?
                     .with_note("the last value is used")
             }
-            SettingsError::UnknownKey { key_range, suggestion } => {
+            SettingsError::UnknownKey {
+                key_range,
+                suggestion,
+            } => {
                 let primary_label = Label::primary(alloc, file, key_range.start..key_range.end);
                 let diagnostic = Diagnostic::error(alloc)
                     .with_code("S003")?

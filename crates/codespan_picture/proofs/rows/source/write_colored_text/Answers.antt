@@ -9,7 +9,8 @@ use Rattle.codespan_picture.specs.Private.LineViews.{context_view, line_view}
 use Rattle.codespan_picture.specs.RowParts.{style_change}
 use Rattle.codespan_picture.proofs.TextRuns.{over-start, over-next, piece, piece-grows, text-start, text-turn, text-same, text-tab, text_rest}
 use Rattle.codespan_picture.proofs.PlainText.{tail-taken, text-over, text-past}
-use Rattle.codespan_picture.proofs.rows.source.write_colored_text.Goals.{in-Some+then-end-plain, in_default}
+use Rattle.codespan_picture.proofs.rows.source.write_colored_text.Given.{Over}
+use Rattle.codespan_picture.proofs.rows.source.write_colored_text.Goals.{After-end_text_run-2, in-Some+then-end-plain, in_default}
 use Rattle.codespan_picture.proofs.rows.source.write_colored_text.Goals as goal
 
 pub loop-metrics-init : goal.loop-metrics-init
@@ -23,18 +24,12 @@ loop-metrics-init g c = rw c.requires.left record {
 
 pub text_style-style-requires-clause-has_byte : goal.text_style-style-requires-clause-has_byte
 text_style-style-requires-clause-has_byte g c =
-    let n =
-    over-next c.args.context.tab_width c.args.line.text.now c.loop-metrics.end c.in-Some.metrics
-    _ (g.C.CharCursor.left c.next_metrics.new.self) c.in-Some.ensures.next
-    c.loop-metrics.invariant.over in
+    let n = over-next _ _ _ _ _ _ c.in-Some.ensures.next c.loop-metrics.invariant.over in
     omega (arith, n.bytes, (len_utf8_bounds c.in-Some.metrics.ch).0)
 
 pub overflow_add-next : goal.overflow_add-next
 overflow_add-next g c =
-    let n =
-    over-next c.args.context.tab_width c.args.line.text.now c.loop-metrics.end c.in-Some.metrics
-    _ (g.C.CharCursor.left c.next_metrics.new.self) c.in-Some.ensures.next
-    c.loop-metrics.invariant.over in
+    let n = over-next _ _ _ _ _ _ c.in-Some.ensures.next c.loop-metrics.invariant.over in
     omega (arith, n.over.within)
 
 pub returns-in_err-end_text_run : goal.returns-in_err-end_text_run
@@ -71,10 +66,7 @@ returns-in_err-end_text_run-2 g c =
 
 pub loop-metrics-preserved-in_ok-put_spaces : goal.loop-metrics-preserved-in_ok-put_spaces
 loop-metrics-preserved-in_ok-put_spaces g c =
-    let n =
-    over-next c.args.context.tab_width c.args.line.text.now c.loop-metrics.end c.in-Some.metrics
-    _ (g.C.CharCursor.left c.next_metrics.new.self) c.in-Some.ensures.next
-    c.loop-metrics.invariant.over in
+    let n = over-next _ _ _ _ _ _ c.in-Some.ensures.next c.loop-metrics.invariant.over in
     let none : c.loop-metrics.end + c.in-Some.metrics.bytes
     - (c.loop-metrics.end + c.in-Some.metrics.bytes) ≡ 0 =
     omega arith in
@@ -96,10 +88,7 @@ loop-metrics-preserved-in_ok-put_spaces g c =
 
 pub loop-metrics-preserved-in_ok-end_text_run-2 : goal.loop-metrics-preserved-in_ok-end_text_run-2
 loop-metrics-preserved-in_ok-end_text_run-2 g c =
-    let n =
-    over-next c.args.context.tab_width c.args.line.text.now c.loop-metrics.end c.in-Some.metrics
-    _ (g.C.CharCursor.left c.next_metrics.new.self) c.in-Some.ensures.next
-    c.loop-metrics.invariant.over in
+    let n = over-next _ _ _ _ _ _ c.in-Some.ensures.next c.loop-metrics.invariant.over in
     let grows = piece-grows c.as_bytes-text.result.now c.loop-metrics.end c.loop-metrics.end
     (encode_utf8 c.in-Some.metrics.ch) c.in-Some.metrics.bytes (omega arith)
     (rw c.as_bytes-text.ensures.value n.text_left)
@@ -123,10 +112,7 @@ loop-metrics-preserved-in_ok-end_text_run-2 g c =
 
 pub loop-metrics-preserved : goal.loop-metrics-preserved
 loop-metrics-preserved g c =
-    let n =
-    over-next c.args.context.tab_width c.args.line.text.now c.loop-metrics.end c.in-Some.metrics
-    _ (g.C.CharCursor.left c.next_metrics.new.self) c.in-Some.ensures.next
-    c.loop-metrics.invariant.over in
+    let n = over-next _ _ _ _ _ _ c.in-Some.ensures.next c.loop-metrics.invariant.over in
     let same : c.loop-metrics.previous ≡ c.text_style-style.result = search rules in
     let grows = piece-grows c.as_bytes-text.result.now c.loop-metrics.start c.loop-metrics.end
     (encode_utf8 c.in-Some.metrics.ch) c.in-Some.metrics.bytes c.loop-metrics.invariant.ordered
@@ -149,26 +135,37 @@ loop-metrics-preserved g c =
     }
 
 -- where the loop ends, the rest is written unchanged
-pub returns : goal.returns
-returns g c =
+rest : (g : Over) (c : After-end_text_run-2 g)
+    → let at = c.loop-metrics in
+    let context = context_view c.args.context in
+    let line = line_view c.args.line in
+    let run = piece c.as_bytes-text.result.now at.start at.end in
+    (byte_stream run ++ style_change context.severity at.previous None) ++ byte_stream (drop at.end line.text)
+    ≡ text_rest context line at.previous run (g.C.CharCursor.left at.characters)
+rest g c =
     let at = c.loop-metrics in
     let context = context_view c.args.context in
     let line = line_view c.args.line in
     let run = piece c.as_bytes-text.result.now at.start at.end in
-    let rest : (byte_stream run ++ style_change context.severity at.previous None)
-    ++ byte_stream (drop at.end line.text)
-    ≡ text_rest context line at.previous run (g.C.CharCursor.left at.characters) =
     elim c.match-next_metrics.branch [
       | in_default w ↦ text-over context line at.previous run at.end _ at.invariant.over
           w.in_default.ensures.next.0
       | in-Some+then-end-plain w ↦ text-past context line at.previous run c.plain_from-plain.result
           at.end _ at.invariant.over w.if-end-plain.true c.plain_from-plain.ensures.style
           c.plain_from-plain.ensures.tab
-    ] in
+    ]
+
+pub returns : goal.returns
+returns g c =
+    let at = c.loop-metrics in
+    let context = context_view c.args.context in
+    let run = piece c.as_bytes-text.result.now at.start at.end in
     let taken =
-    tail-taken at.end line.text c.as_bytes-text.result.now c.as_bytes-text.ensures.value in
+    tail-taken at.end c.args.line.text.now c.as_bytes-text.result.now
+    c.as_bytes-text.ensures.value in
     let last =
-    ap (λ l. (byte_stream run ++ style_change context.severity at.previous None) ++ byte_stream l) taken ∙ rest in
+    ap (λ l. (byte_stream run ++ style_change context.severity at.previous None) ++ byte_stream l) taken
+    ∙ rest g (goal.at.returns g c).After-end_text_run-2 in
     StillToWrite-last _ _ _ _ _ _
     (StillToWrite-more _ _ _ _ _ _ _ at.invariant.written_so_far c.in_ok-end_text_run-3.ensures
     (sym last))
@@ -176,22 +173,9 @@ returns g c =
 
 pub returns-in_err-end_text_run-3 : goal.returns-in_err-end_text_run-3
 returns-in_err-end_text_run-3 g c =
-    let at = c.loop-metrics in
-    let context = context_view c.args.context in
-    let line = line_view c.args.line in
-    let run = piece c.as_bytes-text.result.now at.start at.end in
-    let rest : (byte_stream run ++ style_change context.severity at.previous None)
-    ++ byte_stream (drop at.end line.text)
-    ≡ text_rest context line at.previous run (g.C.CharCursor.left at.characters) =
-    elim c.match-next_metrics.branch [
-      | in_default w ↦ text-over context line at.previous run at.end _ at.invariant.over
-          w.in_default.ensures.next.0
-      | in-Some+then-end-plain w ↦ text-past context line at.previous run c.plain_from-plain.result
-          at.end _ at.invariant.over w.if-end-plain.true c.plain_from-plain.ensures.style
-          c.plain_from-plain.ensures.tab
-    ] in
     let p = err_from_is_err_and c.from_residual-in_err-end_text_run-3.result
     c.from_residual-in_err-end_text_run-3.ensures.1 in
     rw p.1
-    (StillToWrite-failed _ _ _ _ _ _ _ at.invariant.written_so_far
-    c.in_err-end_text_run-3.ensures (sym rest))
+    (StillToWrite-failed _ _ _ _ _ _ _ c.loop-metrics.invariant.written_so_far
+    c.in_err-end_text_run-3.ensures
+    (sym (rest g (goal.at.returns-in_err-end_text_run-3 g c).After-end_text_run-2)))

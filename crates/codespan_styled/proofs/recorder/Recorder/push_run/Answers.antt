@@ -1,5 +1,4 @@
 use Rattle.std.proofs.Common.{rules, ◌≡◌, ◌++◌, map, refl, ap, ◌∙◌, string_bytes}
-use Rattle.codespan_styled.specs.declared.recorder.Recorder.{Recorder}
 use Rattle.codespan_documents.specs.declared.text.Run.{Run}
 use Rattle.codespan_styled.specs.Private.Recorded.{recorded_run, recorded_runs}
 use Rattle.codespan_documents.specs.Runs.{run_view}
@@ -20,19 +19,17 @@ returns-in_err-push-clause-appends c =
     let self = c.args.self.now in
     recorded-failed self (record self { runs = c.push.new.self }) _
     c.from_residual-in_err-push.result c.from_residual-in_err-push.ensures.0
-    (ap (λ runs. recorded_runs (map run_view runs) ++ recorded_run (record { style = self.style; text = self.text.items })) c.in_err-push.ensures.items)
+    (ap
+    (λ runs. recorded_runs (map run_view runs)
+    ++ recorded_run (record { style = self.style; text = self.text.items }))
+    c.in_err-push.ensures.items)
 
 -- the last run ends with its own style and its bytes
 pub returns-clause-runs : goal.returns-clause-runs
 returns-clause-runs c =
     let self = c.args.self.now in
-    let new : Recorder = record {
-      runs =
-          c.push.new.self;
-      style = c.args.next;
-      text = c.clear.new.self;
-      failed = self.failed;
-    } in
+    let new =
+    record self { runs = c.push.new.self; style = c.args.next; text = c.clear.new.self } in
     let same : c.in-Ok.bytes.now ≡ self.text.items = search rules in
     let text : string_bytes c.push_str.new.self ≡ self.text.items = c.in_ok-push_str.ensures.bytes
     ∙ ap (λ bytes. bytes ++ c.in-Ok.bytes.now) c.new-text.ensures.bytes ∙ same in
@@ -43,11 +40,6 @@ returns-clause-runs c =
 pub returns-clause-appends : goal.returns-clause-appends
 returns-clause-appends c = λ known.
     let self = c.args.self.now in
-    let new : Recorder = record {
-      runs =
-          c.push.new.self;
-      style = c.args.next;
-      text = c.clear.new.self;
-      failed = self.failed;
-    } in
+    let new =
+    record self { runs = c.push.new.self; style = c.args.next; text = c.clear.new.self } in
     recorded-started self new c.args.next (returns-clause-runs c) refl c.clear.ensures.items
