@@ -5,7 +5,7 @@ use Rattle.std.specs.declared.convert.AsStr.{Ghosts}
 use Rattle.codespan_core.specs.declared.files.error.Error.{Error}
 use Rattle.codespan_base.specs.declared.files.mapped.MappedFile.{MappedFile}
 use Rattle.codespan_core.specs.FileModel.{FileModel, Lookup}
-use Rattle.codespan_core.specs.DatabaseViews.{name_of, source_of, file_text_of}
+use Rattle.codespan_core.specs.SimpleFileViews.{name_of, source_of, file_text_of}
 use Rattle.codespan_base.specs.SetLineNumbers.{set_number_views}
 use Rattle.codespan_base.specs.MappedModel.{mapped_file, mapped_failure}
 

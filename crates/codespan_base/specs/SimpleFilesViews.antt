@@ -5,7 +5,7 @@ use Rattle.codespan_core.specs.declared.files.Error.{Error}
 use Rattle.codespan_base.specs.declared.files.database.SimpleFiles.{SimpleFiles}
 use Rattle.codespan_core.specs.FileModel.{FileModel, Lookup}
 use Rattle.codespan_core.specs.SimpleModel.{database_file, database_failure}
-use Rattle.codespan_core.specs.DatabaseViews.{name_of, source_of}
+use Rattle.codespan_core.specs.SimpleFileViews.{name_of, source_of}
 
 module _ {Name Source : Type 0} {texts : Ghosts Source} where
   -- the names and sources of the files, in the order of their ids

@@ -1,4 +1,4 @@
--- What contracts see of a `SimpleFile`: its name, its source and its file.
+-- What contracts see of a `SimpleFile`: its name, its source, its text and its file.
 use Rattle.std.specs.Prelude.{ℕ, List, Option}
 use Rattle.std.specs.declared.convert.AsStr.{Ghosts}
 use Rattle.codespan_core.specs.declared.files.simple.SimpleFile.{SimpleFile}
