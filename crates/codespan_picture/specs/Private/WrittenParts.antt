@@ -79,8 +79,8 @@ pointers_stream x line cs = pointers (context_view x) (single_label_views line.l
 
 -- the pointers under the characters that begin before a byte index
 abbrev pub pointers_before_stream : context.RowContext → rust_line.Line → ℕ → Stream
-pointers_before_stream x line before =
-    pointers_stream x line (metrics_before before (line_metrics_view x line))
+pointers_before_stream x line byte_index =
+    pointers_stream x line (metrics_before byte_index (line_metrics_view x line))
 
 -- a label's message, in its style
 abbrev pub label_message_stream : Severity → SingleLabelTuple → Stream

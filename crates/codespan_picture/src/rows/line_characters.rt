@@ -78,7 +78,7 @@ pub trait LineCharacters {
             (pointers_stream context.entry line.entry (line_metrics_view context.entry line.entry))
             result (W.sink w.new) };
 
-    /// Writes the pointers under the characters that begin before the byte index `before`.
+    /// Writes the pointers under the characters that begin before this byte index.
     ///
     /// # Errors
     ///
@@ -89,19 +89,20 @@ pub trait LineCharacters {
     /// - This has the context's tab width, and the text and labels of `line`.
     /// - The labels with a message in `messages.before` and `messages.after` are those of `line`
     ///   that hang.
-    /// - `before` is at most the greatest start of a label of `line`.
+    /// - `byte_index` is at most the greatest start of a label of `line`.
     fn caret_pointers_before<W: PutStyle>(
         &self,
         w: &mut W,
         context: RowContext<'_>,
         line: Line<'_, '_>,
         messages: Messages<'_, '_>,
-        before: usize,
+        byte_index: usize,
     ) -> Result<(), W::Error>
         requires input { input self.now ≡ char_input context line }
         requires hanging_labels { AreHanging line.labels.now messages.before.now
             messages.after.now }
-        requires within_max_start { before ≤ max_label_start (single_label_views line.labels.now) }
-        ensures { Writes (W.sink w.old) (pointers_before_stream context.entry line.entry before)
+        requires within_max_start { byte_index
+            ≤ max_label_start (single_label_views line.labels.now) }
+        ensures { Writes (W.sink w.old) (pointers_before_stream context.entry line.entry byte_index)
             result (W.sink w.new) };
 }

@@ -111,9 +111,9 @@ impl<'row, 'd> LineCharacters for ScannedLine<'row, 'd> {
         context: RowContext<'_>,
         line: Line<'_, '_>,
         messages: Messages<'_, '_>,
-        before: usize,
+        byte_index: usize,
     ) -> Result<(), W::Error> {
-        scanned_caret_pointers(w, context, line, messages, before)
+        scanned_caret_pointers(w, context, line, messages, byte_index)
     }
 }
 

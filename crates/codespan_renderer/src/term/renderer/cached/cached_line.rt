@@ -214,9 +214,9 @@ impl<'cache, 'row, 'd> LineCharacters for CachedLine<'cache, 'row, 'd> {
         context: RowContext<'_>,
         _line: Line<'_, '_>,
         _messages: Messages<'_, '_>,
-        before: usize,
+        byte_index: usize,
     ) -> Result<(), W::Error> {
-        let edge = self.width_before(before);
-        write_pointers(w, context, self.pointers, before, edge)
+        let edge = self.width_before(byte_index);
+        write_pointers(w, context, self.pointers, byte_index, edge)
     }
 }
