@@ -26,10 +26,10 @@ module _ {Name Source : Type 0} {texts : Ghosts Source} where
   abbrev pub set_numbers_of : MappedFile Name Source texts → List (ℕ × ℕ)
   set_numbers_of file = set_number_views file.numbers.items
 
-  -- the file that the lookups of a `MappedFile` describe, where `output` is what names display
+  -- the file that the lookups of a `MappedFile` describe, where `displayed` is what names display
   abbrev pub mapped_file_of : (Name → Option (List ℕ)) → MappedFile Name Source texts → FileModel
-  mapped_file_of output file =
-      mapped_file (output (mapped_name_of file)) (mapped_text_of file) (set_numbers_of file)
+  mapped_file_of displayed file =
+      mapped_file (displayed (mapped_name_of file)) (mapped_text_of file) (set_numbers_of file)
 
   -- what a lookup of a `MappedFile` fails with
   abbrev pub mapped_failure_of : MappedFile Name Source texts → Lookup → Option Error
