@@ -23,12 +23,12 @@ severity_name Warning = codes "warning"
 severity_name Note = codes "note"
 severity_name Help = codes "help"
 
--- the locus: name, line number and column number
+-- the locus, in the start of a snippet or in a header: name, line number and column number
 unfoldable pub snippet_locus : Locus → Stream
-snippet_locus p =
-    byte_stream p.name ++ byte_stream (codes ":")
-    ++ byte_stream (decimal p.location.line_number) ++ byte_stream (codes ":")
-    ++ byte_stream (decimal p.location.column_number)
+snippet_locus locus =
+    byte_stream locus.name ++ byte_stream (codes ":")
+    ++ byte_stream (decimal locus.location.line_number) ++ byte_stream (codes ":")
+    ++ byte_stream (decimal locus.location.column_number)
 
 -- the outer gutter without a line number: the padding, and one space more
 unfoldable pub outer_gutter : ℕ → Stream

@@ -25,7 +25,7 @@ use Rattle.codespan_picture.specs.Private.Runs.{hanging_stream}
 abbrev pub header_start_stream : Option (Bor rust_locus.Locus) → Severity → Option (Bor (List ℕ))
     → Stream
 header_start_stream locus severity code =
-    header_locus (option_map (λ (at : Bor rust_locus.Locus). locus_view at.now) locus)
+    header_locus (option_map (λ (x : Bor rust_locus.Locus). locus_view x.now) locus)
     ++ style_mark (Header severity) ++ byte_stream (severity_name severity)
     ++ bracketed (option_map text_now code)
 
