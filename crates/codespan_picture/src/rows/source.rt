@@ -23,16 +23,16 @@ use codespan_core::diagnostic::LabelStyle;
 use codespan_core::term::config::put_style::PutStyle;
 use codespan_core::term::config::writing::{put_all, put_spaces};
 
-/// Writes the text of a line, which has these characters, with spaces instead of tabs and with
-/// style marks where the style changes.
+/// Writes the text of a line, over whose characters the cursor is, with spaces instead of tabs and
+/// with style marks where the style changes.
 fn write_colored_text<W: PutStyle, C: CharCursor>(
     w: &mut W,
     context: RowContext<'_>,
     line: Line<'_, '_>,
-    mut characters: C,
+    mut cursor: C,
 ) -> Result<(), W::Error>
-    requires left { C.left characters ≡ char_metrics context.tab_width line.text.now }
-    requires labels { C.labels characters ≡ line.labels.now }
+    requires left { C.left cursor ≡ char_metrics context.tab_width line.text.now }
+    requires labels { C.labels cursor ≡ line.labels.now }
     ensures { Writes (W.sink w.old)
         (colored_text (context_view context.entry) (line_view line.entry))
         result (W.sink w.new) }
@@ -43,11 +43,11 @@ fn write_colored_text<W: PutStyle, C: CharCursor>(
     let mut previous = None;
     let mut start = 0;
     let mut end = 0;
-    while let Some(metrics) = characters.next_metrics() {
+    while let Some(metrics) = cursor.next_metrics() {
         if end >= plain {
             break;
         }
-        let style = text_style(&mut characters, primary, line, metrics);
+        let style = text_style(&mut cursor, primary, line, metrics);
         let next = end + metrics.bytes;
         if metrics.ch == '\t' {
             end_text_run(w, context, &text[start..end], previous, style)?;

@@ -157,7 +157,7 @@ returns g c =
     let run = piece c.as_bytes-text.result.now at.start at.end in
     let rest : (byte_stream run ++ style_change context.severity at.previous None)
     ++ byte_stream (drop at.end line.text)
-    ≡ text_rest context line at.previous run (g.C.CharCursor.left at.characters) =
+    ≡ text_rest context line at.previous run (g.C.CharCursor.left at.cursor) =
     elim c.match-next_metrics.branch [
       | in_default w ↦ text-over context line at.previous run at.end _ at.invariant.over
           w.in_default.ensures.next.0
@@ -182,7 +182,7 @@ returns-in_err-end_text_run-3 g c =
     let run = piece c.as_bytes-text.result.now at.start at.end in
     let rest : (byte_stream run ++ style_change context.severity at.previous None)
     ++ byte_stream (drop at.end line.text)
-    ≡ text_rest context line at.previous run (g.C.CharCursor.left at.characters) =
+    ≡ text_rest context line at.previous run (g.C.CharCursor.left at.cursor) =
     elim c.match-next_metrics.branch [
       | in_default w ↦ text-over context line at.previous run at.end _ at.invariant.over
           w.in_default.ensures.next.0
