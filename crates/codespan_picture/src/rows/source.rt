@@ -18,7 +18,7 @@ use crate::rows::parts::{
     border_left, change_style, outer_gutter_number, write_newline, write_space,
 };
 use crate::rows::primary_cover::PrimaryCover;
-use crate::rows::text_styles::{is_plain, plain_from, text_style};
+use crate::rows::text_styles::{is_plain, plain_from, source_style};
 use codespan_core::diagnostic::LabelStyle;
 use codespan_core::term::config::put_style::PutStyle;
 use codespan_core::term::config::writing::{put_all, put_spaces};
@@ -47,7 +47,7 @@ fn write_colored_text<W: PutStyle, C: CharCursor>(
         if end >= plain {
             break;
         }
-        let style = text_style(&mut cursor, primary, line, metrics);
+        let style = source_style(&mut cursor, primary, line, metrics);
         let next = end + metrics.bytes;
         if metrics.ch == '\t' {
             end_text_run(w, context, &text[start..end], previous, style)?;

@@ -28,7 +28,7 @@ use codespan_core::diagnostic::LabelStyle;
 /// - The character has a byte, and `cursor` has just returned it.
 /// - `cursor` has the labels of `line`.
 /// - `primary` is [`PrimaryCover::of`] the lane marks of `line`.
-pub fn text_style<C: CharCursor>(
+pub fn source_style<C: CharCursor>(
     cursor: &mut C,
     primary: PrimaryCover,
     line: Line<'_, '_>,
