@@ -33,11 +33,11 @@ abbrev pub EndBy : ℕ → List Metrics → Type 0
 EndBy byte_index [] = Unit {0}
 EndBy byte_index (c ∷ cs) = (c.byte_index + c.bytes ≤ byte_index) × EndBy byte_index cs
 
--- `left` are the characters `all` but for some at the start, which end at this byte index or before
--- it and occupy so many cells that the others begin at this column
+-- `remaining` are the characters `all` but for some at the start, which end at this byte index or
+-- before it and occupy so many cells that the others begin at this column
 pub record LeavesOut (byte_index : ℕ) (all : List Metrics) (column : ℕ)
-    (left : List Metrics) : Type 0 where
+    (remaining : List Metrics) : Type 0 where
   pub before : List Metrics
-  pub whole : before ++ left ≡ all
+  pub whole : before ++ remaining ≡ all
   pub ended : EndBy byte_index before
   pub width : column ≡ width_of before

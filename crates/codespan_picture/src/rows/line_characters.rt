@@ -27,15 +27,15 @@ pub trait LineCharacters {
 
     /// Returns a cursor over the characters of the line.
     fn characters(&self) -> Self::Cursor
-        ensures left { Self.Cursor.left result ≡ metrics_of (input self.now) }
+        ensures remaining { Self.Cursor.remaining result ≡ metrics_of (input self.now) }
         ensures labels { Self.Cursor.labels result ≡ (input self.now).labels };
 
     /// Returns a column, in cells from the line's start, and a cursor over the characters of the
     /// line from there on and the placeholder after the last one. The characters that are left out
     /// end at or before the byte index `end`, and at or before the start of each label.
     fn characters_from_labels(&self, end: usize) -> (u128, Self::Cursor)
-        ensures left { LeavesOut (least_start end (single_label_views (input self.now).labels))
-            (metrics_to_end_of (input self.now)) result.0 (Self.Cursor.left result.1) }
+        ensures remaining { LeavesOut (least_start end (single_label_views (input self.now).labels))
+            (metrics_to_end_of (input self.now)) result.0 (Self.Cursor.remaining result.1) }
         ensures labels { Self.Cursor.labels result.1 ≡ (input self.now).labels };
 
     /// Returns how many cells the characters that begin at this byte index or before it occupy.

@@ -31,7 +31,7 @@ fn write_colored_text<W: PutStyle, C: CharCursor>(
     line: Line<'_, '_>,
     mut cursor: C,
 ) -> Result<(), W::Error>
-    requires left { C.left cursor ≡ char_metrics context.tab_width line.text.now }
+    requires remaining { C.remaining cursor ≡ char_metrics context.tab_width line.text.now }
     requires labels { C.labels cursor ≡ line.labels.now }
     ensures { Writes (W.sink w.old)
         (colored_text (context_view context.entry) (line_view line.entry))

@@ -38,7 +38,7 @@ pub fn source_style<C: CharCursor>(
     requires returned { C.has_returned metrics cursor.old }
     requires labels { C.labels cursor.old ≡ line.labels.now }
     requires primary { CoversAsLaneMarks (map lane_mark_view line.lanes.lane_marks.now) primary }
-    ensures left { C.left cursor.new ≡ C.left cursor.old }
+    ensures remaining { C.remaining cursor.new ≡ C.remaining cursor.old }
     ensures labels { C.labels cursor.new ≡ C.labels cursor.old }
     ensures style { result ≡ source_style (line_view line.entry) metrics }
 {

@@ -31,7 +31,7 @@ pub struct ScanCursor<'row, 'd> {
 impl<'row, 'd> CharCursor for ScanCursor<'row, 'd> {
     ghost use Rattle.codespan_renderer.specs.Private.MetricsLeft.{metrics_left};
 
-    ghost left = { λ s. metrics_left s.char_metrics };
+    ghost remaining = { λ s. metrics_left s.char_metrics };
 
     ghost labels = { λ s. s.labels.now };
 

@@ -13,7 +13,7 @@ use Rattle.codespan_picture.proofs.rows.source.write_colored_text.Goals.{in-Some
 use Rattle.codespan_picture.proofs.rows.source.write_colored_text.Goals as goal
 
 pub loop-metrics-init : goal.loop-metrics-init
-loop-metrics-init g c = rw c.requires.left record {
+loop-metrics-init g c = rw c.requires.remaining record {
   written_so_far = StillToWrite-start _ _ _ (text-start _ _);
   over = over-start _ _ (IsUtf8-had _ c.args.line.utf8);
   same = c.requires.labels;
@@ -25,7 +25,7 @@ pub source_style-style-requires-clause-has_byte : goal.source_style-style-requir
 source_style-style-requires-clause-has_byte g c =
     let n =
     over-next c.args.context.tab_width c.args.line.text.now c.loop-metrics.end c.in-Some.metrics
-    _ (g.C.CharCursor.left c.next_metrics.new.self) c.in-Some.ensures.next
+    _ (g.C.CharCursor.remaining c.next_metrics.new.self) c.in-Some.ensures.next
     c.loop-metrics.invariant.over in
     omega (arith, n.bytes, (len_utf8_bounds c.in-Some.metrics.ch).0)
 
@@ -33,7 +33,7 @@ pub overflow_add-next : goal.overflow_add-next
 overflow_add-next g c =
     let n =
     over-next c.args.context.tab_width c.args.line.text.now c.loop-metrics.end c.in-Some.metrics
-    _ (g.C.CharCursor.left c.next_metrics.new.self) c.in-Some.ensures.next
+    _ (g.C.CharCursor.remaining c.next_metrics.new.self) c.in-Some.ensures.next
     c.loop-metrics.invariant.over in
     omega (arith, n.over.within)
 
@@ -44,7 +44,7 @@ returns-in_err-end_text_run g c =
     (StillToWrite-failed _ _ _ _ _ _ _ c.loop-metrics.invariant.written_so_far
     (failed-before _ c.in_err-end_text_run.ensures)
     (text-tab (context_view c.args.context) (line_view c.args.line) _ _ _ c.in-Some.metrics _
-    (g.C.CharCursor.left c.next_metrics.new.self) c.in-Some.ensures.next
+    (g.C.CharCursor.remaining c.next_metrics.new.self) c.in-Some.ensures.next
     c.source_style-style.ensures.style c.if-metrics-eq9.true))
 
 pub returns-in_err-put_spaces : goal.returns-in_err-put_spaces
@@ -55,7 +55,7 @@ returns-in_err-put_spaces g c =
     (StillToWrite-failed _ _ _ _ _ _ _ c.loop-metrics.invariant.written_so_far
     (failed-then _ c.in_ok-end_text_run.ensures c.in_err-put_spaces.ensures)
     (text-tab (context_view c.args.context) (line_view c.args.line) _ _ _ c.in-Some.metrics _
-    (g.C.CharCursor.left c.next_metrics.new.self) c.in-Some.ensures.next
+    (g.C.CharCursor.remaining c.next_metrics.new.self) c.in-Some.ensures.next
     c.source_style-style.ensures.style c.if-metrics-eq9.true))
 
 pub returns-in_err-end_text_run-2 : goal.returns-in_err-end_text_run-2
@@ -66,25 +66,25 @@ returns-in_err-end_text_run-2 g c =
     (StillToWrite-failed _ _ _ _ _ _ _ c.loop-metrics.invariant.written_so_far
     c.in_err-end_text_run-2.ensures
     (text-turn (context_view c.args.context) (line_view c.args.line) _ _ _ c.in-Some.metrics _
-    (g.C.CharCursor.left c.next_metrics.new.self) c.in-Some.ensures.next
+    (g.C.CharCursor.remaining c.next_metrics.new.self) c.in-Some.ensures.next
     c.source_style-style.ensures.style c.if-metrics-eq9.false))
 
 pub loop-metrics-preserved-in_ok-put_spaces : goal.loop-metrics-preserved-in_ok-put_spaces
 loop-metrics-preserved-in_ok-put_spaces g c =
     let n =
     over-next c.args.context.tab_width c.args.line.text.now c.loop-metrics.end c.in-Some.metrics
-    _ (g.C.CharCursor.left c.next_metrics.new.self) c.in-Some.ensures.next
+    _ (g.C.CharCursor.remaining c.next_metrics.new.self) c.in-Some.ensures.next
     c.loop-metrics.invariant.over in
     let none : c.loop-metrics.end + c.in-Some.metrics.bytes
     - (c.loop-metrics.end + c.in-Some.metrics.bytes) ≡ 0 =
     omega arith in
-    rw c.source_style-style.ensures.left record {
+    rw c.source_style-style.ensures.remaining record {
       written_so_far =
           rw none
           (StillToWrite-more _ _ _ _ _ _ _ c.loop-metrics.invariant.written_so_far
           (written-then _ _ _ c.in_ok-end_text_run.ensures c.in_ok-put_spaces.ensures)
           (text-tab (context_view c.args.context) (line_view c.args.line) _ _ _ c.in-Some.metrics _
-          (g.C.CharCursor.left c.next_metrics.new.self) c.in-Some.ensures.next
+          (g.C.CharCursor.remaining c.next_metrics.new.self) c.in-Some.ensures.next
           c.source_style-style.ensures.style c.if-metrics-eq9.true));
       over = n.over;
       same =
@@ -98,20 +98,20 @@ pub loop-metrics-preserved-in_ok-end_text_run-2 : goal.loop-metrics-preserved-in
 loop-metrics-preserved-in_ok-end_text_run-2 g c =
     let n =
     over-next c.args.context.tab_width c.args.line.text.now c.loop-metrics.end c.in-Some.metrics
-    _ (g.C.CharCursor.left c.next_metrics.new.self) c.in-Some.ensures.next
+    _ (g.C.CharCursor.remaining c.next_metrics.new.self) c.in-Some.ensures.next
     c.loop-metrics.invariant.over in
     let grows = piece-grows c.as_bytes-text.result.now c.loop-metrics.end c.loop-metrics.end
     (encode_utf8 c.in-Some.metrics.ch) c.in-Some.metrics.bytes (omega arith)
     (rw c.as_bytes-text.ensures.value n.text_left)
     (n.bytes ∙ sym (length-encode c.in-Some.metrics.ch)) in
     let none : c.loop-metrics.end - c.loop-metrics.end ≡ 0 = omega arith in
-    rw c.source_style-style.ensures.left record {
+    rw c.source_style-style.ensures.remaining record {
       written_so_far =
           rw (grows, none)
           (StillToWrite-more _ _ _ _ _ _ _ c.loop-metrics.invariant.written_so_far
           c.in_ok-end_text_run-2.ensures
           (text-turn (context_view c.args.context) (line_view c.args.line) _ _ _ c.in-Some.metrics _
-          (g.C.CharCursor.left c.next_metrics.new.self) c.in-Some.ensures.next
+          (g.C.CharCursor.remaining c.next_metrics.new.self) c.in-Some.ensures.next
           c.source_style-style.ensures.style c.if-metrics-eq9.false));
       over = n.over;
       same =
@@ -125,7 +125,7 @@ pub loop-metrics-preserved : goal.loop-metrics-preserved
 loop-metrics-preserved g c =
     let n =
     over-next c.args.context.tab_width c.args.line.text.now c.loop-metrics.end c.in-Some.metrics
-    _ (g.C.CharCursor.left c.next_metrics.new.self) c.in-Some.ensures.next
+    _ (g.C.CharCursor.remaining c.next_metrics.new.self) c.in-Some.ensures.next
     c.loop-metrics.invariant.over in
     let same : c.loop-metrics.previous ≡ c.source_style-style.result = search rules in
     let grows = piece-grows c.as_bytes-text.result.now c.loop-metrics.start c.loop-metrics.end
@@ -136,9 +136,9 @@ loop-metrics-preserved g c =
     text-same (context_view c.args.context) (line_view c.args.line) c.loop-metrics.previous
     c.source_style-style.result
     (piece c.as_bytes-text.result.now c.loop-metrics.start c.loop-metrics.end) c.in-Some.metrics
-    _ (g.C.CharCursor.left c.next_metrics.new.self) c.in-Some.ensures.next
+    _ (g.C.CharCursor.remaining c.next_metrics.new.self) c.in-Some.ensures.next
     c.source_style-style.ensures.style c.if-metrics-eq9.false same in
-    rw c.source_style-style.ensures.left record {
+    rw c.source_style-style.ensures.remaining record {
       written_so_far = rw (same, grows) (rw rest at c.loop-metrics.invariant.written_so_far);
       over = n.over;
       same =
@@ -157,7 +157,7 @@ returns g c =
     let run = piece c.as_bytes-text.result.now at.start at.end in
     let rest : (byte_stream run ++ style_change context.severity at.previous None)
     ++ byte_stream (drop at.end line.text)
-    ≡ text_rest context line at.previous run (g.C.CharCursor.left at.cursor) =
+    ≡ text_rest context line at.previous run (g.C.CharCursor.remaining at.cursor) =
     elim c.match-next_metrics.branch [
       | in_default w ↦ text-over context line at.previous run at.end _ at.invariant.over
           w.in_default.ensures.next.0
@@ -182,7 +182,7 @@ returns-in_err-end_text_run-3 g c =
     let run = piece c.as_bytes-text.result.now at.start at.end in
     let rest : (byte_stream run ++ style_change context.severity at.previous None)
     ++ byte_stream (drop at.end line.text)
-    ≡ text_rest context line at.previous run (g.C.CharCursor.left at.cursor) =
+    ≡ text_rest context line at.previous run (g.C.CharCursor.remaining at.cursor) =
     elim c.match-next_metrics.branch [
       | in_default w ↦ text-over context line at.previous run at.end _ at.invariant.over
           w.in_default.ensures.next.0

@@ -40,7 +40,7 @@ pub struct CachedCursor<'cache, 'row, 'd> {
 }
 
 impl<'cache, 'row, 'd> CharCursor for CachedCursor<'cache, 'row, 'd> {
-    ghost left = { λ s. cached_left s.characters };
+    ghost remaining = { λ s. cached_left s.characters };
 
     ghost labels = { λ s. s.label_cursor.labels.now };
 
