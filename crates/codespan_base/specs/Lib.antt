@@ -29,8 +29,8 @@ pub use Rattle.codespan_core.specs.WriterLaw
 pub use Rattle.codespan_core.specs.Writers
 -- the styles of the parts of the output
 pub mod PartStyles
--- tables
-pub mod StyleTables
+-- how style marks are spelled
+pub mod StyleSpellings
 pub mod Ansi
 -- the writers of colors and styles
 pub mod StyleWriters
