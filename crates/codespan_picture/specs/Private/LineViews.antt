@@ -4,16 +4,16 @@ use Rattle.std.specs.Option.{option_map}
 use Rattle.codespan_core.specs.Streams.{Stream}
 use Rattle.codespan_picture.specs.declared.rows.lanes.RowKind.{RowKind as RustRowKind}
 use Rattle.codespan_picture.specs.declared.rows.lanes.RowKind.TheVariants as rust_variant
-use Rattle.codespan_picture.specs.declared.rows.line.RowContext as context
-use Rattle.codespan_picture.specs.declared.rows.line.Lanes as lanes
-use Rattle.codespan_picture.specs.declared.rows.line.Line as line
+use Rattle.codespan_picture.specs.declared.rows.line.RowContext as rust_context
+use Rattle.codespan_picture.specs.declared.rows.line.Lanes as rust_lanes
+use Rattle.codespan_picture.specs.declared.rows.line.Line as rust_line
 use Rattle.codespan_picture.specs.Arguments.{LaneMarkTuple, single_label_views, lanes_of, lane_mark_view}
 use Rattle.codespan_picture.specs.Lanes.{RowKind, Source, EmptyOrBreak, SingleLabels, Underline, row_shape, row_crossing}
 use Rattle.codespan_picture.specs.Rows.{RowContext, Lanes, Line}
 use Rattle.codespan_picture.specs.RowParts.{inner_gutter_column, inner_gutter}
 
 -- what all rows of a line are rendered by
-abbrev pub context_view : context.RowContext → RowContext
+abbrev pub context_view : rust_context.RowContext → RowContext
 context_view x = record {
   chars = x.chars.now;
   tab_width = x.tab_width;
@@ -23,11 +23,11 @@ context_view x = record {
 }
 
 -- how many lanes a row has, and the lane marks in them
-abbrev pub lanes_view : lanes.Lanes → Lanes
+abbrev pub lanes_view : rust_lanes.Lanes → Lanes
 lanes_view x = lanes_of x.count x.lane_marks.now
 
 -- a drawn line
-abbrev pub line_view : line.Line → Line
+abbrev pub line_view : rust_line.Line → Line
 line_view x = record {
   number = x.number;
   text = x.text.now;
