@@ -10,7 +10,7 @@ use Rattle.codespan_picture.specs.declared.char_metrics.Metrics.{Metrics}
 use Rattle.codespan_picture.specs.CharMetrics.{char_metrics, char_metrics_to_end, width_of, leading_whitespace}
 use Rattle.codespan_picture.specs.Carets.{covers, style_under, caret_for, max_label_end}
 use Rattle.codespan_picture.specs.declared.lane_shapes.Shape.{Shape}
-use Rattle.codespan_picture.specs.Lanes.{RowKind, row_shape, row_crossing, lane_mark_in, shape_of, style_of_lane_mark, lane_characters, label_glyph}
+use Rattle.codespan_picture.specs.Lanes.{LaneRowKind, row_shape, row_crossing, lane_mark_in, shape_of, style_of_lane_mark, lane_characters, label_glyph}
 use Rattle.codespan_picture.specs.Rows.{Locus, RowContext, Lanes, Line, hanging_labels}
 
 -- ---- parts of rows
@@ -88,7 +88,7 @@ lanes_in context crossing shape lanes =
     (range_with_len 0 lanes.count)
 
 -- the lanes of a kind of row, of a line whose text begins with `leading` bytes of white space
-unfoldable pub inner_gutter : RowContext → ℕ → RowKind → Lanes → Stream
+unfoldable pub inner_gutter : RowContext → ℕ → LaneRowKind → Lanes → Stream
 inner_gutter context leading row lanes =
     lanes_in context (row_crossing row) (row_shape context.layout leading row) lanes
 

@@ -10,7 +10,7 @@ ghost use Rattle.codespan_picture.specs.RowStreams.{row_start};
 
 use crate::arguments::Locus;
 use crate::padding::count_digits;
-use crate::rows::lanes::{RowKind, inner_gutter};
+use crate::rows::lanes::{LaneRowKind, inner_gutter};
 use crate::rows::line::{Line, RowContext};
 use crate::rows::runs::write_spaces;
 use codespan_core::diagnostic::{LabelStyle, Severity};
@@ -176,6 +176,12 @@ pub fn write_row_start<W: PutStyle>(
 {
     outer_gutter(w, context.padding)?;
     border_left(w, context.chars)?;
-    inner_gutter(w, context, line.leading, RowKind::SingleLabels, line.lanes)?;
+    inner_gutter(
+        w,
+        context,
+        line.leading,
+        LaneRowKind::SingleLabels,
+        line.lanes,
+    )?;
     write_space(w)
 }

@@ -11,7 +11,7 @@ ghost use Rattle.codespan_picture.specs.RowParts.{style_change, colored_text};
 ghost use Rattle.codespan_picture.specs.RowStreams.{source_row};
 
 use crate::rows::char_cursor::CharCursor;
-use crate::rows::lanes::{RowKind, inner_gutter};
+use crate::rows::lanes::{LaneRowKind, inner_gutter};
 use crate::rows::line::{Line, RowContext};
 use crate::rows::line_characters::LineCharacters;
 use crate::rows::parts::{
@@ -114,7 +114,7 @@ fn write_source_row_start<W: PutStyle>(
 {
     outer_gutter_number(w, context.padding, line.number)?;
     border_left(w, context.chars)?;
-    inner_gutter(w, context, line.leading, RowKind::Source, line.lanes)?;
+    inner_gutter(w, context, line.leading, LaneRowKind::Source, line.lanes)?;
     write_space(w)
 }
 
