@@ -96,10 +96,11 @@ hanging_rows_stream x line labels =
     hanging_stream (context_view x) (line_view line)
     (filter has_message (single_label_views labels))
 
--- the pointer row, and the rows of the messages of these labels that may hang
-abbrev pub pointer_and_messages_stream : rust_context.RowContext → rust_line.Line
+-- the pointer row, even where no message hangs, and the rows of the messages of these labels that
+-- may hang
+abbrev pub unconditional_pointer_and_hanging_rows_stream : rust_context.RowContext → rust_line.Line
     → rust_messages.Messages → Stream
-pointer_and_messages_stream x line found =
+unconditional_pointer_and_hanging_rows_stream x line found =
     pointer_row (context_view x) (line_view line) ++ newline
     ++ hanging_rows_stream x line found.after.now ++ hanging_rows_stream x line found.before.now
 
