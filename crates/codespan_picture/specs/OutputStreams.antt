@@ -90,8 +90,8 @@ context_of config severity padding = record {
   padding = padding;
 }
 
--- what is rendered with these loci: the view's configuration chooses lines and padding, the
--- renderer's the characters, the tab width and the layout
+-- what is rendered with these loci: the view's configuration chooses lines and, by its layout, the
+-- padding; the renderer's the characters, the tab width and, by its layout, the shapes of lanes
 abbrev pub rendered : DisplayStyle → Config → Config → Severity → HeaderText
     → List Locus → List LabeledFileModel → List (List ℕ) → Stream
 rendered Rich renderer_config view_config severity header_text loci ss notes =
