@@ -4,13 +4,13 @@ use Rattle.std.proofs.lemmas.Iterator.{items_from_drains}
 use Rattle.std.proofs.lemmas.Iterator.Consumers.{YieldsList-from_first}
 use Rattle.std.proofs.lemmas.List.{map-id}
 use Rattle.std.specs.Iterator.{Drains, YieldsFirst}
-use Rattle.codespan_core.specs.LineStarts.{starts_left}
+use Rattle.codespan_core.specs.LineStarts.{remaining_starts}
 use Rattle.codespan_core.specs.declared.files.starts.LineStarts.{LineStarts}
 
 -- at its end it has returned the starts that were left
-pub drained : (starts : LineStarts) (items : List ℕ) → Drains (YieldsFirst starts_left) starts items
-    → items ≡ starts_left starts
+pub drained : (starts : LineStarts) (items : List ℕ) → Drains (YieldsFirst remaining_starts) starts items
+    → items ≡ remaining_starts starts
 drained starts items run =
     sym (map-id items)
     ∙ items_from_drains items (run.1.0, run.1.1, λ _. (run.0, run.1.2))
-    (YieldsList-from_first (λ x. x) starts_left (starts_left starts) refl)
+    (YieldsList-from_first (λ x. x) remaining_starts (remaining_starts starts) refl)

@@ -7,7 +7,7 @@ pub use Rattle.codespan_core.specs.LawfulFiles
 pub use Rattle.codespan_core.specs.SimpleModel
 pub use Rattle.codespan_core.specs.ErrorText
 pub use Rattle.codespan_core.specs.Errors
-pub use Rattle.codespan_core.specs.DatabaseViews
+pub use Rattle.codespan_core.specs.SimpleFileViews
 pub mod Lemmas
 -- the file database of one file whose line numbers can be set
 pub mod MappedModel
@@ -29,8 +29,8 @@ pub use Rattle.codespan_core.specs.WriterLaw
 pub use Rattle.codespan_core.specs.Writers
 -- the styles of the parts of the output
 pub mod PartStyles
--- tables
-pub mod StyleTables
+-- how style marks are spelled
+pub mod StyleSpellings
 pub mod Ansi
 -- the writers of colors and styles
 pub mod StyleWriters

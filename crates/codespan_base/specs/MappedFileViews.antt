@@ -5,7 +5,7 @@ use Rattle.std.specs.declared.convert.AsStr.{Ghosts}
 use Rattle.codespan_core.specs.declared.files.error.Error.{Error}
 use Rattle.codespan_base.specs.declared.files.mapped.MappedFile.{MappedFile}
 use Rattle.codespan_core.specs.FileModel.{FileModel, Lookup}
-use Rattle.codespan_core.specs.DatabaseViews.{name_of, source_of, file_text_of}
+use Rattle.codespan_core.specs.SimpleFileViews.{name_of, source_of, file_text_of}
 use Rattle.codespan_base.specs.SetLineNumbers.{set_number_views}
 use Rattle.codespan_base.specs.MappedModel.{mapped_file, mapped_failure}
 
@@ -26,10 +26,10 @@ module _ {Name Source : Type 0} {texts : Ghosts Source} where
   abbrev pub set_numbers_of : MappedFile Name Source texts → List (ℕ × ℕ)
   set_numbers_of file = set_number_views file.numbers.items
 
-  -- the file that the lookups of a `MappedFile` describe, where `output` is what names display
+  -- the file that the lookups of a `MappedFile` describe, where `displayed` is what names display
   abbrev pub mapped_file_of : (Name → Option (List ℕ)) → MappedFile Name Source texts → FileModel
-  mapped_file_of output file =
-      mapped_file (output (mapped_name_of file)) (mapped_text_of file) (set_numbers_of file)
+  mapped_file_of displayed file =
+      mapped_file (displayed (mapped_name_of file)) (mapped_text_of file) (set_numbers_of file)
 
   -- what a lookup of a `MappedFile` fails with
   abbrev pub mapped_failure_of : MappedFile Name Source texts → Lookup → Option Error

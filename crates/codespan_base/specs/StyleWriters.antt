@@ -5,7 +5,7 @@ use Rattle.codespan_base.specs.declared.term.config.color.ColorSpec.{ColorSpec}
 use Rattle.codespan_base.specs.declared.term.config.no_color.NoColor.{NoColor}
 use Rattle.codespan_base.specs.declared.term.config.styles_writer.StylesWriter.{StylesWriter}
 use Rattle.codespan_core.specs.WriterLaw.{Sink}
-use Rattle.codespan_base.specs.StyleTables.{spelling_by}
+use Rattle.codespan_base.specs.StyleSpellings.{spelling_by}
 
 -- ---- the writer that each of them writes to
 

@@ -9,7 +9,7 @@ ghost use Rattle.std.specs.Str.{IsUtf8};
 ghost use Rattle.codespan_base.specs.FileLaws.{LinesJoin, LineCountsNewlines, ColumnsNeverDecrease, nearest_set_after};
 ghost use Rattle.codespan_base.specs.MappedModel.{nearest_set, with_set_number};
 ghost use Rattle.codespan_base.specs.SetLineNumbers.{IsStrictlySorted};
-ghost use Rattle.codespan_core.specs.LineStarts.{starts_left};
+ghost use Rattle.codespan_core.specs.LineStarts.{remaining_starts};
 ghost use Rattle.codespan_core.specs.SimpleModel.{simple_file};
 ghost use Rattle.codespan_core.specs.declared.files.starts.LineStarts.{LineStarts};
 
@@ -53,5 +53,5 @@ pub fn line_starts_end()
         IsFinite (⟦<LineStarts<'static> as Iterator>⟧.remaining starts) }
     ensures drained { (starts : LineStarts) (items : List ℕ) →
         Drains ⟦<LineStarts<'static> as Iterator>⟧.next_gives starts items →
-        items ≡ starts_left starts }
+        items ≡ remaining_starts starts }
 {}

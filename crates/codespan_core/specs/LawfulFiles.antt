@@ -57,7 +57,7 @@ abbrev pub IsLineTooLarge : Error → Type 0
 IsLineTooLarge (LineTooLarge given max) = Unit {0}
 IsLineTooLarge _ = ⊥
 
--- the lookup fails with `LineTooLarge`
+-- the lookup fails with `LineTooLarge`, as that of the range of a line past the last one does
 abbrev pub IsPastLastLineError : Option Error → Type 0
 IsPastLastLineError None = ⊥
 IsPastLastLineError (Some e) = IsLineTooLarge e

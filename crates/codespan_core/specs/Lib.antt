@@ -8,7 +8,7 @@ pub mod LawfulFiles
 pub mod SimpleModel
 pub mod ErrorText
 pub mod Errors
-pub mod DatabaseViews
+pub mod SimpleFileViews
 pub mod Lemmas
 -- the configuration: characters, defaults and equality
 pub mod SnippetStarts

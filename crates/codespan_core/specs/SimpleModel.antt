@@ -69,11 +69,11 @@ abbrev pub missing_failure : Lookup → Option Error
 missing_failure (LineNumber i) = line_number_failure i
 missing_failure _ = Some FileMissing
 
--- the file of an id, in a database of names and sources
+-- the file of an id, in a database of names and sources, where `displayed` is what names display
 abbrev pub database_file : {Name Source : Type 0} → (Name → Option (List ℕ)) → (Source → List ℕ)
     → List (Name × Source) → ℕ → FileModel
-database_file output text entries id =
-    option_map_or (λ entry. simple_file (output entry.0) (text entry.1))
+database_file displayed text entries id =
+    option_map_or (λ entry. simple_file (displayed entry.0) (text entry.1))
     (slice_get entries id) missing_file
 
 -- what a lookup of an id fails with, in a database of names and sources

@@ -64,7 +64,7 @@ pub record PrefixWritten (s : Sink) (items : Stream) (t : Sink) : Type 0 where
   pub whole : prefix ++ rest ≡ spelled s.frame.spelling items
   pub contents : t.contents ≡ extended s.contents prefix
 
--- a call that fails sets the flag, and nothing else of the frame changes
+-- of the frame a call changes whether the writer has failed, where it fails, and nothing else
 abbrev pub KeepsFrame : {T E : Type 0} → Frame → Result T E → Frame → Type 0
 KeepsFrame old r new = MatchResult r (λ _. new ≡ old) (λ _. new ≡ failed_frame old)
 
@@ -90,6 +90,6 @@ Puts old bs r new =
     × (is_known old ≡ true → MatchResult r
     (λ n. new.contents ≡ append_known old.contents (take n bs)) (λ _. new.contents ≡ old.contents))
 
--- a writer of this frame with another flag, and with these bytes
+-- a writer of this frame, but for whether it has failed, and with these bytes
 abbrev pub with_failed : Frame → Bool → Option (List ℕ) → Sink
 with_failed f failed contents = record { frame = record f { failed = failed }; contents = contents }

@@ -18,7 +18,7 @@ pub enum Style {
     LineNumber,
     /// The bullet of a note.
     NoteBullet,
-    /// The border left of the source, and the start of a snippet.
+    /// The border left of the source, and the text before a locus.
     SourceBorder,
     /// A label's carets, lanes and message, and the source text of a primary label, by the
     /// severity of the diagnostic.

@@ -3,7 +3,7 @@ use Rattle.std.proofs.Common.{◌≡◌, ℕ, false, List, [], ◌∷◌, ◌++�
 use Rattle.std.proofs.lemmas.List.{map-append}
 use Rattle.codespan_base.specs.declared.term.config.styles.Styles.{Styles}
 use Rattle.codespan_base.specs.Streams.{Stream, Spelling, StyleMark, Byte, Mark, Slot, Header, HeaderMessage, LineNumber, NoteBullet, SourceBorder, LabelStyleMark, Reset, spelled, text_of}
-use Rattle.codespan_base.specs.StyleTables.{spelling_by}
+use Rattle.codespan_base.specs.StyleSpellings.{spelling_by}
 use Rattle.codespan_laws.specs.ColorLaws.{ColorsChangeNoText, NoColorIsPlain, WrittenByte, written_bytes}
 
 -- the byte that is written

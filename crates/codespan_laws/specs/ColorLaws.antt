@@ -2,7 +2,7 @@
 use Rattle.std.specs.Prelude.{◌≡◌, ℕ, Bool, true, false, List, [], ◌∷◌, ◌++◌, map, filter}
 use Rattle.codespan_base.specs.declared.term.config.styles.Styles.{Styles}
 use Rattle.codespan_base.specs.Streams.{Stream, Spelling, Byte, Mark, Slot, spelled, text_of}
-use Rattle.codespan_base.specs.StyleTables.{spelling_by}
+use Rattle.codespan_base.specs.StyleSpellings.{spelling_by}
 
 -- a byte that a writer writes: of the text, or of a style mark's spelling
 pub record WrittenByte : Type 0 where

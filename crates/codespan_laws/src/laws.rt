@@ -26,7 +26,7 @@ ghost use Rattle.codespan_laws.specs.OrderLaws.{ReorderingChangesNothing};
 ghost use Rattle.codespan_picture.specs.SortLaws.{SortedIsStableSort};
 ghost use Rattle.codespan_picture.specs.StatedNames.{HeadersAreBeforeFailure, OutputIsPicture};
 ghost use Rattle.codespan_picture.specs.Utf8Laws.{OutputIsUtf8, PictureIsUtf8};
-ghost use Rattle.codespan_picture.specs.Lanes.{RowKind};
+ghost use Rattle.codespan_picture.specs.Lanes.{LaneRowKind};
 ghost use Rattle.codespan_picture.specs.RowParts.{line_metrics, inner_gutter};
 ghost use Rattle.codespan_picture.specs.OutputStreams.{AreLoci, output};
 ghost use Rattle.codespan_picture.specs.Picture.{stated_loci};
@@ -110,7 +110,7 @@ pub fn lanes_are_shown()
 
 /// States that each lane takes two characters.
 pub fn lanes_take_two_characters()
-    ensures { (context : RowContext) (leading : ℕ) (row : RowKind) (lanes : Lanes)
+    ensures { (context : RowContext) (leading : ℕ) (row : LaneRowKind) (lanes : Lanes)
         → row_length (inner_gutter context leading row lanes) ≡ 2 * lanes.count }
 {}
 

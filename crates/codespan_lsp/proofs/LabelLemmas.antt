@@ -9,7 +9,7 @@ use Rattle.codespan_base.specs.declared.diagnostic.Diagnostic.{Diagnostic}
 use Rattle.codespan_base.specs.declared.diagnostic.Label.{Label}
 use Rattle.codespan_base.specs.declared.files.Error.{Error}
 use Rattle.codespan_lsp.specs.Positions.{first_failure}
-use Rattle.codespan_lsp.specs.LspDiagnostics.{RelatedView, related_view, related_views, related_view_for, label_range, lsp_view_for}
+use Rattle.codespan_lsp.specs.LspDiagnostics.{RelatedView, related_view, related_information_of, related_information_for, label_range, lsp_diagnostic_for}
 use Rattle.codespan_lsp.specs.Messages.{full_message}
 use Rattle.codespan_lsp.specs.Severities.{lsp_severity}
 use Rattle.codespan_lsp.specs.declared.severity.DiagnosticSeverity.{DiagnosticSeverity}
@@ -75,7 +75,7 @@ pub related-same : {FileId : Type 0} (encoding : PositionEncoding) (database : F
     (label : Label FileId) (related : RelatedInformation FileId) → related.file_id ≡ label.file_id
     → related.range ≡ label_range encoding database label
     → string_bytes related.message ≡ string_bytes label.message
-    → related_view related ≡ related_view_for encoding database label
+    → related_view related ≡ related_information_for encoding database label
 related-same encoding database label related id range message = rw (id, range, message) refl
 
 -- what is sent with the fields of a diagnostic and of a label
@@ -85,8 +85,8 @@ pub lsp-same : {FileId : Type 0} (encoding : PositionEncoding) (database : FileD
     (related : List (RelatedView FileId))
     → range ≡ label_range encoding database label → severity ≡ lsp_severity d.severity
     → code ≡ option_map string_bytes d.code
-    → message ≡ full_message d label → related ≡ related_views encoding database d.labels.items
-    → lsp_view_for encoding database d label ≡ record {
+    → message ≡ full_message d label → related ≡ related_information_of encoding database d.labels.items
+    → lsp_diagnostic_for encoding database d label ≡ record {
       file_id = label.file_id;
       range = range;
       severity = severity;

@@ -69,29 +69,29 @@ module _ {FileId : Type 0} (encoding : PositionEncoding) (database : FileDatabas
       label.range
 
   -- the related information of a label
-  abbrev pub related_view_for : Label FileId → RelatedView FileId
-  related_view_for label = record {
+  abbrev pub related_information_for : Label FileId → RelatedView FileId
+  related_information_for label = record {
     file_id = label.file_id;
     range = label_range label;
     message = string_bytes label.message;
   }
 
   -- that of the secondary labels, and the error of their first lookup that fails
-  abbrev pub related_views : List (Label FileId) → List (RelatedView FileId)
-  related_views labels = map related_view_for (secondary_labels labels)
+  abbrev pub related_information_of : List (Label FileId) → List (RelatedView FileId)
+  related_information_of labels = map related_information_for (secondary_labels labels)
 
   abbrev pub related_failure : List (Label FileId) → Option Error
   related_failure labels = first_failure (map label_range_failure (secondary_labels labels))
 
   -- what is sent for a primary label, and the error of the first lookup for it that fails
-  abbrev pub lsp_view_for : Diagnostic FileId → Label FileId → LspView FileId
-  lsp_view_for d label = record {
+  abbrev pub lsp_diagnostic_for : Diagnostic FileId → Label FileId → LspView FileId
+  lsp_diagnostic_for d label = record {
     file_id = label.file_id;
     range = label_range label;
     severity = lsp_severity d.severity;
     code = option_map string_bytes d.code;
     message = full_message d label;
-    related = related_views d.labels.items;
+    related = related_information_of d.labels.items;
   }
 
   abbrev pub lsp_failure : Diagnostic FileId → Label FileId → Option Error
@@ -99,8 +99,8 @@ module _ {FileId : Type 0} (encoding : PositionEncoding) (database : FileDatabas
 
   -- what is sent for a diagnostic: one for each primary label, in their order; and the error of
   -- the first lookup that fails
-  abbrev pub lsp_views : Diagnostic FileId → List (LspView FileId)
-  lsp_views d = map (lsp_view_for d) (primary_labels d.labels.items)
+  abbrev pub lsp_diagnostics : Diagnostic FileId → List (LspView FileId)
+  lsp_diagnostics d = map (lsp_diagnostic_for d) (primary_labels d.labels.items)
 
-  abbrev pub lsp_views_failure : Diagnostic FileId → Option Error
-  lsp_views_failure d = first_failure (map (lsp_failure d) (primary_labels d.labels.items))
+  abbrev pub lsp_diagnostics_failure : Diagnostic FileId → Option Error
+  lsp_diagnostics_failure d = first_failure (map (lsp_failure d) (primary_labels d.labels.items))

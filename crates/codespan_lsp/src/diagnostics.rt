@@ -3,7 +3,7 @@
 ghost use Rattle.std.specs.Prelude.{◌≡◌, IfOk, map};
 ghost use Rattle.codespan_base.specs.LawfulFiles.{FailsBy};
 ghost use Rattle.codespan_base.specs.Labels.{is_primary_style};
-ghost use Rattle.codespan_lsp.specs.LspDiagnostics.{lsp_view, lsp_views, lsp_view_for, lsp_failure, lsp_views_failure, related_view, related_views, related_failure};
+ghost use Rattle.codespan_lsp.specs.LspDiagnostics.{lsp_view, lsp_diagnostics, lsp_diagnostic_for, lsp_failure, lsp_diagnostics_failure, related_view, related_information_of, related_failure};
 ghost use Rattle.codespan_lsp.specs.declared.encoding.PositionEncoding.TheVariants.{Utf16};
 
 use crate::encoding::PositionEncoding;
@@ -54,9 +54,9 @@ impl PositionEncoding {
         diagnostic: &Diagnostic<F::FileId>,
     ) -> Result<Vec<LspDiagnostic<F::FileId>>, Error>
         ensures value { IfOk result (λ found.
-            map lsp_view found.items ≡ lsp_views self (F.database files.now) diagnostic.now) }
-        ensures failed { FailsBy (lsp_views_failure self (F.database files.now) diagnostic.now)
-            result }
+            map lsp_view found.items ≡ lsp_diagnostics self (F.database files.now) diagnostic.now) }
+        ensures failed { FailsBy
+            (lsp_diagnostics_failure self (F.database files.now) diagnostic.now) result }
     {
         let mut found = Vec::new(*diagnostic.message.allocator());
         for label in &diagnostic.labels {
@@ -76,7 +76,7 @@ impl PositionEncoding {
         label: &Label<F::FileId>,
     ) -> Result<LspDiagnostic<F::FileId>, Error>
         ensures value { IfOk result (λ found. lsp_view found
-            ≡ lsp_view_for self (F.database files.now) diagnostic.now label.now) }
+            ≡ lsp_diagnostic_for self (F.database files.now) diagnostic.now label.now) }
         ensures failed { FailsBy (lsp_failure self (F.database files.now) diagnostic.now label.now)
             result }
     {
@@ -101,7 +101,7 @@ impl PositionEncoding {
         labels: &Vec<Label<F::FileId>>,
     ) -> Result<Vec<RelatedInformation<F::FileId>>, Error>
         ensures value { IfOk result (λ related. map related_view related.items
-            ≡ related_views self (F.database files.now) labels.now.items) }
+            ≡ related_information_of self (F.database files.now) labels.now.items) }
         ensures failed { FailsBy (related_failure self (F.database files.now) labels.now.items)
             result }
     {
@@ -152,8 +152,8 @@ pub fn to_lsp_diagnostics<'files, F: Files<'files>>(
     diagnostic: &Diagnostic<F::FileId>,
 ) -> Result<Vec<LspDiagnostic<F::FileId>>, Error>
     ensures value { IfOk result (λ found.
-        map lsp_view found.items ≡ lsp_views Utf16 (F.database files.now) diagnostic.now) }
-    ensures failed { FailsBy (lsp_views_failure Utf16 (F.database files.now) diagnostic.now)
+        map lsp_view found.items ≡ lsp_diagnostics Utf16 (F.database files.now) diagnostic.now) }
+    ensures failed { FailsBy (lsp_diagnostics_failure Utf16 (F.database files.now) diagnostic.now)
         result }
 {
     PositionEncoding::Utf16.to_lsp_diagnostics(files, diagnostic)

@@ -15,7 +15,7 @@ use Rattle.codespan_base.specs.Writers.{fresh_sink}
 use Rattle.codespan_picture.specs.RichLaws.{MeansLabels}
 use Rattle.codespan_picture.specs.StatedNames.{NamesAreStated}
 use Rattle.codespan_picture.proofs.StatedNames.{output_stated}
-use Rattle.codespan_picture.specs.ViewPictures.{picture_of_view}
+use Rattle.codespan_picture.specs.ViewPictures.{picture_of_diagnostic_view}
 use Rattle.codespan_picture.proofs.ViewPictures.{picture-of_view}
 use Rattle.codespan_views.specs.WriteCalls.{WritesStyled}
 use Rattle.codespan_sources.specs.declared.error.OutOfMemory.{OutOfMemory}
@@ -70,15 +70,15 @@ fresh_known spelling old first fresh = ap (λ (s : Sink). is_known s) fresh
 -- the output of a configuration, of files and of a diagnostic is that of what they stand for
 pub output_is : (expected config : Config) (ss ts : List NativeFileView) (d : Diagnostic ℕ)
     (v : DiagnosticView ℕ) → IsEqualConfig expected config → ss ≡ ts → diagnostic_view d ≡ v
-    → stream_of_output config ss d ≡ picture_of_view expected (native_database ts).same
+    → stream_of_output config ss d ≡ picture_of_diagnostic_view expected (native_database ts).same
     (native_database ts).file v
 output_is expected config ss ts d v alike same viewed =
     picture-of_view expected config (native_database ss) d alike
     ∙ ap
-    (λ ss. picture_of_view expected (native_database ss).same (native_database ss).file
+    (λ ss. picture_of_diagnostic_view expected (native_database ss).same (native_database ss).file
     (diagnostic_view d))
     same
-    ∙ ap (λ v. picture_of_view expected (native_database ts).same (native_database ts).file v)
+    ∙ ap (λ v. picture_of_diagnostic_view expected (native_database ts).same (native_database ts).file v)
     viewed
 
 -- the bytes that are rendered are those that the structs describe

@@ -7,7 +7,7 @@ use Rattle.codespan_base.specs.declared.diagnostic.Diagnostic.{Diagnostic}
 use Rattle.codespan_base.specs.declared.term.config.Config.{Config}
 use Rattle.codespan_picture.specs.RichLaws.{MeansLabels}
 use Rattle.codespan_picture.specs.Lookups.{AllSucceed, lookups_in}
-use Rattle.codespan_picture.specs.ViewPictures.{picture_of_view}
+use Rattle.codespan_picture.specs.ViewPictures.{picture_of_diagnostic_view}
 use Rattle.codespan_structs.specs.declared.raw.RawConfig.{RawConfig}
 use Rattle.codespan_structs.specs.declared.raw.RawDiagnostic.{RawDiagnostic}
 use Rattle.codespan_structs.specs.declared.raw.RawFile.{RawFile}
@@ -18,7 +18,7 @@ unfoldable pub output_bytes : List RawFile → RawDiagnostic → RawConfig → L
 output_bytes files diagnostic config =
     let database = converted_files files in
     spelled (spelling_of config)
-    (picture_of_view (converted_config config) database.same database.file
+    (picture_of_diagnostic_view (converted_config config) database.same database.file
     (converted_diagnostic files diagnostic))
 
 -- the output of the structs means their labels, as `MeansLabels` says

@@ -4,7 +4,7 @@ ghost use Rattle.std.specs.Prelude.{◌≡◌, [], true, IfOk, OnOk};
 ghost use Rattle.codespan_base.specs.Streams.{plain_spelling};
 ghost use Rattle.codespan_base.specs.WriterLaw.{is_known, with_written};
 ghost use Rattle.codespan_structs.specs.StyleMarkBytes.{style_mark_spelling};
-ghost use Rattle.codespan_base.specs.StyleTables.{ansi_spelling};
+ghost use Rattle.codespan_base.specs.StyleSpellings.{ansi_spelling};
 ghost use Rattle.codespan_sources.specs.SourceModel.{native_file_views};
 ghost use Rattle.codespan_structs.specs.Spellings.{spelling_by_kind};
 ghost use Rattle.codespan_native.specs.RenderedStreams.{IsSpelledOutput, MeansIfRich, stream_of_output};

@@ -8,9 +8,9 @@ use Rattle.std.proofs.lemmas.Bool.Decides.{nat_tests}
 use Rattle.std.proofs.lemmas.Grind.{common_steps}
 use Rattle.std.proofs.lemmas.List.{append_assoc}
 use Rattle.codespan_core.specs.Streams.{Stream, spaces, byte_stream}
-use Rattle.codespan_picture.specs.declared.rows.lanes.RowKind.{RowKind as RustRowKind}
+use Rattle.codespan_picture.specs.declared.rows.lanes.LaneRowKind.{LaneRowKind as RustLaneRowKind}
 use Rattle.codespan_picture.specs.Arguments.{LaneMarkTuple, lane_mark_view, lanes_of, lanes_in_order, ascend_from}
-use Rattle.codespan_picture.specs.Private.LineViews.{row_lane_stream, row_lanes_stream, row_kind_view}
+use Rattle.codespan_picture.specs.Private.LineViews.{row_lane_stream, row_lanes_stream, lane_row_kind_view}
 use Rattle.codespan_picture.specs.Private.RemainingLaneMarks.{lane_mark_here, lane_marks_after}
 use Rattle.codespan_picture.specs.Lanes.{crossing_characters, lane_characters, lane_mark_in, row_shape, row_crossing}
 use Rattle.codespan_picture.specs.Rows.{RowContext, Lanes}
@@ -153,13 +153,13 @@ order count lane (m ∷ ms) h = order-cons count lane m ms _ refl h
 -- ---- the cursor
 
 -- a number of lanes from this one on, each with the lane mark that the cursor finds
-abbrev pub cursor : RowContext → ℕ → RustRowKind → ℕ → ℕ → List LaneMarkTuple → Stream
+abbrev pub cursor : RowContext → ℕ → RustLaneRowKind → ℕ → ℕ → List LaneMarkTuple → Stream
 cursor context leading row lane zero lane_marks = []
 cursor context leading row lane (suc n) lane_marks =
     row_lane_stream context leading row lane (lane_mark_here lane_marks lane)
     ++ cursor context leading row (lane + 1) n (lane_marks_after lane_marks lane)
 
-pub cursor-next : (context : RowContext) (leading : ℕ) (row : RustRowKind) (i n : ℕ)
+pub cursor-next : (context : RowContext) (leading : ℕ) (row : RustLaneRowKind) (i n : ℕ)
     (lane_marks : List LaneMarkTuple)
     → i < n
     → cursor context leading row i (n - i) lane_marks ≡ row_lane_stream context leading row i
@@ -169,14 +169,14 @@ cursor-next context leading row i n lane_marks h =
     let e : n - i ≡ suc (n - (i + 1)) = omega arith in
     rw e refl
 
-pub cursor-end : (context : RowContext) (leading : ℕ) (row : RustRowKind) (i n : ℕ)
+pub cursor-end : (context : RowContext) (leading : ℕ) (row : RustLaneRowKind) (i n : ℕ)
     (lane_marks : List LaneMarkTuple)
     → n ≤ i → cursor context leading row i (n - i) lane_marks ≡ []
 cursor-end context leading row i n lane_marks h = let e : n - i ≡ 0 = omega arith in rw e refl
 
 -- a lane without a lane mark, and without a line through it, is spaces
-empty-lane : (context : RowContext) (leading : ℕ) (row : RustRowKind) (lane : ℕ)
-    → row_crossing (row_kind_view row) lane ≡ None
+empty-lane : (context : RowContext) (leading : ℕ) (row : RustLaneRowKind) (lane : ℕ)
+    → row_crossing (lane_row_kind_view row) lane ≡ None
     → row_lane_stream context leading row lane None ≡ spaces 2
 unfolding row_lane_stream inner_gutter_column lane_characters crossing_characters
 empty-lane context leading row lane clear = rw clear refl
@@ -197,9 +197,9 @@ unfolding spaces byte_stream
 none-first s = refl
 
 -- the cursor goes past empty lanes
-pub cursor-past : (context : RowContext) (leading : ℕ) (row : RustRowKind)
+pub cursor-past : (context : RowContext) (leading : ℕ) (row : RustLaneRowKind)
     (lane_marks : List LaneMarkTuple) (n lane rest : ℕ)
-    → ((k : ℕ) → lane ≤ k → k < lane + n → row_crossing (row_kind_view row) k ≡ None)
+    → ((k : ℕ) → lane ≤ k → k < lane + n → row_crossing (lane_row_kind_view row) k ≡ None)
     → ((k : ℕ) → lane ≤ k → k < lane + n → lane_mark_here lane_marks k ≡ None)
     → cursor context leading row lane (n + rest) lane_marks ≡ spaces (n + n) ++ cursor context
     leading row (lane + n) rest lane_marks
@@ -227,10 +227,10 @@ cursor-past context leading row lane_marks (suc n) lane rest clear bare =
     ++ cursor context leading row (b i) rest lane_marks)
 
 -- the empty lanes up to that of the next lane mark are written at once
-pub cursor-empty_lanes : (context : RowContext) (leading : ℕ) (row : RustRowKind)
+pub cursor-empty_lanes : (context : RowContext) (leading : ℕ) (row : RustLaneRowKind)
     (lane_marks : List LaneMarkTuple) (count lane until num_empty : ℕ)
     → lane < count → until ≤ count → lane + num_empty ≤ max lane until
-    → ((k : ℕ) → lane ≤ k → k < lane + num_empty → row_crossing (row_kind_view row) k ≡ None)
+    → ((k : ℕ) → lane ≤ k → k < lane + num_empty → row_crossing (lane_row_kind_view row) k ≡ None)
     → ((k : ℕ) → k < until → lane_mark_here lane_marks k ≡ None)
     → cursor context leading row lane (count - lane) lane_marks ≡ spaces (num_empty + num_empty) ++ cursor
     context leading row (lane + num_empty) (count - (lane + num_empty)) lane_marks
@@ -240,15 +240,15 @@ cursor-empty_lanes context leading row lane_marks count lane until num_empty ins
     ∙ cursor-past context leading row lane_marks num_empty lane (count - (lane + num_empty)) clear
     (λ k low below. bare k (omega arith))
 
-cursor_is : (context : RowContext) (leading : ℕ) (row : RustRowKind) (count : ℕ) (whole : Lanes)
+cursor_is : (context : RowContext) (leading : ℕ) (row : RustLaneRowKind) (count : ℕ) (whole : Lanes)
     (lane n : ℕ) (lane_marks : List LaneMarkTuple)
     → ((k : ℕ) → lane ≤ k
     → lane_mark_in whole.lane_marks k ≡ lane_mark_in (map lane_mark_view lane_marks) k)
     → IsTrue (ascend_from count lane (map lane_mark_view lane_marks))
     → cursor context leading row lane n lane_marks
     ≡ flat_map
-    (λ k. inner_gutter_column context (row_crossing (row_kind_view row) k)
-    (row_shape context.layout leading (row_kind_view row) k) (lane_mark_in whole.lane_marks k))
+    (λ k. inner_gutter_column context (row_crossing (lane_row_kind_view row) k)
+    (row_shape context.layout leading (lane_row_kind_view row) k) (lane_mark_in whole.lane_marks k))
     (range_with_len lane n)
 unfolding row_lane_stream
 cursor_is context leading row count whole lane zero lane_marks a h = refl
@@ -258,8 +258,8 @@ cursor_is context leading row count whole lane (suc n) lane_marks a h =
     sym (a lane (omega arith) ∙ here count lane lane_marks h) in
     rw e
     (ap
-    (λ (l : Stream). inner_gutter_column context (row_crossing (row_kind_view row) lane)
-    (row_shape context.layout leading (row_kind_view row) lane)
+    (λ (l : Stream). inner_gutter_column context (row_crossing (lane_row_kind_view row) lane)
+    (row_shape context.layout leading (lane_row_kind_view row) lane)
     (lane_mark_in whole.lane_marks lane)
     ++ l)
     (cursor_is context leading row count whole (lane + 1) n (lane_marks_after lane_marks lane)
@@ -267,7 +267,7 @@ cursor_is context leading row count whole lane (suc n) lane_marks a h =
     (order count lane lane_marks h)))
 
 -- over all lanes it is the lanes of the row
-pub cursor-lanes : (context : RowContext) (leading : ℕ) (kind : RustRowKind) (count : ℕ)
+pub cursor-lanes : (context : RowContext) (leading : ℕ) (kind : RustLaneRowKind) (count : ℕ)
     (lane_marks : List LaneMarkTuple)
     → IsTrue (lanes_in_order count lane_marks)
     → cursor context leading kind 0 (count - 0) lane_marks ≡ row_lanes_stream context leading kind

@@ -9,7 +9,7 @@ use Rattle.codespan_core.specs.Streams.{Stream, byte_stream, spaces, repeated, g
 use Rattle.codespan_core.proofs.Writes.{byte_stream-append}
 use Rattle.std.proofs.lemmas.Grind.{flat_map-append}
 use Rattle.codespan_core.proofs.Repeats.{repeat-add}
-use Rattle.codespan_picture.specs.declared.rows.lanes.RowKind.TheVariants.{Source, EmptyOrBreak, SingleLabels}
+use Rattle.codespan_picture.specs.declared.rows.lanes.LaneRowKind.TheVariants.{Source, EmptyOrBreak, SingleLabels}
 use Rattle.codespan_picture.specs.Arguments.{SingleLabelTuple, single_label_views}
 use Rattle.codespan_picture.specs.Private.LineViews.{row_lanes_stream}
 use Rattle.codespan_picture.specs.Rows.{RowContext, Lanes, Line, Row, SourceRow, caret_rows, hanging_labels, pointer_and_hanging_rows, underline_rows, rows_of}

@@ -13,7 +13,7 @@ use Rattle.codespan_picture.specs.declared.char_metrics.Metrics.{Metrics}
 use Rattle.codespan_picture.specs.Carets.{style_under, max_label_end}
 use Rattle.codespan_picture.specs.declared.lane_shapes.Shape.{Shape}
 use Rattle.codespan_picture.specs.declared.lane_shapes.Shape.TheVariants.{Space, Bar, TopCorner, BottomCorner}
-use Rattle.codespan_picture.specs.Lanes.{lane_mark_in, label_glyph, crossing_characters, lane_characters, RowKind}
+use Rattle.codespan_picture.specs.Lanes.{lane_mark_in, label_glyph, crossing_characters, lane_characters, LaneRowKind}
 use Rattle.codespan_picture.specs.Rows.{Locus, RowContext, Lanes, Line, Row, HeaderRow, SnippetStartRow, EmptyRow, BreakRow, SourceRow, CaretRow, PointerRow, HangingRow, UnderlineRow, FirstNoteRow, LaterNoteRow, FinalRow, trailing_label, hanging_labels}
 use Rattle.codespan_picture.specs.RowParts.{snippet_locus, outer_gutter, outer_gutter_number, border_left, border_left_break, style_change, styled, label_message, inner_gutter_column, lanes_in, inner_gutter, line_metrics, source_style, source_glyph, colored_text, caret_glyphs, carets, trailing_message, spaces_up_to, pointer_at, pointers, pointer_style, starts_in, max_label_start, underline_message, underline}
 use Rattle.codespan_picture.specs.RowStreams.{bracketed, header_locus, header_row, snippet_start_row, empty_row, break_row, source_row, row_start, caret_row, pointer_row, hanging_row, underline_row, first_note_row, later_note_row, stream_of, stream_of_rows}
@@ -99,7 +99,7 @@ slots-lanes_in k context crossing shape lanes =
     slots-flat_map k (λ lane. inner_gutter_column context (crossing lane) (shape lane) (lane_mark_in lanes.lane_marks lane)) (range_with_len 0 lanes.count)
     (λ lane. slots-inner_gutter_column k context (crossing lane) (shape lane) (lane_mark_in lanes.lane_marks lane))
 
-pub slots-inner_gutter : (k : ℕ) (context : RowContext) (leading : ℕ) (row : RowKind)
+pub slots-inner_gutter : (k : ℕ) (context : RowContext) (leading : ℕ) (row : LaneRowKind)
     (lanes : Lanes)
     → slots k (inner_gutter context leading row lanes) ≡ 0
 unfolding inner_gutter

@@ -14,7 +14,7 @@ use Rattle.codespan_core.specs.WriterLaw.{Sink}
 use Rattle.codespan_core.proofs.Loops.{StillToWrite}
 use Rattle.codespan_picture.specs.declared.char_metrics.Metrics.{Metrics}
 use Rattle.codespan_picture.specs.declared.arguments.MultiLabel as rust_multi_label
-use Rattle.codespan_picture.specs.declared.rows.lanes.RowKind.TheVariants.{Underline}
+use Rattle.codespan_picture.specs.declared.rows.lanes.LaneRowKind.TheVariants.{Underline}
 use Rattle.codespan_picture.specs.CharMetrics.{leading_whitespace}
 use Rattle.codespan_picture.specs.Arguments.{LaneMarkTuple, lane_mark_view, multi_label_view}
 use Rattle.codespan_picture.specs.Private.LineViews.{row_lanes_stream}

@@ -12,7 +12,7 @@ use Rattle.codespan_core.specs.Streams.{Stream}
 use Rattle.codespan_picture.specs.OutputStreams.{header_text_of, label_of, labels_of, locus_bytes, notes_of, rendered}
 use Rattle.codespan_picture.specs.Picture.{picture, stated_locus}
 use Rattle.codespan_picture.specs.Snippets.{LabelInFile, labeled_file_models}
-use Rattle.codespan_picture.specs.ViewPictures.{label_of_view, picture_of_view}
+use Rattle.codespan_picture.specs.ViewPictures.{label_of_view, picture_of_diagnostic_view}
 use Rattle.codespan_picture.proofs.EqualConfigs.{rendered_equal}
 
 -- the labels of a diagnostic are those of its view
@@ -33,7 +33,7 @@ module _ {Id : Type 0} (expected config : Config) (files : FileDatabase Id) (d :
     -- the picture by a configuration equal to the one that is expected
     pub picture-of_view : IsEqualConfig expected config
         → picture config.display_style config config files d
-        ≡ picture_of_view expected files.same files.file (diagnostic_view d)
+        ≡ picture_of_diagnostic_view expected files.same files.file (diagnostic_view d)
     picture-of_view equal =
         ap (λ (style : DisplayStyle). rendered_with style config (labels_of d))
         (ap (λ (c : Config). c.display_style) equal.others)

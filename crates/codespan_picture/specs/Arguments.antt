@@ -63,7 +63,7 @@ lanes_in_order count ms = ascend_from count 0 (map lane_mark_view ms)
 
 -- a locus, from the argument
 abbrev pub locus_view : rust_locus.Locus → Locus
-locus_view at = record { name = string_bytes at.name; location = at.location }
+locus_view locus = record { name = string_bytes locus.name; location = locus.location }
 
 -- the bytes of a borrowed text
 abbrev pub text_now : Bor (List ℕ) → List ℕ

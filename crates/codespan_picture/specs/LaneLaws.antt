@@ -9,7 +9,7 @@ use Rattle.codespan_core.specs.Labels.{LabelModel, first_line, last_line, multi_
 use Rattle.codespan_core.specs.Streams.{Stream}
 use Rattle.codespan_picture.specs.declared.lane_shapes.Shape.{Shape}
 use Rattle.codespan_picture.specs.declared.lane_shapes.Shape.TheVariants.{Space, Bar, TopCorner, BottomCorner}
-use Rattle.codespan_picture.specs.Lanes.{RowKind, Source, EmptyOrBreak, SingleLabels, Underline, row_shape, row_crossing, lane_mark_in, shape_of, style_of_lane_mark, is_unbroken, lane_characters}
+use Rattle.codespan_picture.specs.Lanes.{LaneRowKind, Source, EmptyOrBreak, SingleLabels, Underline, row_shape, row_crossing, lane_mark_in, shape_of, style_of_lane_mark, is_unbroken, lane_characters}
 use Rattle.codespan_picture.specs.Rows.{Locus, RowContext, Lanes, Line, Row, EmptyRow, BreakRow, SourceRow, CaretRow, PointerRow, HangingRow, UnderlineRow}
 use Rattle.codespan_picture.specs.RowParts.{outer_gutter, outer_gutter_number, border_left, border_left_break, leading_of}
 use Rattle.codespan_picture.specs.RowStreams.{stream_of}
@@ -31,18 +31,19 @@ lanes_of_row (BreakRow lanes) = Some lanes
 lanes_of_row row = option_map (λ (line : Line). line.lanes) (line_of_row row)
 
 -- the kind of a row, as far as its lanes go
-abbrev pub kind_of : Row → RowKind
-kind_of (SourceRow line) = Source
-kind_of (CaretRow line) = SingleLabels
-kind_of (PointerRow line) = SingleLabels
-kind_of (HangingRow line x) = SingleLabels
-kind_of (UnderlineRow line m) = Underline m
-kind_of _ = EmptyOrBreak
+abbrev pub lane_row_kind_of : Row → LaneRowKind
+lane_row_kind_of (SourceRow line) = Source
+lane_row_kind_of (CaretRow line) = SingleLabels
+lane_row_kind_of (PointerRow line) = SingleLabels
+lane_row_kind_of (HangingRow line x) = SingleLabels
+lane_row_kind_of (UnderlineRow line m) = Underline m
+lane_row_kind_of _ = EmptyOrBreak
 
 -- what a row shows in a lane
 abbrev pub shape_in : Layout → Row → ℕ → Shape
 shape_in layout row lane =
-    shape_of (row_shape layout (option_map_or leading_of (line_of_row row) 0) (kind_of row) lane)
+    shape_of
+    (row_shape layout (option_map_or leading_of (line_of_row row) 0) (lane_row_kind_of row) lane)
     (lane_mark_in (option_map_or (λ (lanes : Lanes). lanes.lane_marks) (lanes_of_row row) []) lane)
 
 -- the lane is that of this label of the file
@@ -102,13 +103,12 @@ LanesJoinCorners config layout s =
 -- the two characters of what a row shows in each lane, from left to right
 abbrev pub lanes_shown : RowContext → Row → Lanes → Stream
 lanes_shown context row lanes =
-    flat_map
-    (λ lane. lane_characters context.severity context.chars (row_crossing (kind_of row) lane)
+    flat_map (λ lane. lane_characters context.severity context.chars
+    (row_crossing (lane_row_kind_of row) lane)
     (style_of_lane_mark (lane_mark_in lanes.lane_marks lane)) (shape_in context.layout row lane))
     (range_with_len 0 lanes.count)
 
--- what is left of the lanes: the outer gutter, in a source row with the line's number, and the left
--- border
+-- left of the lanes: the outer gutter, in a source row with the line's number, and the border
 abbrev pub before_lanes : RowContext → Row → Stream
 before_lanes context (SourceRow line) =
     outer_gutter_number context.padding line.number ++ border_left context.chars

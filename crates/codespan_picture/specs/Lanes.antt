@@ -43,21 +43,21 @@ underline_shape layout leading corner_lane lane (Bottom end message) =
 
 -- a kind of row, as far as its lanes go: a source row; an empty or a break row; a caret, pointer or
 -- hanging row; the underline row of a lane mark
-pub data RowKind : Type 0 where
-  Source : RowKind
-  EmptyOrBreak : RowKind
-  SingleLabels : RowKind
-  Underline : LaneMark → RowKind
+pub data LaneRowKind : Type 0 where
+  Source : LaneRowKind
+  EmptyOrBreak : LaneRowKind
+  SingleLabels : LaneRowKind
+  Underline : LaneMark → LaneRowKind
 
 -- the table of lanes: what a multi-line label mark shows in a kind of row
-abbrev pub row_shape : Layout → ℕ → RowKind → ℕ → MultiLabel → Shape
+abbrev pub row_shape : Layout → ℕ → LaneRowKind → ℕ → MultiLabel → Shape
 row_shape layout leading Source lane = source_shape leading
 row_shape layout leading EmptyOrBreak lane = empty_or_break_shape
 row_shape layout leading SingleLabels lane = single_labels_shape layout leading
 row_shape layout leading (Underline m) lane = underline_shape layout leading m.lane lane
 
 -- the crossing of a lane: the lane mark of an underline row whose corner is left of the lane
-abbrev pub row_crossing : RowKind → ℕ → Option LaneMark
+abbrev pub row_crossing : LaneRowKind → ℕ → Option LaneMark
 row_crossing (Underline m) lane = if nat_lt m.lane lane then Some m else None
 row_crossing _ lane = None
 

@@ -14,7 +14,7 @@ use Rattle.codespan_picture.specs.OutputStreams.{labels_of}
 abbrev pub Failures : Type 0 → Type 0
 Failures Id = Id → Lookup → Option Error
 
--- those of a line: its range and its number
+-- the lookups of a line: its range and its number
 abbrev pub line_lookups : ℕ → List Lookup
 line_lookups l = LineRange l ∷ LineNumber l ∷ []
 

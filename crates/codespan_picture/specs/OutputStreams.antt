@@ -46,24 +46,24 @@ notes_of d = map string_bytes d.notes.items
 
 -- ---- loci
 
--- the locus of a byte of a file: the location that the file has there, and a name: the one that the
--- file states, or any where it states none
+-- the locus at a file and a byte index in it: the location that the file has there, and a name: the
+-- one that the file states, or any where it states none
 pub record IsLocus (at : FileModel × ℕ) (locus : Locus) : Type 0 where
   pub location : locus.location ≡ at.0.location at.1
   pub name : IfSome at.0.name (λ name. locus.name ≡ name)
 
--- the byte of a file whose locus its snippet shows
+-- the file, and the byte index in it whose locus its snippet shows
 abbrev pub snippet_locus_byte : LabeledFileModel → FileModel × ℕ
 snippet_locus_byte s = (s.file, locus_byte_of s.labels)
 
--- the byte of a file at which a label starts
+-- the file of a label, and the byte index in it at which the label starts
 abbrev pub label_locus_byte : {Id : Type 0} → (Id → FileModel) → LabelInFile Id → FileModel × ℕ
 label_locus_byte file x = (file x.file_id, x.label.start)
 
 module _ {Id : Type 0} (same : Id → Id → Bool) (file : Id → FileModel)
     (xs : List (LabelInFile Id)) where
-  -- the bytes of files whose loci the output shows: in rich style that of each file's snippet, in
-  -- medium and short style the start of each primary label
+  -- the files, with byte indices in them, whose loci the output shows: in rich style that of each
+  -- file's snippet, in medium and short style the start of each primary label
   abbrev pub locus_bytes : DisplayStyle → List (FileModel × ℕ)
   locus_bytes Rich = map snippet_locus_byte (labeled_file_models same file xs)
   locus_bytes _ = map (label_locus_byte file) (primary_of xs)
@@ -74,7 +74,7 @@ NamesAreUtf8 loci = AllByRecursion (λ (locus : Locus). IsUtf8 locus.name) loci
 
 module _ {Id : Type 0} (files : FileDatabase Id) (d : Diagnostic Id)
     (display_style : DisplayStyle) where
-  -- these are the loci of an output, one for each byte of `locus_bytes`
+  -- these are the loci of an output, one for each pair of `locus_bytes`
   abbrev pub AreLoci : List Locus → Type 0
   AreLoci loci = AllZip IsLocus (locus_bytes files.same files.file (labels_of d) display_style) loci
 
@@ -90,8 +90,8 @@ context_of config severity padding = record {
   padding = padding;
 }
 
--- what is rendered with these loci: the view's configuration chooses lines and padding, the
--- renderer's the characters, the tab width and the layout
+-- what is rendered with these loci: the view's configuration chooses lines and, by its layout, the
+-- padding; the renderer's the characters, the tab width and, by its layout, the shapes of lanes
 abbrev pub rendered : DisplayStyle → Config → Config → Severity → HeaderText
     → List Locus → List LabeledFileModel → List (List ℕ) → Stream
 rendered Rich renderer_config view_config severity header_text loci ss notes =

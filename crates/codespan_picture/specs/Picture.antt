@@ -7,8 +7,8 @@ use Rattle.codespan_picture.specs.Rows.{HeaderText, HeaderRow, Locus, Row}
 use Rattle.codespan_picture.specs.RowStreams.{stream_of_rows}
 use Rattle.codespan_picture.specs.OutputStreams.{header_text_of, labels_of, context_of, output, locus_bytes}
 
--- the locus of a byte of a file with the name that the file states, and with an empty name where it
--- states none
+-- the locus at a file and a byte index in it, with the name that the file states, and with an empty
+-- name where it states none
 abbrev pub stated_locus : FileModel × ℕ → Locus
 stated_locus at = record { name = name_text at.0; location = at.0.location at.1 }
 

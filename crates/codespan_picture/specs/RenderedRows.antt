@@ -16,7 +16,7 @@ use Rattle.codespan_picture.specs.RowStreams.{break_row, empty_row, header_row, 
 abbrev pub rendered_header : Option (Bor rust_locus.Locus) → Severity → Option (Bor (List ℕ))
     → List ℕ → Stream
 rendered_header locus severity code message =
-    header_row severity (option_map (λ (at : Bor rust_locus.Locus). locus_view at.now) locus)
+    header_row severity (option_map (λ (x : Bor rust_locus.Locus). locus_view x.now) locus)
     (record { code = option_map text_now code; message = message }) ++ newline
 
 -- the start of a file's snippet

@@ -10,7 +10,7 @@ use Rattle.codespan_picture.specs.declared.char_metrics.Metrics.{Metrics}
 use Rattle.codespan_picture.specs.CharMetrics.{char_metrics, char_metrics_to_end, width_of, leading_whitespace}
 use Rattle.codespan_picture.specs.Carets.{covers, style_under, caret_for, max_label_end}
 use Rattle.codespan_picture.specs.declared.lane_shapes.Shape.{Shape}
-use Rattle.codespan_picture.specs.Lanes.{RowKind, row_shape, row_crossing, lane_mark_in, shape_of, style_of_lane_mark, lane_characters, label_glyph}
+use Rattle.codespan_picture.specs.Lanes.{LaneRowKind, row_shape, row_crossing, lane_mark_in, shape_of, style_of_lane_mark, lane_characters, label_glyph}
 use Rattle.codespan_picture.specs.Rows.{Locus, RowContext, Lanes, Line, hanging_labels}
 
 -- ---- parts of rows
@@ -23,12 +23,12 @@ severity_name Warning = codes "warning"
 severity_name Note = codes "note"
 severity_name Help = codes "help"
 
--- the locus: name, line number and column number
+-- the locus, in the start of a snippet or in a header: name, line number and column number
 unfoldable pub snippet_locus : Locus → Stream
-snippet_locus p =
-    byte_stream p.name ++ byte_stream (codes ":")
-    ++ byte_stream (decimal p.location.line_number) ++ byte_stream (codes ":")
-    ++ byte_stream (decimal p.location.column_number)
+snippet_locus locus =
+    byte_stream locus.name ++ byte_stream (codes ":")
+    ++ byte_stream (decimal locus.location.line_number) ++ byte_stream (codes ":")
+    ++ byte_stream (decimal locus.location.column_number)
 
 -- the outer gutter without a line number: the padding, and one space more
 unfoldable pub outer_gutter : ℕ → Stream
@@ -88,7 +88,7 @@ lanes_in context crossing shape lanes =
     (range_with_len 0 lanes.count)
 
 -- the lanes of a kind of row, of a line whose text begins with `leading` bytes of white space
-unfoldable pub inner_gutter : RowContext → ℕ → RowKind → Lanes → Stream
+unfoldable pub inner_gutter : RowContext → ℕ → LaneRowKind → Lanes → Stream
 inner_gutter context leading row lanes =
     lanes_in context (row_crossing row) (row_shape context.layout leading row) lanes
 

@@ -21,21 +21,21 @@ bracketed (Some (c ∷ cs)) =
 -- the locus before a header, where there is one
 unfoldable pub header_locus : Option Locus → Stream
 header_locus None = []
-header_locus (Some p) = snippet_locus p ++ byte_stream (codes ": ")
+header_locus (Some locus) = snippet_locus locus ++ byte_stream (codes ": ")
 
 -- the header: the locus, the severity, the code and the message
 unfoldable pub header_row : Severity → Option Locus → HeaderText → Stream
-header_row severity at header_text =
-    header_locus at ++ style_mark (Header severity) ++ byte_stream (severity_name severity)
+header_row severity locus header_text =
+    header_locus locus ++ style_mark (Header severity) ++ byte_stream (severity_name severity)
     ++ bracketed header_text.code
     ++ style_mark HeaderMessage ++ byte_stream (codes ": ") ++ byte_stream header_text.message
     ++ style_mark Reset
 
 -- the start of a file's snippet
 unfoldable pub snippet_start_row : Chars → ℕ → Locus → Stream
-snippet_start_row chars padding at =
+snippet_start_row chars padding locus =
     outer_gutter padding ++ style_mark SourceBorder ++ byte_stream (start_text chars.snippet_start)
-    ++ style_mark Reset ++ space ++ snippet_locus at
+    ++ style_mark Reset ++ space ++ snippet_locus locus
 
 -- an empty row of a snippet
 unfoldable pub empty_row : RowContext → Lanes → Stream
@@ -100,8 +100,8 @@ later_note_row padding note_line = outer_gutter padding ++ space ++ space ++ byt
 
 -- the stream of a row
 abbrev pub stream_of : RowContext → Row → Stream
-stream_of context (HeaderRow at header_text) = header_row context.severity at header_text
-stream_of context (SnippetStartRow at) = snippet_start_row context.chars context.padding at
+stream_of context (HeaderRow locus header_text) = header_row context.severity locus header_text
+stream_of context (SnippetStartRow locus) = snippet_start_row context.chars context.padding locus
 stream_of context (EmptyRow lanes) = empty_row context lanes
 stream_of context (BreakRow lanes) = break_row context lanes
 stream_of context (SourceRow line) = source_row context line

@@ -7,14 +7,14 @@ abbrev pub before_line : {A : Type 0} → (ℕ → ℕ → List A) → Option �
 before_line between None d = []
 before_line between (Some c) d = between c d
 
--- the elements of these items, each of which has a line, and between those of two consecutive items
--- what is between their lines; `previous` is the line before them all
+-- the elements of these items, `own` of each, and between those of two consecutive items what is
+-- between their lines, `item_line` of each; `previous` is the line before them all
 abbrev pub in_sequence : {X A : Type 0}
     → (X → ℕ) → (ℕ → ℕ → List A) → (X → List A) → Option ℕ → List X → List A
-in_sequence line_of between own previous [] = []
-in_sequence line_of between own previous (x ∷ xs) =
-    before_line between previous (line_of x) ++ own x
-    ++ in_sequence line_of between own (Some (line_of x)) xs
+in_sequence item_line between own previous [] = []
+in_sequence item_line between own previous (x ∷ xs) =
+    before_line between previous (item_line x) ++ own x
+    ++ in_sequence item_line between own (Some (item_line x)) xs
 
 -- between two drawn lines: a break, where two or more lines are left out, or nothing
 abbrev pub break_between : {A : Type 0} → (ℕ → List A) → ℕ → ℕ → List A

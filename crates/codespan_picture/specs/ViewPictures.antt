@@ -30,9 +30,9 @@ abbrev pub header_text_of_view : {Id : Type 0} → DiagnosticView Id → HeaderT
 header_text_of_view d = record { code = d.code; message = d.message }
 
 -- the picture by a configuration, over files: which ids are equal, and the file of an id
-abbrev pub picture_of_view : {Id : Type 0}
+abbrev pub picture_of_diagnostic_view : {Id : Type 0}
     → Config → (Id → Id → Bool) → (Id → FileModel) → DiagnosticView Id → Stream
-picture_of_view config same file d =
+picture_of_diagnostic_view config same file d =
     rendered config.display_style config config d.severity (header_text_of_view d)
     (map stated_locus (locus_bytes same file (labels_of_view d) config.display_style))
     (labeled_file_models same file (labels_of_view d)) d.notes

@@ -12,6 +12,6 @@ pub struct Metrics {
     pub bytes: usize,
     /// The column of its first cell, counted in cells from 0 at the line's start.
     pub column: u128,
-    /// Its width in cells. The placeholder has one.
+    /// Its width in cells: of a tab the cells up to its next stop. The placeholder has one.
     pub unicode_width: usize,
 }

@@ -11,7 +11,7 @@ pub use Rattle.codespan_base.specs.Errors
 pub use Rattle.codespan_base.specs.SnippetStarts
 pub use Rattle.codespan_base.specs.Characters
 pub use Rattle.codespan_base.specs.Defaults
-pub use Rattle.codespan_base.specs.StyleTables
+pub use Rattle.codespan_base.specs.StyleSpellings
 pub use Rattle.codespan_base.specs.Ansi
 -- the output
 pub use Rattle.codespan_picture.specs.CharMetrics

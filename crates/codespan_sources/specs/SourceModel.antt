@@ -1,6 +1,6 @@
 -- What contracts see of the Rust values of the files that a caller of C passes.
 use Rattle.std.specs.Prelude.{List, map}
-use Rattle.codespan_base.specs.DatabaseViews.{name_of, source_of as simple_source_of}
+use Rattle.codespan_base.specs.SimpleFileViews.{name_of, source_of as simple_source_of}
 use Rattle.codespan_sources.specs.declared.native_file.stated.StatedText.{StatedText}
 use Rattle.codespan_sources.specs.declared.native_file.newline.NewlineText.{NewlineText}
 use Rattle.codespan_sources.specs.declared.native_file.NativeFile.{NativeFile}

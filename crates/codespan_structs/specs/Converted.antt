@@ -5,7 +5,7 @@ use Rattle.codespan_base.specs.Characters.{ascii, box_drawing}
 use Rattle.codespan_base.specs.Diagnostics.{DiagnosticView, LabelView}
 use Rattle.codespan_base.specs.FileModel.{FileDatabase}
 use Rattle.codespan_base.specs.Streams.{Spelling, plain_spelling}
-use Rattle.codespan_base.specs.StyleTables.{ansi_spelling, default_styles}
+use Rattle.codespan_base.specs.StyleSpellings.{ansi_spelling, default_styles}
 use Rattle.codespan_base.specs.declared.diagnostic.LabelStyle.{LabelStyle}
 use Rattle.codespan_base.specs.declared.diagnostic.LabelStyle.TheVariants.{Primary, Secondary}
 use Rattle.codespan_base.specs.declared.diagnostic.Severity.{Severity}

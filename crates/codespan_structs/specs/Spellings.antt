@@ -3,7 +3,7 @@ use Rattle.codespan_base.specs.Streams.{Spelling, plain_spelling}
 use Rattle.codespan_structs.specs.declared.convert.config.SpellingKind.{SpellingKind}
 use Rattle.codespan_structs.specs.declared.convert.config.SpellingKind.TheVariants.{Plain, Ansi, StyleMarks}
 use Rattle.codespan_structs.specs.StyleMarkBytes.{style_mark_spelling}
-use Rattle.codespan_base.specs.StyleTables.{ansi_spelling}
+use Rattle.codespan_base.specs.StyleSpellings.{ansi_spelling}
 
 -- the bytes of each style mark
 abbrev pub spelling_by_kind : SpellingKind → Spelling

@@ -152,7 +152,7 @@ pub struct RawStyles {
     pub secondary_label: RawColorSpec,
     /// Line numbers.
     pub line_number: RawColorSpec,
-    /// The border left of the source, and the start of a snippet.
+    /// The border left of the source, and the text before a locus.
     pub source_border: RawColorSpec,
     /// The bullet of a note.
     pub note_bullet: RawColorSpec,

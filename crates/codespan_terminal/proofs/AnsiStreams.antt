@@ -6,7 +6,7 @@ use Rattle.codespan_base.specs.Streams.{Stream, StyleMark, Byte, Mark, Slot, Hea
 use Rattle.codespan_documents.specs.declared.style.Style.{Style}
 use Rattle.codespan_documents.specs.declared.style.Style.TheVariants as run_styles
 use Rattle.codespan_documents.specs.Runs.{runs_from, runs_of, style_after}
-use Rattle.codespan_base.specs.StyleTables.{ansi_spelling}
+use Rattle.codespan_base.specs.StyleSpellings.{ansi_spelling}
 use Rattle.codespan_terminal.specs.Terminal.{AreSafe, style_mark_of, runs_bytes, terminal_text}
 
 -- the style mark of the style that a style mark starts is that style mark

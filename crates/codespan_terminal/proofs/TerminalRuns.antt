@@ -14,13 +14,13 @@ use Rattle.codespan_base.specs.declared.term.config.color.Color.TheVariants.{Bla
 use Rattle.codespan_base.specs.declared.term.config.color.ColorSpec.{ColorSpec}
 use Rattle.codespan_base.specs.declared.term.config.styles.Styles.{Styles}
 use Rattle.codespan_base.specs.Ansi.{ansi_bold, ansi_color, ansi_reset, ansi_style, color_number, escape}
-use Rattle.codespan_base.specs.StyleTables.{header_color_spec, label_color_spec}
+use Rattle.codespan_base.specs.StyleSpellings.{header_color_spec, label_color_spec}
 use Rattle.codespan_base.specs.Streams.{StyleMark, Header, HeaderMessage, LineNumber, NoteBullet, SourceBorder, LabelStyleMark, Reset}
 use Rattle.codespan_documents.specs.declared.text.Run.{Run}
 use Rattle.codespan_documents.specs.Runs.{AreTexts, RunView, run_characters, run_view}
 use Rattle.codespan_documents.specs.declared.style.Style.{Style}
 use Rattle.codespan_documents.specs.declared.style.Style.TheVariants as run_styles
-use Rattle.codespan_base.specs.StyleTables.{ansi_spelling}
+use Rattle.codespan_base.specs.StyleSpellings.{ansi_spelling}
 use Rattle.codespan_terminal.specs.Terminal.{columns, is_safe, style_mark_of, first_sequences, state_after, run_bytes, runs_bytes, safe_characters, safe_text, visible, terminal_text, ShowsSafe, Text, Parameters}
 use Rattle.codespan_terminal.proofs.UnsafeCells.{columns_stay}
 use Rattle.codespan_terminal.proofs.TerminalStates.{is_parameter, parameters_after, parameters_show, ReadsText, ReadsText-nil, ReadsText-append, ReadsText-ascii, ReadsText-safe}

@@ -4,7 +4,7 @@ use Rattle.std.specs.Char.{is_ascii_digit, is_control}
 use Rattle.std.specs.List.{AllByRecursion, flat_map}
 use Rattle.std.specs.Str.{chars, encode_utf8_all}
 use Rattle.ucd_props.specs.Binary.{is_bidi_control}
-use Rattle.codespan_base.specs.StyleTables.{ansi_spelling}
+use Rattle.codespan_base.specs.StyleSpellings.{ansi_spelling}
 use Rattle.codespan_base.specs.Streams.{StyleMark, Header, HeaderMessage, LineNumber, NoteBullet, SourceBorder, LabelStyleMark, Reset}
 use Rattle.codespan_base.specs.declared.term.config.styles.Styles.{Styles}
 use Rattle.codespan_picture.specs.CharMetrics.{width_at}

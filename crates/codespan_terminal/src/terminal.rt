@@ -4,7 +4,7 @@ ghost use Rattle.std.specs.Prelude.{◌≡◌, ◌++◌, IfOk, OnOk, map, string
 ghost use Rattle.codespan_base.specs.Streams.{style_mark};
 ghost use Rattle.codespan_base.specs.WriterLaw.{Writes};
 ghost use Rattle.codespan_documents.specs.Runs.{run_view, styled_runs};
-ghost use Rattle.codespan_base.specs.StyleTables.{ansi_spelling};
+ghost use Rattle.codespan_base.specs.StyleSpellings.{ansi_spelling};
 ghost use Rattle.codespan_terminal.specs.Terminal.{ShowsSafe, is_safe, style_mark_of, runs_bytes, safe_text, terminal_text};
 
 pub mod laws;

@@ -24,7 +24,7 @@ pub fn render_diagnostic_header<FileId, W: WriteStyle>(
     locus: Option<&Locus>,
 ) -> Result<(), Error>
     ensures { Renders W.sink
-        (header_row_with_newline diagnostic.now (option_map (λ at. locus_view at.now) locus.entry))
+        (header_row_with_newline diagnostic.now (option_map (λ x. locus_view x.now) locus.entry))
         renderer.old result renderer.new }
 {
     renderer.render_header(

@@ -10,7 +10,7 @@ use Rattle.codespan_base.specs.FileModel.{FileModel, line_of}
 use Rattle.codespan_base.specs.SimpleModel.{simple_file, missing_file}
 use Rattle.codespan_base.specs.MappedModel.{mapped_file}
 use Rattle.codespan_base.specs.Streams.{Stream, Spelling, byte_stream}
-use Rattle.codespan_base.specs.StyleTables.{ansi_spelling, default_styles}
+use Rattle.codespan_base.specs.StyleSpellings.{ansi_spelling, default_styles}
 use Rattle.codespan_base.specs.Ansi.{ansi_reset, escape, ansi_bold, ansi_color, ansi_style}
 use Rattle.codespan_picture.specs.declared.arguments.MultiLabel.TheVariants as rust_variant
 use Rattle.codespan_picture.specs.Arguments.{LaneMarkTuple}

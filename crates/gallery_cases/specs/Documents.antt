@@ -3,7 +3,7 @@ use Rattle.std.specs.Prelude.{◌≡◌, ℕ, List, ◌++◌}
 use Rattle.codespan_base.specs.declared.term.config.Config.{Config}
 use Rattle.codespan_base.specs.declared.diagnostic.Diagnostic.{Diagnostic}
 use Rattle.codespan_base.specs.FileModel.{FileDatabase}
-use Rattle.codespan_base.specs.StyleTables.{default_styles}
+use Rattle.codespan_base.specs.StyleSpellings.{default_styles}
 use Rattle.codespan_picture.specs.Lookups.{AllSucceed, lookups_in}
 use Rattle.codespan_picture.specs.Picture.{picture}
 use Rattle.codespan_styled.specs.Glyphs.{glyphs_of}

@@ -1,7 +1,7 @@
 -- The response to what the arguments request, and why a request fails.
 use Rattle.std.specs.Prelude.{◌≡◌, ℕ, List, [], Option, Some, None, IsSomeAnd, string_bytes}
 use Rattle.std.specs.Str.Lines.{lines}
-use Rattle.codespan_base.specs.StyleTables.{default_styles}
+use Rattle.codespan_base.specs.StyleSpellings.{default_styles}
 use Rattle.codespan_styled.specs.StyleSheet.{style_sheet}
 use Rattle.gallery_script.specs.declared.case.Case.{Case}
 use Rattle.gallery_script.specs.declared.errors.GalleryError.{GalleryError}

@@ -1,7 +1,7 @@
 //! A rendered case as a document in colors: SVG, an HTML element or text for a terminal.
 
 ghost use Rattle.std.specs.Prelude.{◌≡◌, IfOk, string_bytes};
-ghost use Rattle.codespan_base.specs.StyleTables.{default_styles};
+ghost use Rattle.codespan_base.specs.StyleSpellings.{default_styles};
 ghost use Rattle.codespan_styled.specs.StyleSheet.{style_sheet};
 ghost use Rattle.gallery_cases.specs.Documents.{IsDocument};
 

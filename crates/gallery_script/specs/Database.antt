@@ -4,7 +4,7 @@ use Rattle.std.specs.Borrow.{Bor}
 use Rattle.codespan_base.specs.declared.diagnostic.Diagnostic.{Diagnostic}
 use Rattle.codespan_base.specs.Diagnostics.{DiagnosticView, LabelView, diagnostic_view}
 use Rattle.codespan_base.specs.MappedModel.{with_set_number}
-use Rattle.codespan_base.specs.DatabaseViews.{name_of, source_of}
+use Rattle.codespan_base.specs.SimpleFileViews.{name_of, source_of}
 use Rattle.codespan_base.specs.MappedFileViews.{mapped_name_of, mapped_source_of, set_numbers_of}
 use Rattle.codespan_base.specs.SimpleFilesViews.{entries}
 use Rattle.gallery_script.specs.declared.case.Case.{Case}

@@ -13,7 +13,7 @@ use Rattle.codespan_core.specs.Streams.{text_of}
 use Rattle.codespan_views.specs.Output.{Emits, IsRendered}
 use Rattle.codespan_picture.proofs.StatedNames.{output_stated}
 use Rattle.codespan_picture.specs.Lookups.{Failures}
-use Rattle.codespan_picture.specs.ViewPictures.{picture_of_view}
+use Rattle.codespan_picture.specs.ViewPictures.{picture_of_diagnostic_view}
 use Rattle.codespan_picture.proofs.ViewPictures.{picture-of_view}
 use Rattle.report.specs.RenderedTexts.{report_config, only_file, output_text}
 
@@ -51,9 +51,9 @@ module _ (d : Diagnostic (Unit {0})) where
       ∙ ap text_of (picture-of_view plain config (table_at name source failure) d equal)
       ∙ ap
       (λ m. text_of
-      (picture_of_view plain (λ i j. true) (only_file m source) (diagnostic_view d))) n
+      (picture_of_diagnostic_view plain (λ i j. true) (only_file m source) (diagnostic_view d))) n
       ∙ ap
-      (λ m. text_of (picture_of_view plain (λ i j. true) (only_file named m) (diagnostic_view d))) s
+      (λ m. text_of (picture_of_diagnostic_view plain (λ i j. true) (only_file named m) (diagnostic_view d))) s
 
   -- the same of a call that returns a text, by a configuration equal to the default one in a style
   pub rendered_result : {T : Type 0} (style : DisplayStyle) (text : T → List ℕ)

@@ -7,7 +7,7 @@ use Rattle.codespan_core.specs.Diagnostics.{DiagnosticView}
 use Rattle.codespan_core.specs.FileModel.{FileModel}
 use Rattle.codespan_core.specs.SimpleModel.{simple_file}
 use Rattle.codespan_core.specs.Streams.{text_of}
-use Rattle.codespan_picture.specs.ViewPictures.{picture_of_view}
+use Rattle.codespan_picture.specs.ViewPictures.{picture_of_diagnostic_view}
 use Rattle.report.specs.declared.report_error.ReportError.{ReportError}
 use Rattle.report.specs.declared.report_error.ReportError.TheVariants as report_errors
 use Rattle.report_script.specs.declared.script.Fault.{Fault}
@@ -30,7 +30,8 @@ only_file name source id = simple_file (Some name) source
 unfoldable pub output_text : DisplayStyle → List ℕ → List ℕ → DiagnosticView (Unit {0}) → List ℕ
 output_text style name source diagnostic =
     text_of
-    (picture_of_view (report_config style) (λ i j. true) (only_file name source) diagnostic)
+    (picture_of_diagnostic_view (report_config style) (λ i j. true) (only_file name source)
+    diagnostic)
 
 -- ---- what a run renders
 

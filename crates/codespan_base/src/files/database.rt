@@ -57,7 +57,7 @@ impl<Name: Drop, Source: AsStr + Drop> SimpleFiles<Name, Source> {
 
 impl<Name, Source: AsStr> SimpleFiles<Name, Source> {
     ghost use Rattle.codespan_base.specs.SimpleFilesViews.{entries};
-    ghost use Rattle.codespan_core.specs.DatabaseViews.{name_of, source_of};
+    ghost use Rattle.codespan_core.specs.SimpleFileViews.{name_of, source_of};
 
     /// Borrows the file of an id.
     ///
@@ -78,7 +78,7 @@ impl<Name, Source: AsStr> SimpleFiles<Name, Source> {
 /// No call allocates. Each call but `line_number` looks the file up.
 impl<'a, Name: Display + 'a, Source: AsStr + 'a> Files<'a> for SimpleFiles<Name, Source> {
     ghost use Rattle.codespan_base.specs.SimpleFilesViews.{entries, database_failure_of, database_file_of};
-    ghost use Rattle.codespan_core.specs.DatabaseViews.{name_of, source_of, file_text_of};
+    ghost use Rattle.codespan_core.specs.SimpleFileViews.{name_of, source_of, file_text_of};
     ghost use Rattle.codespan_core.specs.SimpleModel.{simple_failure};
     ghost use Rattle.codespan_core.specs.FileModel.{line_of};
     ghost use Rattle.codespan_core.specs.LawfulFiles.{IsLineRange, NeedsNoMemory, FailsBy, line_number_failure};

@@ -19,7 +19,7 @@ pub struct Listing<'text> {
 }
 
 impl<'text> Listing<'text> {
-    ghost use Rattle.codespan_base.specs.DatabaseViews.{name_of, source_of};
+    ghost use Rattle.codespan_base.specs.SimpleFileViews.{name_of, source_of};
 
     /// Returns a listing of this name and text; fails with `OutOfMemory` where an allocation fails.
     pub fn new(alloc: Global, name: &'text str, text: &'text str) -> Result<Self, Error>
@@ -35,7 +35,7 @@ impl<'text> Listing<'text> {
 
 impl<'a, 'text: 'a> Files<'a> for Listing<'text> {
     ghost use Rattle.std.specs.Prelude.{Some};
-    ghost use Rattle.codespan_base.specs.DatabaseViews.{name_of, source_of};
+    ghost use Rattle.codespan_base.specs.SimpleFileViews.{name_of, source_of};
     ghost use Rattle.codespan_base.specs.FileModel.{line_of};
     ghost use Rattle.codespan_base.specs.FileModel.Lookup.{Name as NameLookup, Source as SourceLookup, LineIndex, LineNumber, ColumnNumber, LocationAt, LineRange};
     ghost use Rattle.codespan_base.specs.Lines.{line_starts_of};

@@ -14,7 +14,7 @@ use Rattle.std.specs.Str.{IsUtf8, IsCharBoundary}
 use Rattle.std.specs.declared.convert.AsStr.{Ghosts}
 use Rattle.std.proofs.lemmas.Str.{IsUtf8-had}
 use Rattle.codespan_core.specs.declared.files.simple.SimpleFile.{SimpleFile}
-use Rattle.codespan_core.specs.DatabaseViews.{source_of}
+use Rattle.codespan_core.specs.SimpleFileViews.{source_of}
 use Rattle.std.proofs.lemmas.Str.{IsCharBoundary-after_ascii, IsCharBoundary-start, IsCharBoundary-end}
 use Rattle.std.proofs.lemmas.List.{get_or_append_left, get_or_push, length-append}
 use Rattle.codespan_core.specs.Lines.{line_starts_of, starts_after}

@@ -1,7 +1,7 @@
 //! A text's line starts and columns.
 ghost use Rattle.std.specs.Prelude.{◌≡◌, ◌≤◌, length};
 ghost use Rattle.codespan_core.specs.Lines.{line_starts_of, column_index_of};
-ghost use Rattle.codespan_core.specs.LineStarts.{starts_left};
+ghost use Rattle.codespan_core.specs.LineStarts.{remaining_starts};
 
 use crate::files::LineStarts;
 use std::ops::Range;
@@ -20,7 +20,7 @@ use std::ops::Range;
 /// assert_eq!(rt; starts.as_slice(), [0, 4, 9, 10].as_slice());
 /// ```
 pub fn line_starts(source: &str) -> LineStarts<'_>
-    ensures { starts_left result ≡ line_starts_of source.now }
+    ensures { remaining_starts result ≡ line_starts_of source.now }
 {
     LineStarts::new(source)
 }

@@ -42,7 +42,7 @@ pub struct SimpleFile<Name, Source: AsStr> {
 }
 
 impl<Name: Drop, Source: AsStr + Drop> SimpleFile<Name, Source> {
-    ghost use Rattle.codespan_core.specs.DatabaseViews.{name_of, source_of};
+    ghost use Rattle.codespan_core.specs.SimpleFileViews.{name_of, source_of};
 
     /// Returns a database of this name and source.
     ///
@@ -65,7 +65,7 @@ impl<Name: Drop, Source: AsStr + Drop> SimpleFile<Name, Source> {
 }
 
 impl<Name, Source: AsStr> SimpleFile<Name, Source> {
-    ghost use Rattle.codespan_core.specs.DatabaseViews.{name_of, source_of, file_text_of};
+    ghost use Rattle.codespan_core.specs.SimpleFileViews.{name_of, source_of, file_text_of};
     ghost use Rattle.codespan_core.specs.SimpleModel.{past_last_line_failure};
     ghost use Rattle.codespan_core.specs.LawfulFiles.{NeedsNoMemory, FailsBy};
 
@@ -117,7 +117,7 @@ impl<Name, Source: AsStr> SimpleFile<Name, Source> {
 
 /// No call allocates. Names are borrowed, since the clone of a name need not display the same text.
 impl<'a, Name: Display + 'a, Source: AsStr + 'a> Files<'a> for SimpleFile<Name, Source> {
-    ghost use Rattle.codespan_core.specs.DatabaseViews.{file_of, name_of, file_text_of};
+    ghost use Rattle.codespan_core.specs.SimpleFileViews.{file_of, name_of, file_text_of};
     ghost use Rattle.codespan_core.specs.SimpleModel.{simple_failure, simple_column_number, simple_location, past_last_line_failure};
     ghost use Rattle.codespan_core.specs.FileModel.{line_of};
     ghost use Rattle.codespan_core.specs.LawfulFiles.{IsLineRange, NeedsNoMemory, FailsBy, line_number_failure};

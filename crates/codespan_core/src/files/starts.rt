@@ -19,11 +19,11 @@ pub struct LineStarts<'a> {
 impl<'a> LineStarts<'a> {
     ghost use Rattle.std.specs.Prelude.{◌≡◌};
     ghost use Rattle.codespan_core.specs.Lines.{line_starts_of};
-    ghost use Rattle.codespan_core.specs.LineStarts.{starts_left};
+    ghost use Rattle.codespan_core.specs.LineStarts.{remaining_starts};
 
     /// Returns an iterator over all line starts of the text.
     pub(super) fn new(source: &'a str) -> Self
-        ensures { starts_left result ≡ line_starts_of source.now }
+        ensures { remaining_starts result ≡ line_starts_of source.now }
     {
         LineStarts {
             source,
@@ -35,14 +35,14 @@ impl<'a> LineStarts<'a> {
 
 impl<'a> Iterator for LineStarts<'a> {
     ghost use Rattle.std.specs.Iterator.{YieldsFirst, item_count};
-    ghost use Rattle.codespan_core.specs.LineStarts.{starts_left};
+    ghost use Rattle.codespan_core.specs.LineStarts.{remaining_starts};
 
     /// The byte index of a line start.
     type Item = usize;
 
-    ghost next_gives = { YieldsFirst starts_left };
+    ghost next_gives = { YieldsFirst remaining_starts };
 
-    ghost remaining = { item_count starts_left };
+    ghost remaining = { item_count remaining_starts };
 
     #[tactic(auto, using(crate::specs::Lemmas::Lines::starts_steps))]
     fn next(&mut self) -> Option<usize> {

@@ -3,7 +3,7 @@ use Rattle.std.specs.Prelude.{◌≡◌, ℕ, ◌+◌, ◌≤◌, List, [], ◌�
 use Rattle.codespan_picture.specs.declared.char_metrics.Metrics.{Metrics}
 use Rattle.codespan_picture.specs.CharMetrics.{char_metrics, char_metrics_to_end, width_of}
 use Rattle.codespan_picture.specs.Arguments.{SingleLabelTuple}
-use Rattle.codespan_picture.specs.declared.rows.line.RowContext as context
+use Rattle.codespan_picture.specs.declared.rows.line.RowContext as rust_context
 use Rattle.codespan_picture.specs.declared.rows.line.Line as rust_line
 
 -- what they are made from: the tab width, the text and the labels of the line
@@ -13,7 +13,7 @@ pub record CharInput : Type 0 where
   pub labels : List SingleLabelTuple
 
 -- what those of a drawn line are made from
-abbrev pub char_input : context.RowContext → rust_line.Line → CharInput
+abbrev pub char_input : rust_context.RowContext → rust_line.Line → CharInput
 char_input x line = record {
   tab_width = x.tab_width;
   text = line.text.now;
@@ -33,11 +33,11 @@ abbrev pub EndBy : ℕ → List Metrics → Type 0
 EndBy byte_index [] = Unit {0}
 EndBy byte_index (c ∷ cs) = (c.byte_index + c.bytes ≤ byte_index) × EndBy byte_index cs
 
--- `left` are the characters `all` but for some at the start, which end at this byte index or before
--- it and occupy so many cells that the others begin at this column
+-- `remaining` are the characters `all` but for some at the start, which end at this byte index or
+-- before it and occupy so many cells that the others begin at this column
 pub record LeavesOut (byte_index : ℕ) (all : List Metrics) (column : ℕ)
-    (left : List Metrics) : Type 0 where
+    (remaining : List Metrics) : Type 0 where
   pub before : List Metrics
-  pub whole : before ++ left ≡ all
+  pub whole : before ++ remaining ≡ all
   pub ended : EndBy byte_index before
   pub width : column ≡ width_of before

@@ -13,9 +13,9 @@ use Rattle.codespan_picture.specs.Rows.{caret_rows, hanging_labels, pointer_and_
 use Rattle.codespan_picture.specs.RowParts.{border_left, carets, metrics_before, outer_gutter, label_message, leading_of, outer_gutter_number, pointers, inner_gutter, severity_name}
 use Rattle.codespan_picture.specs.RowStreams.{bracketed, header_locus, pointer_row, stream_of_rows}
 use Rattle.codespan_picture.specs.declared.arguments.Locus as rust_locus
-use Rattle.codespan_picture.specs.declared.rows.line.RowContext as context
+use Rattle.codespan_picture.specs.declared.rows.line.RowContext as rust_context
 use Rattle.codespan_picture.specs.declared.rows.line.Line as rust_line
-use Rattle.codespan_picture.specs.declared.rows.messages.Messages as messages
+use Rattle.codespan_picture.specs.declared.rows.messages.Messages as rust_messages
 use Rattle.codespan_picture.specs.Private.LineViews.{context_view, lanes_view, line_view}
 use Rattle.codespan_picture.specs.Private.Runs.{hanging_stream}
 
@@ -25,21 +25,22 @@ use Rattle.codespan_picture.specs.Private.Runs.{hanging_stream}
 abbrev pub header_start_stream : Option (Bor rust_locus.Locus) → Severity → Option (Bor (List ℕ))
     → Stream
 header_start_stream locus severity code =
-    header_locus (option_map (λ (at : Bor rust_locus.Locus). locus_view at.now) locus)
+    header_locus (option_map (λ (x : Bor rust_locus.Locus). locus_view x.now) locus)
     ++ style_mark (Header severity) ++ byte_stream (severity_name severity)
     ++ bracketed (option_map text_now code)
 
 -- ---- the starts of rows
 
 -- the start of a source row: up to its text
-abbrev pub source_row_start_stream : context.RowContext → rust_line.Line → Stream
+abbrev pub source_row_start_stream : rust_context.RowContext → rust_line.Line → Stream
 source_row_start_stream x line =
     outer_gutter_number x.padding line.number ++ border_left x.chars.now
     ++ inner_gutter (context_view x) (leading_of (line_view line)) Source (lanes_view line.lanes)
     ++ space
 
 -- the start of an underline row: up to the end of its lanes
-abbrev pub underline_row_start_stream : context.RowContext → rust_line.Line → LaneMarkTuple → Stream
+abbrev pub underline_row_start_stream : rust_context.RowContext → rust_line.Line → LaneMarkTuple
+    → Stream
 underline_row_start_stream x line lane_mark =
     outer_gutter x.padding ++ border_left x.chars.now
     ++ inner_gutter (context_view x) (leading_of (line_view line))
@@ -48,7 +49,8 @@ underline_row_start_stream x line lane_mark =
 
 -- the two characters of a lane that is not empty: the underline that crosses it, if one does, or a
 -- space, and its own character
-abbrev pub lane_glyph_stream : context.RowContext → Option LaneMarkTuple → LabelStyle → ℕ → Stream
+abbrev pub lane_glyph_stream : rust_context.RowContext → Option LaneMarkTuple → LabelStyle → ℕ
+    → Stream
 lane_glyph_stream x crossing style own =
     crossing_characters x.severity x.chars.now (option_map lane_mark_view crossing) 1
     ++ label_glyph x.severity style own
@@ -56,31 +58,31 @@ lane_glyph_stream x crossing style own =
 -- ---- the rows under a line
 
 -- the characters of a line
-abbrev pub line_metrics_view : context.RowContext → rust_line.Line → List Metrics
+abbrev pub line_metrics_view : rust_context.RowContext → rust_line.Line → List Metrics
 line_metrics_view x line = char_metrics x.tab_width line.text.now
 
 -- the characters of a line, and the placeholder after the last one
-abbrev pub line_metrics_to_end_view : context.RowContext → rust_line.Line → List Metrics
+abbrev pub line_metrics_to_end_view : rust_context.RowContext → rust_line.Line → List Metrics
 line_metrics_to_end_view x line = char_metrics_to_end x.tab_width line.text.now
 
 -- the carets of labels under characters
-abbrev pub carets_stream : context.RowContext → List SingleLabelTuple → List Metrics → Stream
+abbrev pub carets_stream : rust_context.RowContext → List SingleLabelTuple → List Metrics → Stream
 carets_stream x labels cs = carets (context_view x) (single_label_views labels) cs
 
 -- the caret row of a line that has labels
-abbrev pub caret_rows_stream : context.RowContext → rust_line.Line → Stream
+abbrev pub caret_rows_stream : rust_context.RowContext → rust_line.Line → Stream
 caret_rows_stream x line =
     stream_of_rows (context_view x)
     (caret_rows (line_view line) (single_label_views line.labels.now))
 
 -- the pointers of a line's labels under characters
-abbrev pub pointers_stream : context.RowContext → rust_line.Line → List Metrics → Stream
+abbrev pub pointers_stream : rust_context.RowContext → rust_line.Line → List Metrics → Stream
 pointers_stream x line cs = pointers (context_view x) (single_label_views line.labels.now) cs
 
 -- the pointers under the characters that begin before a byte index
-abbrev pub pointers_before_stream : context.RowContext → rust_line.Line → ℕ → Stream
-pointers_before_stream x line before =
-    pointers_stream x line (metrics_before before (line_metrics_view x line))
+abbrev pub pointers_before_stream : rust_context.RowContext → rust_line.Line → ℕ → Stream
+pointers_before_stream x line byte_index =
+    pointers_stream x line (metrics_before byte_index (line_metrics_view x line))
 
 -- a label's message, in its style
 abbrev pub label_message_stream : Severity → SingleLabelTuple → Stream
@@ -88,21 +90,22 @@ label_message_stream severity x =
     label_message severity (single_label_view x).style (single_label_view x).message
 
 -- the rows of the messages of these labels, the last one first
-abbrev pub hanging_rows_stream : context.RowContext → rust_line.Line → List SingleLabelTuple
+abbrev pub hanging_rows_stream : rust_context.RowContext → rust_line.Line → List SingleLabelTuple
     → Stream
 hanging_rows_stream x line labels =
     hanging_stream (context_view x) (line_view line)
     (filter has_message (single_label_views labels))
 
--- the pointer row, and the rows of the messages of these labels that may hang
-abbrev pub pointer_and_messages_stream : context.RowContext → rust_line.Line → messages.Messages
-    → Stream
-pointer_and_messages_stream x line found =
+-- the pointer row, even where no message hangs, and the rows of the messages of these labels that
+-- may hang
+abbrev pub unconditional_pointer_and_hanging_rows_stream : rust_context.RowContext → rust_line.Line
+    → rust_messages.Messages → Stream
+unconditional_pointer_and_hanging_rows_stream x line found =
     pointer_row (context_view x) (line_view line) ++ newline
     ++ hanging_rows_stream x line found.after.now ++ hanging_rows_stream x line found.before.now
 
 -- the pointer row and the rows of all messages of the line that hang, or nothing where none hangs
-abbrev pub pointer_and_hanging_rows_stream : context.RowContext → rust_line.Line → Stream
+abbrev pub pointer_and_hanging_rows_stream : rust_context.RowContext → rust_line.Line → Stream
 pointer_and_hanging_rows_stream x line =
     stream_of_rows (context_view x)
     (pointer_and_hanging_rows (line_view line)

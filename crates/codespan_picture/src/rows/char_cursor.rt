@@ -17,7 +17,7 @@ use codespan_core::diagnostic::LabelStyle;
 /// returns the style of the caret below, and whether a primary label covers it.
 pub trait CharCursor: Drop {
     /// The characters that it has not returned yet.
-    ghost left: { Self → List metrics.Metrics };
+    ghost remaining: { Self → List metrics.Metrics };
 
     /// The labels of the line.
     ghost labels: { Self → List SingleLabelTuple };
@@ -27,7 +27,7 @@ pub trait CharCursor: Drop {
 
     /// Returns the next character, or `None` after the last one.
     fn next_metrics(&mut self) -> Option<Metrics>
-        ensures next { YieldsFirst left self.old result self.new }
+        ensures next { YieldsFirst remaining self.old result self.new }
         ensures returned { IfSome result (λ c. has_returned c self.new) }
         ensures labels { labels self.new ≡ labels self.old };
 
@@ -40,7 +40,7 @@ pub trait CharCursor: Drop {
     /// The cursor has just returned `metrics`.
     fn style_under(&mut self, metrics: Metrics) -> Option<LabelStyle>
         requires { has_returned metrics self.old }
-        ensures left { left self.new ≡ left self.old }
+        ensures remaining { remaining self.new ≡ remaining self.old }
         ensures labels { labels self.new ≡ labels self.old }
         ensures style { result ≡ style_under (single_label_views (labels self.old)) metrics };
 
@@ -51,7 +51,7 @@ pub trait CharCursor: Drop {
     /// The cursor has just returned `metrics`.
     fn is_covered_by_primary(&mut self, metrics: Metrics) -> bool
         requires { has_returned metrics self.old }
-        ensures left { left self.new ≡ left self.old }
+        ensures remaining { remaining self.new ≡ remaining self.old }
         ensures labels { labels self.new ≡ labels self.old }
         ensures primary { result
             ≡ is_covered is_primary (single_label_views (labels self.old)) metrics };

@@ -35,7 +35,7 @@ fn severity_name(severity: Severity) -> &'static str
 #[tactic(auto, using(codespan_core::proofs::Writes::write_chains), unfolding(crate::specs::RowStreams::header_locus))]
 fn write_header_locus<W: PutStyle>(w: &mut W, locus: Option<&Locus>) -> Result<(), W::Error>
     ensures { Writes (W.sink w.old)
-        (header_locus (option_map (λ at. locus_view at.now) locus.entry)) result (W.sink w.new) }
+        (header_locus (option_map (λ x. locus_view x.now) locus.entry)) result (W.sink w.new) }
 {
     if let Some(locus) = locus {
         snippet_locus(w, locus)?;

@@ -4,7 +4,7 @@ ghost use Rattle.std.specs.Prelude.{◌≡◌, ◌+◌, ◌<◌, ◌≤◌, ℕ,
 ghost use Rattle.std.specs.Option.{option_map};
 ghost use Rattle.codespan_core.specs.WriterLaw.{Writes};
 ghost use Rattle.codespan_picture.specs.Arguments.{lane_mark_view, multi_label_view};
-ghost use Rattle.codespan_picture.specs.Private.LineViews.{context_view, lanes_view, row_kind_view, row_lane_stream, row_lanes_stream};
+ghost use Rattle.codespan_picture.specs.Private.LineViews.{context_view, lanes_view, lane_row_kind_view, row_lane_stream, row_lanes_stream};
 ghost use Rattle.codespan_picture.specs.Private.WrittenParts.{lane_glyph_stream};
 ghost use Rattle.codespan_picture.specs.Private.RemainingLaneMarks.{lane_mark_here, lane_marks_after};
 ghost use Rattle.codespan_picture.specs.Lanes.{crossing_characters, lane_characters, underline_char, row_crossing};
@@ -23,7 +23,7 @@ mod shapes;
 
 /// The kind of a row, as far as its lanes go.
 #[derive(Clone, Copy)]
-pub enum RowKind<'d> {
+pub enum LaneRowKind<'d> {
     /// A source row.
     Source,
     /// An empty row or a break row.
@@ -46,19 +46,19 @@ struct Lane<'d> {
 
 /// Returns the crossing of a lane: in an underline row whose corner is left of the lane its lane
 /// mark, else `None`.
-fn crossing<'d>(row: RowKind<'d>, lane: usize) -> Option<(usize, LabelStyle, MultiLabel<'d>)>
-    ensures { option_map lane_mark_view result ≡ row_crossing (row_kind_view row.entry) lane }
+fn crossing<'d>(row: LaneRowKind<'d>, lane: usize) -> Option<(usize, LabelStyle, MultiLabel<'d>)>
+    ensures { option_map lane_mark_view result ≡ row_crossing (lane_row_kind_view row.entry) lane }
 {
     match row {
-        RowKind::Underline(corner_lane, style, multi_label) if corner_lane < lane => Some((
+        LaneRowKind::Underline(corner_lane, style, multi_label) if corner_lane < lane => Some((
             corner_lane,
             style,
             multi_label,
         )),
-        RowKind::Source
-        | RowKind::EmptyOrBreak
-        | RowKind::SingleLabels
-        | RowKind::Underline(_, _, _) => None,
+        LaneRowKind::Source
+        | LaneRowKind::EmptyOrBreak
+        | LaneRowKind::SingleLabels
+        | LaneRowKind::Underline(_, _, _) => None,
     }
 }
 
@@ -153,7 +153,7 @@ fn inner_gutter_column<W: PutStyle>(
     w: &mut W,
     context: RowContext<'_>,
     leading: usize,
-    row: RowKind<'_>,
+    row: LaneRowKind<'_>,
     lane: Lane<'_>,
 ) -> Result<(), W::Error>
     ensures { Writes (W.sink w.old)
@@ -211,15 +211,15 @@ const MAX_EMPTY_LANES: usize = 32;
 
 /// Returns how many lanes from `lane` on and before `until`, the lane of the next lane mark, are
 /// empty: no underline from a corner crosses them. At most [`MAX_EMPTY_LANES`] are counted.
-fn num_empty_lanes(row: RowKind<'_>, lane: usize, until: usize) -> usize
+fn num_empty_lanes(row: LaneRowKind<'_>, lane: usize, until: usize) -> usize
     ensures no_crossing { (other : ℕ) → lane ≤ other → other < lane + result
-        → row_crossing (row_kind_view row.entry) other ≡ None }
+        → row_crossing (lane_row_kind_view row.entry) other ≡ None }
     ensures within { lane + result ≤ max lane until }
     ensures limit { result ≤ MAX_EMPTY_LANES }
 {
     let end = match row {
-        RowKind::Underline(corner_lane, _, _) => until.min(corner_lane.saturating_add(1)),
-        RowKind::Source | RowKind::EmptyOrBreak | RowKind::SingleLabels => until,
+        LaneRowKind::Underline(corner_lane, _, _) => until.min(corner_lane.saturating_add(1)),
+        LaneRowKind::Source | LaneRowKind::EmptyOrBreak | LaneRowKind::SingleLabels => until,
     };
     end.saturating_sub(lane).min(MAX_EMPTY_LANES)
 }
@@ -236,7 +236,7 @@ pub fn inner_gutter<W: PutStyle>(
     w: &mut W,
     context: RowContext<'_>,
     leading: usize,
-    row: RowKind<'_>,
+    row: LaneRowKind<'_>,
     lanes: Lanes<'_, '_>,
 ) -> Result<(), W::Error>
     ensures { Writes (W.sink w.old)
@@ -255,7 +255,7 @@ fn inner_gutter_columns<W: PutStyle>(
     w: &mut W,
     context: RowContext<'_>,
     leading: usize,
-    row: RowKind<'_>,
+    row: LaneRowKind<'_>,
     lanes: Lanes<'_, '_>,
 ) -> Result<(), W::Error>
     ensures { Writes (W.sink w.old)

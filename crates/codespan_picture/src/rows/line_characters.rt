@@ -27,15 +27,15 @@ pub trait LineCharacters {
 
     /// Returns a cursor over the characters of the line.
     fn characters(&self) -> Self::Cursor
-        ensures left { Self.Cursor.left result ≡ metrics_of (input self.now) }
+        ensures remaining { Self.Cursor.remaining result ≡ metrics_of (input self.now) }
         ensures labels { Self.Cursor.labels result ≡ (input self.now).labels };
 
     /// Returns a column, in cells from the line's start, and a cursor over the characters of the
     /// line from there on and the placeholder after the last one. The characters that are left out
     /// end at or before the byte index `end`, and at or before the start of each label.
     fn characters_from_labels(&self, end: usize) -> (u128, Self::Cursor)
-        ensures left { LeavesOut (least_start end (single_label_views (input self.now).labels))
-            (metrics_to_end_of (input self.now)) result.0 (Self.Cursor.left result.1) }
+        ensures remaining { LeavesOut (least_start end (single_label_views (input self.now).labels))
+            (metrics_to_end_of (input self.now)) result.0 (Self.Cursor.remaining result.1) }
         ensures labels { Self.Cursor.labels result.1 ≡ (input self.now).labels };
 
     /// Returns how many cells the characters that begin at this byte index or before it occupy.
@@ -78,7 +78,7 @@ pub trait LineCharacters {
             (pointers_stream context.entry line.entry (line_metrics_view context.entry line.entry))
             result (W.sink w.new) };
 
-    /// Writes the pointers under the characters that begin before the byte index `before`.
+    /// Writes the pointers under the characters that begin before this byte index.
     ///
     /// # Errors
     ///
@@ -89,19 +89,20 @@ pub trait LineCharacters {
     /// - This has the context's tab width, and the text and labels of `line`.
     /// - The labels with a message in `messages.before` and `messages.after` are those of `line`
     ///   that hang.
-    /// - `before` is at most the greatest start of a label of `line`.
+    /// - `byte_index` is at most the greatest start of a label of `line`.
     fn caret_pointers_before<W: PutStyle>(
         &self,
         w: &mut W,
         context: RowContext<'_>,
         line: Line<'_, '_>,
         messages: Messages<'_, '_>,
-        before: usize,
+        byte_index: usize,
     ) -> Result<(), W::Error>
         requires input { input self.now ≡ char_input context line }
         requires hanging_labels { AreHanging line.labels.now messages.before.now
             messages.after.now }
-        requires within_max_start { before ≤ max_label_start (single_label_views line.labels.now) }
-        ensures { Writes (W.sink w.old) (pointers_before_stream context.entry line.entry before)
+        requires within_max_start { byte_index
+            ≤ max_label_start (single_label_views line.labels.now) }
+        ensures { Writes (W.sink w.old) (pointers_before_stream context.entry line.entry byte_index)
             result (W.sink w.new) };
 }

@@ -11,7 +11,8 @@ ghost use Rattle.codespan_picture.specs.Rows.{trailing_label, last_with_end, ove
 use crate::arguments::SingleLabel;
 use crate::rows::carets::{is_overlapping, max_label_end};
 
-/// Which label of a line trails, and which may hang: those of them that have a message do.
+/// The labels of a line by their messages: the one whose message trails, and those before and after
+/// it, which may hang: those of them that have a message do.
 #[derive(Clone, Copy)]
 pub struct Messages<'row, 'd> {
     /// The label whose message trails.

@@ -8,7 +8,7 @@ ghost use Rattle.codespan_picture.specs.Private.LineViews.{context_view, lanes_v
 ghost use Rattle.codespan_picture.specs.RowStreams.{empty_row, break_row, first_note_row, later_note_row};
 ghost use Rattle.codespan_picture.specs.RenderedRows.{note_stream};
 
-use crate::rows::lanes::{RowKind, inner_gutter};
+use crate::rows::lanes::{LaneRowKind, inner_gutter};
 use crate::rows::line::{Lanes, RowContext};
 use crate::rows::parts::{
     border_left, border_left_break, outer_gutter, write_newline, write_space,
@@ -33,7 +33,7 @@ pub fn write_snippet_empty<W: PutStyle>(
 {
     outer_gutter(w, context.padding)?;
     border_left(w, context.chars)?;
-    inner_gutter(w, context, 0, RowKind::EmptyOrBreak, lanes)?;
+    inner_gutter(w, context, 0, LaneRowKind::EmptyOrBreak, lanes)?;
     write_newline(w)
 }
 
@@ -53,7 +53,7 @@ pub fn write_break<W: PutStyle>(
 {
     outer_gutter(w, context.padding)?;
     border_left_break(w, context.chars)?;
-    inner_gutter(w, context, 0, RowKind::EmptyOrBreak, lanes)?;
+    inner_gutter(w, context, 0, LaneRowKind::EmptyOrBreak, lanes)?;
     write_newline(w)
 }
 

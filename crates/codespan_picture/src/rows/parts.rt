@@ -10,7 +10,7 @@ ghost use Rattle.codespan_picture.specs.RowStreams.{row_start};
 
 use crate::arguments::Locus;
 use crate::padding::count_digits;
-use crate::rows::lanes::{RowKind, inner_gutter};
+use crate::rows::lanes::{LaneRowKind, inner_gutter};
 use crate::rows::line::{Line, RowContext};
 use crate::rows::runs::write_spaces;
 use codespan_core::diagnostic::{LabelStyle, Severity};
@@ -142,20 +142,20 @@ pub fn change_style<W: PutStyle>(
     }
 }
 
-/// Writes a locus: name, line number and column number.
+/// Writes a locus, in the start of a snippet or in a header: name, line number and column number.
 ///
 /// # Errors
 ///
 /// The writer's error; a prefix has then been written.
 #[inline(always)]
-pub fn snippet_locus<W: PutStyle>(w: &mut W, at: &Locus) -> Result<(), W::Error>
-    ensures { Writes (W.sink w.old) (snippet_locus (locus_view at.now)) result (W.sink w.new) }
+pub fn snippet_locus<W: PutStyle>(w: &mut W, locus: &Locus) -> Result<(), W::Error>
+    ensures { Writes (W.sink w.old) (snippet_locus (locus_view locus.now)) result (W.sink w.new) }
 {
-    put_all(w, at.name.as_bytes())?;
+    put_all(w, locus.name.as_bytes())?;
     put_all(w, b":")?;
-    put_number(w, at.location.line_number)?;
+    put_number(w, locus.location.line_number)?;
     put_all(w, b":")?;
-    put_number(w, at.location.column_number)?;
+    put_number(w, locus.location.column_number)?;
     Ok(())
 }
 
@@ -176,6 +176,12 @@ pub fn write_row_start<W: PutStyle>(
 {
     outer_gutter(w, context.padding)?;
     border_left(w, context.chars)?;
-    inner_gutter(w, context, line.leading, RowKind::SingleLabels, line.lanes)?;
+    inner_gutter(
+        w,
+        context,
+        line.leading,
+        LaneRowKind::SingleLabels,
+        line.lanes,
+    )?;
     write_space(w)
 }

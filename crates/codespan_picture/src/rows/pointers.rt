@@ -5,7 +5,7 @@ ghost use Rattle.codespan_core.specs.Streams.{newline, spaces};
 ghost use Rattle.codespan_core.specs.WriterLaw.{Writes};
 ghost use Rattle.codespan_picture.specs.Arguments.{single_label_view, single_label_views};
 ghost use Rattle.codespan_picture.specs.Private.LineViews.{context_view, line_view};
-ghost use Rattle.codespan_picture.specs.Private.WrittenParts.{hanging_rows_stream, pointer_and_hanging_rows_stream, pointer_and_messages_stream};
+ghost use Rattle.codespan_picture.specs.Private.WrittenParts.{hanging_rows_stream, pointer_and_hanging_rows_stream, unconditional_pointer_and_hanging_rows_stream};
 ghost use Rattle.codespan_picture.specs.Lanes.{label_glyph};
 ghost use Rattle.codespan_picture.specs.RowParts.{max_label_start};
 ghost use Rattle.codespan_picture.specs.RowStreams.{pointer_row, hanging_row};
@@ -132,8 +132,9 @@ fn write_hanging_rows<W: PutStyle, S: LineCharacters>(
     Ok(())
 }
 
-/// Writes the pointer row, and a row for each hanging message, the last label's first.
-fn write_pointers_and_messages<W: PutStyle, S: LineCharacters>(
+/// Writes the pointer row, even where no message hangs, and a row for each hanging message, the
+/// last label's first.
+fn write_pointer_and_hanging_rows_unconditionally<W: PutStyle, S: LineCharacters>(
     w: &mut W,
     rows: &PointerAndHangingRows<'_, '_, S>,
 ) -> Result<(), W::Error>
@@ -143,7 +144,8 @@ fn write_pointers_and_messages<W: PutStyle, S: LineCharacters>(
     requires slices { ArePrefixAndSuffix rows.now.line.labels.now
         rows.now.messages.before.now rows.now.messages.after.now }
     ensures { Writes (W.sink w.old)
-        (pointer_and_messages_stream rows.now.context rows.now.line rows.now.messages)
+        (unconditional_pointer_and_hanging_rows_stream rows.now.context rows.now.line
+        rows.now.messages)
         result (W.sink w.new) }
 {
     write_pointer_row(w, rows)?;
@@ -185,5 +187,5 @@ pub fn write_pointer_and_hanging_rows<W: PutStyle, S: LineCharacters>(
         characters,
         messages,
     };
-    write_pointers_and_messages(w, &rows)
+    write_pointer_and_hanging_rows_unconditionally(w, &rows)
 }

@@ -11,28 +11,28 @@ ghost use Rattle.codespan_picture.specs.RowParts.{style_change, colored_text};
 ghost use Rattle.codespan_picture.specs.RowStreams.{source_row};
 
 use crate::rows::char_cursor::CharCursor;
-use crate::rows::lanes::{RowKind, inner_gutter};
+use crate::rows::lanes::{LaneRowKind, inner_gutter};
 use crate::rows::line::{Line, RowContext};
 use crate::rows::line_characters::LineCharacters;
 use crate::rows::parts::{
     border_left, change_style, outer_gutter_number, write_newline, write_space,
 };
 use crate::rows::primary_cover::PrimaryCover;
-use crate::rows::text_styles::{is_plain, plain_from, text_style};
+use crate::rows::text_styles::{is_plain, plain_from, source_style};
 use codespan_core::diagnostic::LabelStyle;
 use codespan_core::term::config::put_style::PutStyle;
 use codespan_core::term::config::writing::{put_all, put_spaces};
 
-/// Writes the text of a line, which has these characters, with spaces instead of tabs and with
-/// style marks where the style changes.
+/// Writes the text of a line, over whose characters the cursor is, with spaces instead of tabs and
+/// with style marks where the style changes.
 fn write_colored_text<W: PutStyle, C: CharCursor>(
     w: &mut W,
     context: RowContext<'_>,
     line: Line<'_, '_>,
-    mut characters: C,
+    mut cursor: C,
 ) -> Result<(), W::Error>
-    requires left { C.left characters ≡ char_metrics context.tab_width line.text.now }
-    requires labels { C.labels characters ≡ line.labels.now }
+    requires remaining { C.remaining cursor ≡ char_metrics context.tab_width line.text.now }
+    requires labels { C.labels cursor ≡ line.labels.now }
     ensures { Writes (W.sink w.old)
         (colored_text (context_view context.entry) (line_view line.entry))
         result (W.sink w.new) }
@@ -43,11 +43,11 @@ fn write_colored_text<W: PutStyle, C: CharCursor>(
     let mut previous = None;
     let mut start = 0;
     let mut end = 0;
-    while let Some(metrics) = characters.next_metrics() {
+    while let Some(metrics) = cursor.next_metrics() {
         if end >= plain {
             break;
         }
-        let style = text_style(&mut characters, primary, line, metrics);
+        let style = source_style(&mut cursor, primary, line, metrics);
         let next = end + metrics.bytes;
         if metrics.ch == '\t' {
             end_text_run(w, context, &text[start..end], previous, style)?;
@@ -114,7 +114,7 @@ fn write_source_row_start<W: PutStyle>(
 {
     outer_gutter_number(w, context.padding, line.number)?;
     border_left(w, context.chars)?;
-    inner_gutter(w, context, line.leading, RowKind::Source, line.lanes)?;
+    inner_gutter(w, context, line.leading, LaneRowKind::Source, line.lanes)?;
     write_space(w)
 }
 

@@ -25,24 +25,24 @@ use codespan_core::diagnostic::LabelStyle;
 ///
 /// # Requires
 ///
-/// - The character has a byte, and `characters` has just returned it.
-/// - `characters` has the labels of `line`.
+/// - The character has a byte, and `cursor` has just returned it.
+/// - `cursor` has the labels of `line`.
 /// - `primary` is [`PrimaryCover::of`] the lane marks of `line`.
-pub fn text_style<C: CharCursor>(
-    characters: &mut C,
+pub fn source_style<C: CharCursor>(
+    cursor: &mut C,
     primary: PrimaryCover,
     line: Line<'_, '_>,
     metrics: Metrics,
 ) -> Option<LabelStyle>
     requires has_byte { 1 ≤ metrics.bytes }
-    requires returned { C.has_returned metrics characters.old }
-    requires labels { C.labels characters.old ≡ line.labels.now }
+    requires returned { C.has_returned metrics cursor.old }
+    requires labels { C.labels cursor.old ≡ line.labels.now }
     requires primary { CoversAsLaneMarks (map lane_mark_view line.lanes.lane_marks.now) primary }
-    ensures left { C.left characters.new ≡ C.left characters.old }
-    ensures labels { C.labels characters.new ≡ C.labels characters.old }
+    ensures remaining { C.remaining cursor.new ≡ C.remaining cursor.old }
+    ensures labels { C.labels cursor.new ≡ C.labels cursor.old }
     ensures style { result ≡ source_style (line_view line.entry) metrics }
 {
-    if characters.is_covered_by_primary(metrics) || primary.covers_char(metrics) {
+    if cursor.is_covered_by_primary(metrics) || primary.covers_char(metrics) {
         Some(LabelStyle::Primary)
     } else {
         None

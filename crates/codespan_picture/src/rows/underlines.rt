@@ -14,7 +14,7 @@ ghost use Rattle.codespan_picture.specs.RowParts.{underline_message, start_caret
 ghost use Rattle.codespan_picture.specs.RowStreams.{underline_row, stream_of_rows};
 
 use crate::arguments::MultiLabel;
-use crate::rows::lanes::{RowKind, inner_gutter};
+use crate::rows::lanes::{LaneRowKind, inner_gutter};
 use crate::rows::line::{Line, RowContext};
 use crate::rows::line_characters::LineCharacters;
 use crate::rows::parts::{border_left, outer_gutter, write_newline, write_space};
@@ -115,7 +115,7 @@ fn write_underline_row_start<W: PutStyle>(
         w,
         context,
         line.leading,
-        RowKind::Underline(lane, style, multi_label),
+        LaneRowKind::Underline(lane, style, multi_label),
         line.lanes,
     )
 }

@@ -5,7 +5,7 @@ ghost use Rattle.std.specs.Prelude.{◌≡◌, ℕ, List};
 ghost use Rattle.codespan_base.specs.Streams.{Stream, spelled};
 ghost use Rattle.codespan_base.specs.declared.term.config.styles.Styles.{Styles};
 ghost use Rattle.codespan_documents.specs.Runs.{AreTexts, RunView, runs_of};
-ghost use Rattle.codespan_base.specs.StyleTables.{ansi_spelling};
+ghost use Rattle.codespan_base.specs.StyleSpellings.{ansi_spelling};
 ghost use Rattle.codespan_terminal.specs.Terminal.{AreSafe, ShowsSafe, columns, safe_characters, safe_columns, terminal_text};
 
 /// States that a text for a terminal, read as a terminal reads it, has no escape sequence but those

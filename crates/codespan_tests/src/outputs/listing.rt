@@ -83,7 +83,7 @@ fn is_from_index(failed: Option<usize>, position: usize) -> bool
 }
 
 impl<'a, 'text: 'a> Files<'a> for Listing<'text> {
-    ghost use Rattle.codespan_base.specs.DatabaseViews.{name_of, source_of};
+    ghost use Rattle.codespan_base.specs.SimpleFileViews.{name_of, source_of};
     ghost use Rattle.codespan_base.specs.FileModel.{line_of, or_failure};
     ghost use Rattle.codespan_base.specs.FileModel.Lookup.{Name as NameLookup, Source as SourceLookup, LineIndex, LineNumber, ColumnNumber, LocationAt, LineRange};
     ghost use Rattle.codespan_base.specs.Lines.{line_starts_of};

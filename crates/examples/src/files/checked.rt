@@ -2,7 +2,7 @@
 
 ghost use Rattle.std.specs.Prelude.{◌≡◌, refl, IfOk, OnErr, IsErrOf};
 ghost use Rattle.examples.specs.Parts.{of_part, part_name};
-ghost use Rattle.codespan_base.specs.DatabaseViews.{source_of};
+ghost use Rattle.codespan_base.specs.SimpleFileViews.{source_of};
 
 use codespan_reporting::files::{Error, Files, Location, SimpleFile, default_line_number};
 use std::alloc::Global;

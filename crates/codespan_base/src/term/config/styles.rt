@@ -50,7 +50,7 @@ pub struct Styles {
 
     /// Line numbers. By default cyan.
     pub line_number: ColorSpec,
-    /// The border left of the source, and the start of a snippet. By default cyan.
+    /// The border left of the source, and the text before a locus. By default cyan.
     pub source_border: ColorSpec,
     /// The bullet of a note. By default cyan.
     pub note_bullet: ColorSpec,
@@ -93,7 +93,7 @@ impl Styles {
         &self.note_bullet
     }
 
-    /// Borrows the style of the border left of the source, and of the start of a snippet.
+    /// Borrows the style of the border left of the source, and of the text before a locus.
     pub fn source_border(&self) -> &ColorSpec
         ensures { result.now ≡ self.now.source_border }
     {

@@ -36,7 +36,7 @@ pub struct StylesWriter<'a, W> {
 }
 
 impl<'a, W: WriteColor> StylesWriter<'a, W> {
-    ghost use Rattle.codespan_base.specs.StyleTables.{spelling_by};
+    ghost use Rattle.codespan_base.specs.StyleSpellings.{spelling_by};
     ghost use Rattle.codespan_core.specs.Writers.{fresh_sink};
     ghost use Rattle.codespan_base.specs.StyleWriters.{styles_sink, styles_inner};
 

@@ -5,7 +5,7 @@ ghost use Rattle.codespan_core.specs.SnippetStarts.{start_text, is_fixed};
 
 use crate::files::Error;
 
-/// The text before the locus of a snippet.
+/// The text before a locus at the start of a snippet.
 ///
 /// `Fixed` needs no allocation, so that [`Chars::box_drawing`] and [`Chars::ascii`] do not fail.
 #[derive(Debug, Drop)]

@@ -111,8 +111,8 @@ pub trait WriteStyle: Write {
     fn set_note_bullet(&mut self) -> io::Result<()>
         ensures { Writes (sink self.old) (style_mark NoteBullet) result (sink self.new) };
 
-    /// Writes the style mark before the border left of the source, and before the start of a
-    /// snippet.
+    /// Writes the style mark before the border left of the source, and before the text before a
+    /// locus.
     ///
     /// # Errors
     ///

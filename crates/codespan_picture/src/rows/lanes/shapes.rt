@@ -3,10 +3,10 @@
 ghost use Rattle.std.specs.Prelude.{◌≡◌, ◌&&◌};
 ghost use Rattle.codespan_picture.specs.Arguments.{multi_label_view};
 ghost use Rattle.codespan_picture.specs.Lanes.{is_unbroken, begins_in_source_row, row_shape, underline_shape};
-ghost use Rattle.codespan_picture.specs.Private.LineViews.{row_kind_view};
+ghost use Rattle.codespan_picture.specs.Private.LineViews.{lane_row_kind_view};
 
 use crate::arguments::MultiLabel;
-use crate::rows::lanes::{RowKind, Shape};
+use crate::rows::lanes::{LaneRowKind, Shape};
 use codespan_core::term::Layout;
 
 /// Returns what a multi-line label mark shows in a row of this kind. `leading` is the length in
@@ -15,25 +15,25 @@ use codespan_core::term::Layout;
 pub fn row_shape(
     layout: Layout,
     leading: usize,
-    row: RowKind<'_>,
+    row: LaneRowKind<'_>,
     lane: usize,
     multi_label: MultiLabel<'_>,
 ) -> Shape
     ensures { result
-        ≡ row_shape layout leading (row_kind_view row.entry) lane
+        ≡ row_shape layout leading (lane_row_kind_view row.entry) lane
         (multi_label_view multi_label.entry) }
 {
     match (row, multi_label) {
-        (RowKind::Source, MultiLabel::Top(start)) if start <= leading => Shape::TopCorner,
-        (RowKind::Source | RowKind::EmptyOrBreak, MultiLabel::Top(_)) => Shape::Space,
-        (RowKind::SingleLabels, MultiLabel::Top(start)) if goes_on(layout, leading, start) =>
+        (LaneRowKind::Source, MultiLabel::Top(start)) if start <= leading => Shape::TopCorner,
+        (LaneRowKind::Source | LaneRowKind::EmptyOrBreak, MultiLabel::Top(_)) => Shape::Space,
+        (LaneRowKind::SingleLabels, MultiLabel::Top(start)) if goes_on(layout, leading, start) =>
             Shape::Bar,
-        (RowKind::SingleLabels, MultiLabel::Top(_)) => Shape::Space,
-        (RowKind::Underline(corner_lane, _, _), multi_label) => {
+        (LaneRowKind::SingleLabels, MultiLabel::Top(_)) => Shape::Space,
+        (LaneRowKind::Underline(corner_lane, _, _), multi_label) => {
             underline_shape(layout, leading, corner_lane, lane, multi_label)
         }
         (
-            RowKind::Source | RowKind::EmptyOrBreak | RowKind::SingleLabels,
+            LaneRowKind::Source | LaneRowKind::EmptyOrBreak | LaneRowKind::SingleLabels,
             MultiLabel::Left | MultiLabel::Bottom(_, _),
         ) => Shape::Bar,
     }

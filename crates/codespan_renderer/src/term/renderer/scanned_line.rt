@@ -31,7 +31,7 @@ pub struct ScanCursor<'row, 'd> {
 impl<'row, 'd> CharCursor for ScanCursor<'row, 'd> {
     ghost use Rattle.codespan_renderer.specs.Private.RemainingMetrics.{remaining_metrics};
 
-    ghost left = { λ s. remaining_metrics s.char_metrics };
+    ghost remaining = { λ s. remaining_metrics s.char_metrics };
 
     ghost labels = { λ s. s.labels.now };
 
@@ -111,9 +111,9 @@ impl<'row, 'd> LineCharacters for ScannedLine<'row, 'd> {
         context: RowContext<'_>,
         line: Line<'_, '_>,
         messages: Messages<'_, '_>,
-        before: usize,
+        byte_index: usize,
     ) -> Result<(), W::Error> {
-        scanned_caret_pointers(w, context, line, messages, before)
+        scanned_caret_pointers(w, context, line, messages, byte_index)
     }
 }
 

@@ -1,5 +1,5 @@
 use Rattle.std.proofs.Common.{ℕ, List, ◌++◌, ap, ◌∙◌, append_assoc, string_bytes}
-use Rattle.codespan_base.specs.StyleTables.{ansi_spelling}
+use Rattle.codespan_base.specs.StyleSpellings.{ansi_spelling}
 use Rattle.codespan_terminal.specs.Terminal.{run_bytes, safe_text, style_mark_of}
 use Rattle.codespan_documents.proofs.Appending.{run-more, run-end}
 use Rattle.codespan_terminal.proofs.terminal.push_runs.Goals as goal

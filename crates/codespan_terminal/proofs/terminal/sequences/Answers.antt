@@ -1,5 +1,5 @@
 use Rattle.std.proofs.Common.{rules}
-use Rattle.codespan_base.specs.StyleTables.{ansi_spelling}
+use Rattle.codespan_base.specs.StyleSpellings.{ansi_spelling}
 use Rattle.codespan_terminal.specs.Terminal.{style_mark_of}
 use Rattle.codespan_terminal.proofs.Sequences.{written_sequences}
 use Rattle.codespan_terminal.proofs.terminal.sequences.Goals as goal

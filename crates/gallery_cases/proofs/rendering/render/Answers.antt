@@ -1,4 +1,4 @@
-use Rattle.codespan_base.specs.DatabaseViews.{name_of, source_of}
+use Rattle.codespan_base.specs.SimpleFileViews.{name_of, source_of}
 use Rattle.codespan_base.specs.MappedFileViews.{mapped_name_of, mapped_source_of, set_numbers_of}
 use Rattle.codespan_views.specs.Output.{IsRendered}
 use Rattle.gallery_cases.proofs.OneFile.{done_follows, over_one, over_mapped}

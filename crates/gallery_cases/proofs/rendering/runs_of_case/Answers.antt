@@ -1,5 +1,5 @@
 use Rattle.std.proofs.Common.{refl}
-use Rattle.codespan_base.specs.DatabaseViews.{name_of, source_of}
+use Rattle.codespan_base.specs.SimpleFileViews.{name_of, source_of}
 use Rattle.codespan_base.specs.MappedFileViews.{mapped_name_of, mapped_source_of, set_numbers_of}
 use Rattle.codespan_base.specs.SimpleFilesViews.{entries}
 use Rattle.codespan_styled.specs.Runs.{styled_runs}

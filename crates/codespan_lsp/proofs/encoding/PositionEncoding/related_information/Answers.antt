@@ -2,7 +2,7 @@ use Rattle.std.proofs.Common.{◌≡◌, ◌≤◌, length, Err, ap, sym, ◌∙
 use Rattle.std.specs.Prelude.{not}
 use Rattle.std.proofs.lemmas.Result.{err_from_is_err_and}
 use Rattle.codespan_base.specs.Labels.{is_primary_style}
-use Rattle.codespan_lsp.specs.LspDiagnostics.{related_view, related_view_for, label_range_failure}
+use Rattle.codespan_lsp.specs.LspDiagnostics.{related_view, related_information_for, label_range_failure}
 use Rattle.codespan_lsp.specs.declared.diagnostics.RelatedInformation.{RelatedInformation}
 use Rattle.codespan_lsp.proofs.LabelLemmas.{passing-more, passing-skip, views-push, views-end, failure-more, failure-here, related-same}
 use Rattle.codespan_lsp.proofs.encoding.PositionEncoding.related_information.Goals.{then-not-is_primary+in_ok-range+in_ok-message+in_ok-push, else-not-is_primary}
@@ -43,7 +43,7 @@ loop-label-preserved g c =
           first_of (cc, search rules) in
           record {
             views =
-                views-push related_view (related_view_for c.args.self database)
+                views-push related_view (related_information_for c.args.self database)
                 c.loop-label.related.items c.if-not-is_primary.related.items y x _ _ _
                 (ap (λ v. v.items) w.related-is ∙ w.in_ok-push.ensures.items)
                 (related-same c.args.self database x y refl w.in_ok-range.ensures.value message)
@@ -67,6 +67,6 @@ returns-clause-value g c =
     let past : length c.args.labels.now.items ≤ c.loop-label.label-index =
     omega (arith, c.loop-label-test.false, ap length c.deref-label-items.ensures.value) in
     views-end (λ label. not (is_primary_style label.style)) related_view
-    (related_view_for c.args.self (g.F.Files.database c.args.files.now))
+    (related_information_for c.args.self (g.F.Files.database c.args.files.now))
     c.loop-label.related.items c.args.labels.now.items c.loop-label.label-index _ past
     c.loop-label.invariant.views

@@ -1,7 +1,7 @@
 use Rattle.std.proofs.Common.{◌≤◌, length, Err, ap, sym, ◌∙◌, arith}
 use Rattle.std.proofs.lemmas.Result.{err_from_is_err_and}
 use Rattle.codespan_base.specs.Labels.{is_primary_style}
-use Rattle.codespan_lsp.specs.LspDiagnostics.{lsp_view, lsp_view_for, lsp_failure}
+use Rattle.codespan_lsp.specs.LspDiagnostics.{lsp_view, lsp_diagnostic_for, lsp_failure}
 use Rattle.codespan_lsp.proofs.LabelLemmas.{passing-more, passing-skip, views-push, views-end, failure-more, failure-here}
 use Rattle.codespan_lsp.proofs.encoding.PositionEncoding.to_lsp_diagnostics.Goals.{then-is_primary+in_ok-lsp_diagnostic+in_ok-push, else-is_primary}
 use Rattle.codespan_lsp.proofs.encoding.PositionEncoding.to_lsp_diagnostics.Goals as goal
@@ -35,7 +35,7 @@ loop-label-preserved g c =
           c.label-item.is (sym c.is_primary.ensures ∙ w.if-is_primary.true) in
           record {
             views =
-                views-push lsp_view (lsp_view_for c.args.self database d) c.loop-label.found.items
+                views-push lsp_view (lsp_diagnostic_for c.args.self database d) c.loop-label.found.items
                 c.if-is_primary.found.items _ x _ _ _
                 (ap (λ v. v.items) w.found-is ∙ w.in_ok-push.ensures.items)
                 w.in_ok-lsp_diagnostic.ensures.value more was.views;
@@ -58,6 +58,6 @@ returns-clause-value g c =
     let past : length c.args.diagnostic.now.labels.items ≤ c.loop-label.label-index =
     omega (arith, c.loop-label-test.false, ap length c.deref-label-items.ensures.value) in
     views-end (λ label. is_primary_style label.style) lsp_view
-    (lsp_view_for c.args.self (g.F.Files.database c.args.files.now) c.args.diagnostic.now)
+    (lsp_diagnostic_for c.args.self (g.F.Files.database c.args.files.now) c.args.diagnostic.now)
     c.loop-label.found.items c.args.diagnostic.now.labels.items c.loop-label.label-index _ past
     c.loop-label.invariant.views

@@ -24,7 +24,7 @@ loop-metrics-init g c =
     let labels = single_label_views c.args.line.labels.now in
     let given = ap (λ (x : CharInput). x.labels) c.requires.input in
     let out = rw (tab, text, given, c.max_label_end-end.ensures) at
-    c.characters_from_labels-run.ensures.left in
+    c.characters_from_labels-run.ensures.remaining in
     let all = scan_state-to_end c.args.context.tab_width c.args.line.text.now
     (IsUtf8-had _ c.args.line.utf8) in
     record {
@@ -61,7 +61,7 @@ counted g c =
 pub overflow_add-run : goal.overflow_add-run
 overflow_add-run g c =
     let l : ScanState (length c.args.line.text.now + 1) c.loop-metrics.run
-    (c.in-Some.metrics ∷ g.S.Cursor.CharCursor.left c.next_metrics.new.self) =
+    (c.in-Some.metrics ∷ g.S.Cursor.CharCursor.remaining c.next_metrics.new.self) =
     rw c.in-Some.ensures.next at c.loop-metrics.invariant.scan_state in
     let fits = scan_state-fits _ _ c.in-Some.metrics _ (omega arith) (omega arith) l in
     let sum : Fits w128 (c.if-ne.run + c.in-Some.metrics.unicode_width) = omega (arith, few g c) in
@@ -74,7 +74,7 @@ returns-in_err-end_caret_run g c =
     (StillToWrite-failed _ _ _ _ _ _ _ c.loop-metrics.invariant.written_so_far
     c.in_err-end_caret_run.ensures
     (carets-turn (context_view c.args.context) (single_label_views c.args.line.labels.now) _ _ _ _
-    c.in-Some.metrics _ (g.S.Cursor.CharCursor.left c.next_metrics.new.self)
+    c.in-Some.metrics _ (g.S.Cursor.CharCursor.remaining c.next_metrics.new.self)
     c.in-Some.ensures.next
     (c.style_under-style.ensures.style
     ∙ ap (λ (xs : List SingleLabelTuple). style_under (single_label_views xs) c.in-Some.metrics)
@@ -84,7 +84,7 @@ returns-in_err-end_caret_run g c =
 pub loop-metrics-preserved : goal.loop-metrics-preserved
 loop-metrics-preserved g c =
     let l : ScanState (length c.args.line.text.now + 1) c.loop-metrics.run
-    (c.in-Some.metrics ∷ g.S.Cursor.CharCursor.left c.next_metrics.new.self) =
+    (c.in-Some.metrics ∷ g.S.Cursor.CharCursor.remaining c.next_metrics.new.self) =
     rw c.in-Some.ensures.next at c.loop-metrics.invariant.scan_state in
     let context = context_view c.args.context in
     let labels = single_label_views c.args.line.labels.now in
@@ -93,20 +93,20 @@ loop-metrics-preserved g c =
     let style = c.style_under-style.ensures.style
     ∙ ap (λ (xs : List SingleLabelTuple). style_under (single_label_views xs) c.in-Some.metrics)
     (c.in-Some.ensures.labels ∙ c.loop-metrics.invariant.same) in
-    rw c.style_under-style.ensures.left record {
+    rw c.style_under-style.ensures.remaining record {
       written_so_far = elim c.if-ne.branch [
         | then-ne+in_ok-end_caret_run w ↦ rw (w.w-is, w.previous-is, w.run-is)
             (StillToWrite-more _ _ _ _ _ _ _ c.loop-metrics.invariant.written_so_far
             w.in_ok-end_caret_run.ensures
             (carets-turn context labels c.loop-metrics.previous c.style_under-style.result
             c.loop-metrics.run c.in-Some.metrics.unicode_width c.in-Some.metrics _
-            (g.S.Cursor.CharCursor.left c.next_metrics.new.self) c.in-Some.ensures.next style
+            (g.S.Cursor.CharCursor.remaining c.next_metrics.new.self) c.in-Some.ensures.next style
             count))
         | else-ne w ↦
             let same : c.loop-metrics.previous ≡ c.style_under-style.result = search rules in
             let rest = carets-same context labels c.loop-metrics.previous c.style_under-style.result
             c.loop-metrics.run c.in-Some.metrics.unicode_width c.in-Some.metrics _
-            (g.S.Cursor.CharCursor.left c.next_metrics.new.self) c.in-Some.ensures.next style
+            (g.S.Cursor.CharCursor.remaining c.next_metrics.new.self) c.in-Some.ensures.next style
             count same in
             rw (w.w-is, w.previous-is ∙ same, w.run-is)
             (rw rest at c.loop-metrics.invariant.written_so_far)
@@ -123,7 +123,7 @@ returns g c =
     let context = context_view c.args.context in
     let labels = single_label_views c.args.line.labels.now in
     let end : caret_run context.chars at.previous at.run ++ style_change context.severity at.previous None
-    ≡ carets_left context labels at.previous at.run (g.S.Cursor.CharCursor.left at.cursor) =
+    ≡ carets_left context labels at.previous at.run (g.S.Cursor.CharCursor.remaining at.cursor) =
     elim c.match-next_metrics.branch [
       | in_default w ↦ carets-end context labels at.previous at.run _ w.in_default.ensures.next.0
       | in-Some+then-metrics-end w ↦
@@ -131,10 +131,10 @@ returns g c =
           let follow = consecutive_within-follow _ scan_state.byte_index scan_state.column _
           scan_state.consecutive_within in
           let here : AreContiguous scan_state.byte_index
-          (w.in-Some.metrics ∷ g.S.Cursor.CharCursor.left c.next_metrics.new.self) =
+          (w.in-Some.metrics ∷ g.S.Cursor.CharCursor.remaining c.next_metrics.new.self) =
           rw w.in-Some.ensures.next at follow in
           carets-past context labels at.previous at.run scan_state.byte_index
-          (g.S.Cursor.CharCursor.left at.cursor) follow
+          (g.S.Cursor.CharCursor.remaining at.cursor) follow
           (omega (arith, here.0, w.if-metrics-end.true, c.max_label_end-end.ensures))
     ] in
     StillToWrite-last _ _ _ _ _ _ at.invariant.written_so_far (rw end at c.end_caret_run-2.ensures)

@@ -14,11 +14,11 @@ invariant-loop-metrics g l = record {
       (carets (context_view l.context) (single_label_views l.line.labels.now)
       (char_metrics_to_end l.context.tab_width l.line.text.now))
       (carets_left (context_view l.context) (single_label_views l.line.labels.now) l.previous l.run
-      (g.S.Cursor.CharCursor.left l.cursor))
+      (g.S.Cursor.CharCursor.remaining l.cursor))
       (g.W.PutStyle.sink l.w);
-  scan_state : ScanState (length l.line.text.now + 1) l.run (g.S.Cursor.CharCursor.left l.cursor);
+  scan_state : ScanState (length l.line.text.now + 1) l.run (g.S.Cursor.CharCursor.remaining l.cursor);
   same : g.S.Cursor.CharCursor.labels l.cursor ≡ l.line.labels.now;
 }
 
 abbrev pub decreases-loop-metrics : goal.decreases-loop-metrics
-decreases-loop-metrics g l = length (g.S.Cursor.CharCursor.left l.cursor)
+decreases-loop-metrics g l = length (g.S.Cursor.CharCursor.remaining l.cursor)

@@ -14,7 +14,7 @@ use Rattle.codespan_picture.proofs.rows.source.write_colored_text.Goals.{After-e
 use Rattle.codespan_picture.proofs.rows.source.write_colored_text.Goals as goal
 
 pub loop-metrics-init : goal.loop-metrics-init
-loop-metrics-init g c = rw c.requires.left record {
+loop-metrics-init g c = rw c.requires.remaining record {
   written_so_far = StillToWrite-start _ _ _ (text-start _ _);
   over = over-start _ _ (IsUtf8-had _ c.args.line.utf8);
   same = c.requires.labels;
@@ -22,8 +22,8 @@ loop-metrics-init g c = rw c.requires.left record {
   within = omega arith;
 }
 
-pub text_style-style-requires-clause-has_byte : goal.text_style-style-requires-clause-has_byte
-text_style-style-requires-clause-has_byte g c =
+pub source_style-style-requires-clause-has_byte : goal.source_style-style-requires-clause-has_byte
+source_style-style-requires-clause-has_byte g c =
     let n = over-next _ _ _ _ _ _ c.in-Some.ensures.next c.loop-metrics.invariant.over in
     omega (arith, n.bytes, (len_utf8_bounds c.in-Some.metrics.ch).0)
 
@@ -39,8 +39,8 @@ returns-in_err-end_text_run g c =
     (StillToWrite-failed _ _ _ _ _ _ _ c.loop-metrics.invariant.written_so_far
     (failed-before _ c.in_err-end_text_run.ensures)
     (text-tab (context_view c.args.context) (line_view c.args.line) _ _ _ c.in-Some.metrics _
-    (g.C.CharCursor.left c.next_metrics.new.self) c.in-Some.ensures.next
-    c.text_style-style.ensures.style c.if-metrics-eq9.true))
+    (g.C.CharCursor.remaining c.next_metrics.new.self) c.in-Some.ensures.next
+    c.source_style-style.ensures.style c.if-metrics-eq9.true))
 
 pub returns-in_err-put_spaces : goal.returns-in_err-put_spaces
 returns-in_err-put_spaces g c =
@@ -50,8 +50,8 @@ returns-in_err-put_spaces g c =
     (StillToWrite-failed _ _ _ _ _ _ _ c.loop-metrics.invariant.written_so_far
     (failed-then _ c.in_ok-end_text_run.ensures c.in_err-put_spaces.ensures)
     (text-tab (context_view c.args.context) (line_view c.args.line) _ _ _ c.in-Some.metrics _
-    (g.C.CharCursor.left c.next_metrics.new.self) c.in-Some.ensures.next
-    c.text_style-style.ensures.style c.if-metrics-eq9.true))
+    (g.C.CharCursor.remaining c.next_metrics.new.self) c.in-Some.ensures.next
+    c.source_style-style.ensures.style c.if-metrics-eq9.true))
 
 pub returns-in_err-end_text_run-2 : goal.returns-in_err-end_text_run-2
 returns-in_err-end_text_run-2 g c =
@@ -61,8 +61,8 @@ returns-in_err-end_text_run-2 g c =
     (StillToWrite-failed _ _ _ _ _ _ _ c.loop-metrics.invariant.written_so_far
     c.in_err-end_text_run-2.ensures
     (text-turn (context_view c.args.context) (line_view c.args.line) _ _ _ c.in-Some.metrics _
-    (g.C.CharCursor.left c.next_metrics.new.self) c.in-Some.ensures.next
-    c.text_style-style.ensures.style c.if-metrics-eq9.false))
+    (g.C.CharCursor.remaining c.next_metrics.new.self) c.in-Some.ensures.next
+    c.source_style-style.ensures.style c.if-metrics-eq9.false))
 
 pub loop-metrics-preserved-in_ok-put_spaces : goal.loop-metrics-preserved-in_ok-put_spaces
 loop-metrics-preserved-in_ok-put_spaces g c =
@@ -70,17 +70,17 @@ loop-metrics-preserved-in_ok-put_spaces g c =
     let none : c.loop-metrics.end + c.in-Some.metrics.bytes
     - (c.loop-metrics.end + c.in-Some.metrics.bytes) ≡ 0 =
     omega arith in
-    rw c.text_style-style.ensures.left record {
+    rw c.source_style-style.ensures.remaining record {
       written_so_far =
           rw none
           (StillToWrite-more _ _ _ _ _ _ _ c.loop-metrics.invariant.written_so_far
           (written-then _ _ _ c.in_ok-end_text_run.ensures c.in_ok-put_spaces.ensures)
           (text-tab (context_view c.args.context) (line_view c.args.line) _ _ _ c.in-Some.metrics _
-          (g.C.CharCursor.left c.next_metrics.new.self) c.in-Some.ensures.next
-          c.text_style-style.ensures.style c.if-metrics-eq9.true));
+          (g.C.CharCursor.remaining c.next_metrics.new.self) c.in-Some.ensures.next
+          c.source_style-style.ensures.style c.if-metrics-eq9.true));
       over = n.over;
       same =
-          c.text_style-style.ensures.labels ∙ c.in-Some.ensures.labels
+          c.source_style-style.ensures.labels ∙ c.in-Some.ensures.labels
           ∙ c.loop-metrics.invariant.same;
       ordered = omega arith;
       within = n.over.within;
@@ -94,17 +94,17 @@ loop-metrics-preserved-in_ok-end_text_run-2 g c =
     (rw c.as_bytes-text.ensures.value n.text_left)
     (n.bytes ∙ sym (length-encode c.in-Some.metrics.ch)) in
     let none : c.loop-metrics.end - c.loop-metrics.end ≡ 0 = omega arith in
-    rw c.text_style-style.ensures.left record {
+    rw c.source_style-style.ensures.remaining record {
       written_so_far =
           rw (grows, none)
           (StillToWrite-more _ _ _ _ _ _ _ c.loop-metrics.invariant.written_so_far
           c.in_ok-end_text_run-2.ensures
           (text-turn (context_view c.args.context) (line_view c.args.line) _ _ _ c.in-Some.metrics _
-          (g.C.CharCursor.left c.next_metrics.new.self) c.in-Some.ensures.next
-          c.text_style-style.ensures.style c.if-metrics-eq9.false));
+          (g.C.CharCursor.remaining c.next_metrics.new.self) c.in-Some.ensures.next
+          c.source_style-style.ensures.style c.if-metrics-eq9.false));
       over = n.over;
       same =
-          c.text_style-style.ensures.labels ∙ c.in-Some.ensures.labels
+          c.source_style-style.ensures.labels ∙ c.in-Some.ensures.labels
           ∙ c.loop-metrics.invariant.same;
       ordered = omega arith;
       within = n.over.within;
@@ -113,22 +113,22 @@ loop-metrics-preserved-in_ok-end_text_run-2 g c =
 pub loop-metrics-preserved : goal.loop-metrics-preserved
 loop-metrics-preserved g c =
     let n = over-next _ _ _ _ _ _ c.in-Some.ensures.next c.loop-metrics.invariant.over in
-    let same : c.loop-metrics.previous ≡ c.text_style-style.result = search rules in
+    let same : c.loop-metrics.previous ≡ c.source_style-style.result = search rules in
     let grows = piece-grows c.as_bytes-text.result.now c.loop-metrics.start c.loop-metrics.end
     (encode_utf8 c.in-Some.metrics.ch) c.in-Some.metrics.bytes c.loop-metrics.invariant.ordered
     (rw c.as_bytes-text.ensures.value n.text_left)
     (n.bytes ∙ sym (length-encode c.in-Some.metrics.ch)) in
     let rest =
     text-same (context_view c.args.context) (line_view c.args.line) c.loop-metrics.previous
-    c.text_style-style.result
+    c.source_style-style.result
     (piece c.as_bytes-text.result.now c.loop-metrics.start c.loop-metrics.end) c.in-Some.metrics
-    _ (g.C.CharCursor.left c.next_metrics.new.self) c.in-Some.ensures.next
-    c.text_style-style.ensures.style c.if-metrics-eq9.false same in
-    rw c.text_style-style.ensures.left record {
+    _ (g.C.CharCursor.remaining c.next_metrics.new.self) c.in-Some.ensures.next
+    c.source_style-style.ensures.style c.if-metrics-eq9.false same in
+    rw c.source_style-style.ensures.remaining record {
       written_so_far = rw (same, grows) (rw rest at c.loop-metrics.invariant.written_so_far);
       over = n.over;
       same =
-          c.text_style-style.ensures.labels ∙ c.in-Some.ensures.labels
+          c.source_style-style.ensures.labels ∙ c.in-Some.ensures.labels
           ∙ c.loop-metrics.invariant.same;
       ordered = omega (arith, c.loop-metrics.invariant.ordered);
       within = n.over.within;
@@ -141,7 +141,7 @@ rest : (g : Over) (c : After-end_text_run-2 g)
     let line = line_view c.args.line in
     let run = piece c.as_bytes-text.result.now at.start at.end in
     (byte_stream run ++ style_change context.severity at.previous None) ++ byte_stream (drop at.end line.text)
-    ≡ text_rest context line at.previous run (g.C.CharCursor.left at.characters)
+    ≡ text_rest context line at.previous run (g.C.CharCursor.remaining at.cursor)
 rest g c =
     let at = c.loop-metrics in
     let context = context_view c.args.context in

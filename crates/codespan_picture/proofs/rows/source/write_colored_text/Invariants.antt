@@ -10,13 +10,13 @@ invariant-loop-metrics g l = record {
   written_so_far : StillToWrite (g.W.PutStyle.sink l.fn.w)
       (colored_text (context_view l.context) (line_view l.line))
       (text_rest (context_view l.context) (line_view l.line) l.previous (piece l.text l.start l.end)
-      (g.C.CharCursor.left l.characters))
+      (g.C.CharCursor.remaining l.cursor))
       (g.W.PutStyle.sink l.w);
-  over : IsOver l.context.tab_width l.line.text.now l.end (g.C.CharCursor.left l.characters);
-  same : g.C.CharCursor.labels l.characters ≡ l.line.labels.now;
+  over : IsOver l.context.tab_width l.line.text.now l.end (g.C.CharCursor.remaining l.cursor);
+  same : g.C.CharCursor.labels l.cursor ≡ l.line.labels.now;
   ordered : l.start ≤ l.end;
   within : l.end ≤ length l.line.text.now;
 }
 
 abbrev pub decreases-loop-metrics : goal.decreases-loop-metrics
-decreases-loop-metrics g l = length (g.C.CharCursor.left l.characters)
+decreases-loop-metrics g l = length (g.C.CharCursor.remaining l.cursor)

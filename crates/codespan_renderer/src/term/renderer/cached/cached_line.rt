@@ -40,7 +40,7 @@ pub struct CachedCursor<'cache, 'row, 'd> {
 }
 
 impl<'cache, 'row, 'd> CharCursor for CachedCursor<'cache, 'row, 'd> {
-    ghost left = { λ s. remaining_from_cache s.characters };
+    ghost remaining = { λ s. remaining_from_cache s.characters };
 
     ghost labels = { λ s. s.label_cursor.labels.now };
 
@@ -215,9 +215,9 @@ impl<'cache, 'row, 'd> LineCharacters for CachedLine<'cache, 'row, 'd> {
         context: RowContext<'_>,
         _line: Line<'_, '_>,
         _messages: Messages<'_, '_>,
-        before: usize,
+        byte_index: usize,
     ) -> Result<(), W::Error> {
-        let edge = self.width_before(before);
-        write_pointers(w, context, self.pointers, before, edge)
+        let edge = self.width_before(byte_index);
+        write_pointers(w, context, self.pointers, byte_index, edge)
     }
 }

@@ -1,5 +1,5 @@
 use Rattle.std.proofs.Common.{ap}
-use Rattle.codespan_base.specs.StyleTables.{ansi_spelling}
+use Rattle.codespan_base.specs.StyleSpellings.{ansi_spelling}
 use Rattle.codespan_structs.proofs.convert.config.spelling_of.Goals as goal
 
 pub returns-in-1 : goal.returns-in-1

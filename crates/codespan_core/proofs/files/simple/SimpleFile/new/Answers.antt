@@ -2,7 +2,7 @@ use Rattle.std.proofs.Common.{ℕ, Ok, ap, ◌∙◌, rules}
 use Rattle.std.proofs.lemmas.Iterator.{items_from_collect}
 use Rattle.std.proofs.lemmas.Iterator.Consumers.{YieldsList-from_first}
 use Rattle.codespan_core.specs.Lines.{line_starts_of}
-use Rattle.codespan_core.specs.LineStarts.{starts_left}
+use Rattle.codespan_core.specs.LineStarts.{remaining_starts}
 use Rattle.codespan_core.proofs.files.simple.SimpleFile.new.Goals as goal
 
 pub invariant_of-result-clause-utf8 : goal.invariant_of-result-clause-utf8
@@ -15,5 +15,5 @@ invariant_of-result-clause-fits g c = search rules depth 2 fits 100
 pub invariant_of-result-clause-starts : goal.invariant_of-result-clause-starts
 invariant_of-result-clause-starts g c =
     items_from_collect {E = ℕ} (Ok c.in_ok-line_starts.line_starts) c.in_ok-line_starts.ensures.ran
-    (YieldsList-from_first (λ x. x) starts_left _
+    (YieldsList-from_first (λ x. x) remaining_starts _
     (c.line_starts.ensures ∙ ap line_starts_of c.as_str.ensures))

@@ -18,10 +18,10 @@ returns g c =
     let text = ap (λ (x : CharInput). x.text) c.requires.input in
     let labels = ap (λ (x : CharInput). x.labels) c.requires.input in
     let near = subst
-    (λ (xs : List SingleLabelTuple). c.args.before ≤ max_label_start (single_label_views xs))
+    (λ (xs : List SingleLabelTuple). c.args.byte_index ≤ max_label_start (single_label_views xs))
     (sym labels) c.requires.within_max_start in
     let drawn = spaced-near (context_view c.args.context) (single_label_views s.line.labels.now) cs
-    s.pointers.now c.args.before c.width_before-edge.result
+    s.pointers.now c.args.byte_index c.width_before-edge.result
     (char_metrics-consecutive s.tab_width 0 0 (chars s.line.text.now)) near s.found
     c.width_before-edge.ensures in
     rw (rw (tab, text, labels) at drawn) at c.write_pointers.ensures

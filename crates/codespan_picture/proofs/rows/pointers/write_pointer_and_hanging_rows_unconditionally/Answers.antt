@@ -1,6 +1,6 @@
 use Rattle.codespan_core.proofs.Chains.{written-then, failed-then, failed-before, failed, writes-last}
 use Rattle.codespan_picture.proofs.Pieces.{before-near, after-near}
-use Rattle.codespan_picture.proofs.rows.pointers.write_pointers_and_messages.Goals as goal
+use Rattle.codespan_picture.proofs.rows.pointers.write_pointer_and_hanging_rows_unconditionally.Goals as goal
 
 pub returns-in_err-write_pointer_row : goal.returns-in_err-write_pointer_row
 returns-in_err-write_pointer_row g c =

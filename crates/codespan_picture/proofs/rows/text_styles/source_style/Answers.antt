@@ -9,8 +9,8 @@ use Rattle.codespan_picture.specs.RowParts.{multi_label_covers, source_style}
 use Rattle.codespan_picture.specs.Rows.{Line}
 use Rattle.codespan_picture.specs.Types.{Primary}
 use Rattle.codespan_picture.specs.Private.LineViews.{line_view}
-use Rattle.codespan_picture.proofs.rows.text_styles.text_style.Goals.{then-is_covered_by_primary, else-is_covered_by_primary}
-use Rattle.codespan_picture.proofs.rows.text_styles.text_style.Goals as goal
+use Rattle.codespan_picture.proofs.rows.text_styles.source_style.Goals.{then-is_covered_by_primary, else-is_covered_by_primary}
+use Rattle.codespan_picture.proofs.rows.text_styles.source_style.Goals as goal
 
 -- the style, by whether a primary label inside the line covers the character, and whether a
 -- multi-line one does

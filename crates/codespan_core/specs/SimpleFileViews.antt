@@ -1,4 +1,4 @@
--- What contracts see of a `SimpleFile`: its name, its source and its file.
+-- What contracts see of a `SimpleFile`: its name, its source, its text and its file.
 use Rattle.std.specs.Prelude.{ℕ, List, Option}
 use Rattle.std.specs.declared.convert.AsStr.{Ghosts}
 use Rattle.codespan_core.specs.declared.files.simple.SimpleFile.{SimpleFile}
@@ -18,6 +18,6 @@ module _ {Name Source : Type 0} {texts : Ghosts Source} where
   abbrev pub file_text_of : SimpleFile Name Source texts → List ℕ
   file_text_of file = texts.text file.source
 
-  -- the file that the lookups of a `SimpleFile` describe, where `output` is what names display
+  -- the file that the lookups of a `SimpleFile` describe, where `displayed` is what names display
   abbrev pub file_of : (Name → Option (List ℕ)) → SimpleFile Name Source texts → FileModel
-  file_of output file = simple_file (output (name_of file)) (file_text_of file)
+  file_of displayed file = simple_file (displayed (name_of file)) (file_text_of file)
