@@ -133,7 +133,8 @@ pub line_of_below : (starts : List ℕ) (byte : ℕ) → 0 < length starts
 unfolding line_of
 line_of_below starts byte h = omega (arith, count_by-le-length (λ s. nat_le s byte) starts)
 
--- a later byte is not on an earlier line
+-- a later byte is not on an earlier line: for `positions_ascend`, `bars_are_labels` and
+-- `breaks_have_bars`
 one-later : (s a b : ℕ) → a ≤ b → cond (nat_le s a) 1 0 ≤ cond (nat_le s b) 1 0
 one-later s a b h =
     elim (cases_lt a s) [
