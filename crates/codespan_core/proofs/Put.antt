@@ -36,44 +36,36 @@ put-with_written s bs n t h p =
           ∙ ap (append_known s.contents) (sym (spelled-byte_stream s.frame.spelling (take n bs)))),
     )
 
+-- none of the bytes were written
+none_written : (s : Sink) (bs : List ℕ) (t : Sink) → t.contents ≡ append_known s.contents []
+    → PrefixWritten s (byte_stream bs) t
+unfolding extended
+none_written s bs t same = record {
+  prefix = [];
+  rest = bs;
+  whole = sym (spelled-byte_stream s.frame.spelling bs);
+  contents = same;
+}
+
 -- a `put` that took none of some bytes, as a failed stream
 pub put-none : (s : Sink) (bs : List ℕ) (n : ℕ) (t : Sink) → n ≡ 0 → 0 < length bs
     → (t.frame ≡ after_put s.frame bs n)
     × (is_known s ≡ true → t.contents ≡ append_known s.contents (take n bs))
     → (t.frame ≡ failed_frame s.frame) × (is_known s ≡ true → PrefixWritten s (byte_stream bs) t)
-unfolding extended
 put-none s bs n t e h p =
     let f : t.frame ≡ failed_frame s.frame = p.0 ∙ after_put-none s.frame bs n e h in (
       f,
-      λ known. record {
-        prefix =
-            [];
-        rest =
-            bs;
-        whole =
-            sym (spelled-byte_stream s.frame.spelling bs);
-        contents =
-            p.1 known ∙ ap (λ (k : ℕ). append_known s.contents (take k bs)) e;
-      },
+      λ known. none_written s bs t
+          (p.1 known ∙ ap (λ (k : ℕ). append_known s.contents (take k bs)) e),
     )
 
 -- a `put` that failed, as a failed stream
 pub put-failed : (s : Sink) (bs : List ℕ) (t : Sink)
     → (t.frame ≡ failed_frame s.frame) × (is_known s ≡ true → t.contents ≡ s.contents)
     → (t.frame ≡ failed_frame s.frame) × (is_known s ≡ true → PrefixWritten s (byte_stream bs) t)
-unfolding extended
 put-failed s bs t p = (
   p.0,
-  λ known. record {
-    prefix =
-        [];
-    rest =
-        bs;
-    whole =
-        sym (spelled-byte_stream s.frame.spelling bs);
-    contents =
-        p.1 known ∙ sym (append_known-nil s.contents);
-  },
+  λ known. none_written s bs t (p.1 known ∙ sym (append_known-nil s.contents)),
 )
 
 -- the bytes that were taken, and those that are left

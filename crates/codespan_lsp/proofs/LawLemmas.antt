@@ -7,7 +7,7 @@ use Rattle.std.proofs.lemmas.Str.{IsUtf8-between, chars-append, chars_past_char,
 use Rattle.std.specs.Str.{chars, IsUtf8, IsCharBoundary}
 use Rattle.codespan_base.specs.FileModel.{FileModel, line_count, line_of, line_start, line_text}
 use Rattle.codespan_base.specs.LawfulFiles.{IsLawful, line_end}
-use Rattle.codespan_base.specs.Lemmas.Lines.{line_of_below}
+use Rattle.codespan_base.specs.Lemmas.Lines.{line_of_below, line_of-rises}
 use Rattle.codespan_base.specs.declared.files.Error.TheVariants.{InvalidCharBoundary}
 use Rattle.codespan_lsp.specs.Units.{total_units, code_units, prefix_within}
 use Rattle.codespan_lsp.specs.Positions.{units_before, position_of, IsByteAt, character_failure}
@@ -15,7 +15,7 @@ use Rattle.codespan_lsp.specs.PositionLaws.{IsOnLine, RoundTrip, IsEarlierPositi
 use Rattle.codespan_lsp.specs.declared.encoding.PositionEncoding.{PositionEncoding}
 use Rattle.codespan_lsp.specs.declared.positions.Position.{Position}
 use Rattle.codespan_lsp.proofs.UnitLemmas.{code_units-append, code_units-some}
-use Rattle.codespan_lsp.proofs.LineLemmas.{line_of-start, line_of-rises}
+use Rattle.codespan_lsp.proofs.LineLemmas.{line_of-start}
 use Rattle.codespan_lsp.proofs.PrefixLemmas.{prefix-exact, prefix-inside}
 use Rattle.codespan_lsp.proofs.CutLemmas.{prefix-is-at}
 use Rattle.codespan_lsp.proofs.ErrorLemmas.{character_failure-none, character_failure-past, character_failure-inside}

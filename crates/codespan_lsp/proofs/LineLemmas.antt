@@ -1,8 +1,8 @@
 -- Facts on the line of a byte, for the clauses of `positions`.
 use Rattle.std.proofs.Common.{◌≡◌, ℕ, zero, suc, ◌+◌, ◌<◌, ◌≤◌, List, [], ◌∷◌, length, get_or, cond, refl, ◌∙◌, arith, inl, inr}
 use Rattle.std.specs.Prelude.{count_by, nat_le}
-use Rattle.std.proofs.lemmas.Bool.{cases_lt, le-leb, lt-leb}
-use Rattle.std.proofs.lemmas.List.Sums.{sum_by-cons, sum_by-le-sum_by}
+use Rattle.std.proofs.lemmas.Bool.{cases_lt, le-leb}
+use Rattle.std.proofs.lemmas.List.Sums.{sum_by-cons}
 use Rattle.codespan_base.specs.FileModel.{FileModel, line_of, line_start}
 use Rattle.codespan_base.specs.LawfulFiles.{IsLawful}
 use Rattle.codespan_base.specs.Lemmas.Lines.{count_split}
@@ -67,20 +67,3 @@ unfolding line_of
 line_of-start f law byte =
     counted-le byte f.starts law.ascending (line_of f.starts byte)
     (omega (arith, some-counted byte f.starts law.has_line law.first))
-
--- a later byte is on no earlier line
-one-later : (s a b : ℕ) → a ≤ b → cond (nat_le s a) 1 0 ≤ cond (nat_le s b) 1 0
-one-later s a b h =
-    elim (cases_lt a s) [
-      | inl p ↦ rw (lt-leb s a p) (omega arith)
-      | inr p ↦ rw (le-leb s a p, le-leb s b (omega (arith, p))) (omega arith)
-    ]
-
-pub line_of-rises : (starts : List ℕ) (a b : ℕ) → a ≤ b → line_of starts a ≤ line_of starts b
-unfolding line_of
-line_of-rises starts a b h =
-    omega (
-      arith,
-      sum_by-le-sum_by (λ s. cond (nat_le s a) 1 0) (λ s. cond (nat_le s b) 1 0) starts
-          (λ s. one-later s a b h),
-    )

@@ -6,9 +6,10 @@ use Rattle.std.specs.List.{list_any}
 use Rattle.std.proofs.lemmas.Bool.{cases_lt, and_parts, false≢true, and_from}
 use Rattle.std.proofs.lemmas.Bool.Decides.{nat_tests}
 use Rattle.std.proofs.lemmas.List.Folds.{list_any_at}
-use Rattle.std.proofs.lemmas.List.Sums.{sum_by-le-sum_by, count_by-le-length}
+use Rattle.std.proofs.lemmas.List.Sums.{count_by-le-length}
 use Rattle.codespan_core.specs.declared.term.config.Layout.{Layout}
 use Rattle.codespan_core.specs.FileModel.{line_of, line_count}
+use Rattle.codespan_core.specs.Lemmas.Lines.{line_of-rises}
 use Rattle.codespan_core.specs.declared.term.config.Config.{Config}
 use Rattle.codespan_core.specs.Labels.{LabelModel, is_single, first_line, last_line}
 use Rattle.codespan_picture.specs.RichLaws.{NoneReversed}
@@ -17,24 +18,6 @@ use Rattle.codespan_picture.specs.LineLaws.{BreaksHaveBars}
 use Rattle.codespan_picture.specs.Lines.{shows, is_shown}
 use Rattle.codespan_picture.specs.Snippets.{LabeledFileModel}
 use Rattle.codespan_picture.proofs.BarLemmas as bars
-
--- a later byte is not on an earlier line
-one-later : (s a b : ℕ) → a ≤ b → cond (nat_le s a) 1 0 ≤ cond (nat_le s b) 1 0
-one-later s a b h = by_test (nat_le s a) refl
-  where
-    by_test : (v : Bool) → nat_le s a ≡ v → cond v 1 0 ≤ cond (nat_le s b) 1 0
-    by_test true is = let later : nat_le s b ≡ true = grind (arith, nat_tests) in
-        rw later (omega arith)
-    by_test false is = omega arith
-
-pub line_of-rises : (starts : List ℕ) (a b : ℕ) → a ≤ b → line_of starts a ≤ line_of starts b
-unfolding line_of
-line_of-rises starts a b h =
-    omega (
-      arith,
-      sum_by-le-sum_by (λ s. cond (nat_le s a) 1 0) (λ s. cond (nat_le s b) 1 0) starts
-          (λ s. one-later s a b h),
-    )
 
 -- what a filter keeps is in the list and passes the test
 pub kept : (p : LabelModel → Bool) (xs : List LabelModel) (k : ℕ) (x : LabelModel)

@@ -1,4 +1,4 @@
--- What each call of `Renderer` renders, by its arguments.
+-- What the calls of `Renderer` render, by their arguments; `render_empty` renders a newline.
 use Rattle.std.specs.Prelude.{ℕ, List, ◌∷◌, ◌++◌, Option, [], flat_map}
 use Rattle.std.specs.Option.{option_map}
 use Rattle.std.specs.Borrow.{Bor}

@@ -1,4 +1,4 @@
--- The law of texts: the bytes of an output are UTF-8, and no style mark is inside a character.
+-- The law of UTF-8: the bytes of an output are UTF-8, and no style mark is inside a character.
 use Rattle.std.specs.Prelude.{ℕ, List, [], ◌∷◌, ◌++◌, IfSome}
 use Rattle.std.specs.Char.{IsScalar}
 use Rattle.std.specs.Str.{IsUtf8}
@@ -45,7 +45,7 @@ pub record CharsAreScalars (chars : Chars) : Type 0 where
 
 module _ {Id : Type 0} (display_style : DisplayStyle) (renderer_config view_config : Config)
     (files : FileDatabase Id) (d : Diagnostic Id) where
-  -- the output with any loci is a text where the characters of the configuration are Unicode
+  -- the output with any loci is UTF-8 where the characters of the configuration are Unicode
   -- scalar values, its files are lawful, and the names of the loci are UTF-8
   abbrev pub OutputIsUtf8 : Type 0
   OutputIsUtf8 = CharsAreScalars renderer_config.chars → ((id : Id) → IsLawful (files.file id))

@@ -1,4 +1,4 @@
--- the definitions of the crates below: files, labels, streams, writers, style tables
+-- the definitions of the crates below: files, labels, streams, writers, styles of the output
 pub use Rattle.codespan_base.specs.FileModel
 pub use Rattle.codespan_base.specs.LawfulFiles
 pub use Rattle.codespan_base.specs.SimpleModel

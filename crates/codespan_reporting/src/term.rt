@@ -2,7 +2,7 @@
 //!
 //! The five calls that emit take a [`Config`], a file database and a diagnostic. [`RichDiagnostic`]
 //! and [`ShortDiagnostic`] render to the caller's [`Renderer`], whose calls render row by row.
-//! Their names are the Rust crate's.
+//! The names of these calls and types are the Rust crate's.
 
 pub mod renderer;
 pub mod views;

@@ -30,7 +30,7 @@ worked_definitions = tt
 abbrev pub text_file : List ℕ → List ℕ → FileModel
 text_file name text = simple_file (Some (encode_utf8_all name)) (encode_utf8_all text)
 
--- a label of these bytes in the file of a number
+-- a label of these bytes in the file with this id
 abbrev pub label : LabelStyle → ℕ → ℕ → ℕ → List ℕ → LabelInFile ℕ
 label style id start end message = record {
   file_id = id;
@@ -81,7 +81,7 @@ with_code code diagnostic = record diagnostic { code = Some (encode_utf8_all cod
 abbrev pub with_note : List ℕ → DiagnosticText → DiagnosticText
 with_note note diagnostic = record diagnostic { notes = encode_utf8_all note ∷ [] }
 
--- the file of a number
+-- the file with this id
 abbrev pub file_by_id : List FileModel → ℕ → FileModel
 file_by_id files id = option_map_or (λ f. f) (slice_get files id) missing_file
 
@@ -132,7 +132,7 @@ tabbed_file = text_file (codes "tabbed") (codes "Entity:\n\tArmament:\n\t\tWeapo
 
 -- ---- rows of direct calls
 
--- a line with labels inside it alone
+-- a line with single-line labels alone, and no lanes
 abbrev pub line_of_labels : ℕ → List ℕ → List (LabelInFile ℕ) → Line
 line_of_labels number text labels = record {
   number = number;
@@ -162,11 +162,11 @@ one_of_many i =
 abbrev pub many_labels : List (LabelInFile ℕ)
 many_labels = map one_of_many (range_with_len 0 200)
 
--- those of even numbers
+-- those at even indices
 abbrev pub evens : List (LabelInFile ℕ)
 evens = map (λ k. one_of_many (2 * k)) (range_with_len 0 100)
 
--- those of odd numbers
+-- those at odd indices
 abbrev pub odds : List (LabelInFile ℕ)
 odds = map (λ k. one_of_many (2 * k + 1)) (range_with_len 0 100)
 

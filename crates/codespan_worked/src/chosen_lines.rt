@@ -1,4 +1,4 @@
-//! Worked outputs of shown lines, several files and notes.
+//! Worked outputs of shown lines, several files, notes and scripts.
 
 ghost use Rattle.std.specs.Prelude.{◌≡◌, ◌++◌, [], ◌∷◌, codes};
 ghost use Rattle.codespan_base.specs.Defaults.{default_config};

@@ -1,4 +1,4 @@
-//! Worked rows of labels and multi-line label marks as a caller may pass them.
+//! Worked rows of labels as a caller may pass them, and which lanes are in order.
 
 ghost use Rattle.std.specs.Prelude.{◌≡◌, ◌∷◌, [], codes, true, false};
 ghost use Rattle.codespan_base.specs.Defaults.{default_config};

@@ -1,5 +1,5 @@
-//! Worked outputs: each function does nothing, and its contract is one output, computed from the
-//! definitions.
+//! Worked outputs: each function does nothing, and its contract states outputs, or what is true of
+//! them, computed from the definitions.
 #![tactic(auto, unfolding(crate::specs::Worked::worked_definitions))]
 
 mod chosen_lines;

@@ -1,4 +1,5 @@
-//! Worked outputs over files whose line numbers are set, and of many labels in several orders.
+//! Worked outputs over files with other line numbers, over a missing file, and of many labels in
+//! several orders.
 
 ghost use Rattle.std.specs.Prelude.{◌≡◌, ℕ, List, ◌∷◌, [], ◌++◌, codes, reverse, Some, None};
 ghost use Rattle.codespan_base.specs.Defaults.{default_config};
@@ -54,8 +55,8 @@ fn missing_file_short()
         (header_lookups_of (label Primary 7 0 1 [])) ≡ Some FileMissing }
 {}
 
-/// Computes the output of two hundred labels on fifty lines: neither the reverse order nor the odd
-/// ones first change it.
+/// Computes the output of two hundred labels on fifty lines: it is the same in reverse order, and
+/// with the labels at odd indices first.
 fn label_orders()
     ensures reversed { text_of
         (rich default_config (message_only Error []) (many_lines ∷ []) (reverse many_labels))

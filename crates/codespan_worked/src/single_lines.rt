@@ -191,7 +191,7 @@ fn tab_stops_0()
         ∷ [] ∷ []) }
 {}
 
-/// Shows that the characters that a range cuts have all their carets.
+/// Shows that a character inside which a range starts or ends has a caret in each of its cells.
 fn moon_jump()
     ensures { text_of (rich default_config (message_only Note (codes "invalid unicode range"))
         (text_file (codes "moon_jump.rs") (codes "🐄🌑🐄🌒🐄🌓🐄🌔🐄🌕🐄🌖🐄🌗🐄🌘🐄") ∷ [])

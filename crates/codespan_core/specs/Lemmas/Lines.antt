@@ -1,10 +1,10 @@
 -- For the law of `Files`, and for `next` of `LineStarts`: facts on line starts.
 use Rattle.std.proofs.Common.{◌≡◌, ℕ, zero, suc, ◌+◌, ◌-◌, ◌^◌, ◌<◌, ◌≤◌, Bool, true, false, cond, List, [], ◌∷◌, length, get_or, drop, refl, ◌∙◌, arith, eqb, inl, inr}
 use Rattle.std.specs.Prelude.{◌≢◌, if◌then◌else◌, count_by, nat_le, slice_index}
-use Rattle.std.proofs.lemmas.Bool.{eqb-true, eq-eqb, le-leb, lt-leb}
+use Rattle.std.proofs.lemmas.Bool.{cases_lt, eqb-true, eq-eqb, le-leb, lt-leb}
 use Rattle.std.proofs.lemmas.Bool.Decides.{eqb_tells}
 use Rattle.std.proofs.lemmas.List.{drop_more, drop_all}
-use Rattle.std.proofs.lemmas.List.Sums.{sum_by-cons, count_by-le-length}
+use Rattle.std.proofs.lemmas.List.Sums.{sum_by-cons, sum_by-le-sum_by, count_by-le-length}
 use Rattle.codespan_core.specs.Lines.{starts_after}
 use Rattle.codespan_core.specs.FileModel.{FileModel, line_count, line_of}
 use Rattle.codespan_core.specs.LawfulFiles.{IsLawful}
@@ -132,6 +132,24 @@ pub line_of_below : (starts : List ℕ) (byte : ℕ) → 0 < length starts
     → line_of starts byte < length starts
 unfolding line_of
 line_of_below starts byte h = omega (arith, count_by-le-length (λ s. nat_le s byte) starts)
+
+-- a later byte is not on an earlier line: for `positions_ascend`, `bars_are_labels` and
+-- `breaks_have_bars`
+one-later : (s a b : ℕ) → a ≤ b → cond (nat_le s a) 1 0 ≤ cond (nat_le s b) 1 0
+one-later s a b h =
+    elim (cases_lt a s) [
+      | inl p ↦ rw (lt-leb s a p) (omega arith)
+      | inr p ↦ rw (le-leb s a p, le-leb s b (omega (arith, p))) (omega arith)
+    ]
+
+pub line_of-rises : (starts : List ℕ) (a b : ℕ) → a ≤ b → line_of starts a ≤ line_of starts b
+unfolding line_of
+line_of-rises starts a b h =
+    omega (
+      arith,
+      sum_by-le-sum_by (λ s. cond (nat_le s a) 1 0) (λ s. cond (nat_le s b) 1 0) starts
+          (λ s. one-later s a b h),
+    )
 
 module _ (f : FileModel) (law : IsLawful f) where
   -- each line before a line has at least one byte

@@ -1,4 +1,4 @@
--- What the rows of a line are rendered from, by the structs of `rows::line` and `rows::lanes`.
+-- What the rows of a line are rendered from, by the structs of `rows::line` and the enum of `rows::lanes`.
 use Rattle.std.specs.Prelude.{ℕ, Option}
 use Rattle.std.specs.Option.{option_map}
 use Rattle.codespan_core.specs.Streams.{Stream}

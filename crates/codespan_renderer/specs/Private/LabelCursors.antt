@@ -6,7 +6,7 @@ use Rattle.codespan_renderer.specs.declared.term.renderer.cached.label_cursor.La
 use Rattle.codespan_picture.specs.Arguments.{single_label_views, starts_in_order}
 use Rattle.codespan_picture.specs.Private.CharCursors.{is_covered}
 
--- the greatest end with that of a label that counts; one that covers no byte does not count
+-- the greatest end with that of a label that meets the test, if it covers a byte
 abbrev pub end_with : Bool → ℕ → LabelModel → ℕ
 end_with counts end x = if counts && nat_lt x.start x.end then max end x.end else end
 

@@ -32,7 +32,7 @@ pointers_in hanging_labels cs =
 abbrev pub pointers_before : ℕ → List Pointer → List Pointer
 pointers_before byte_index ps = filter (λ (p : Pointer). nat_lt p.byte_index byte_index) ps
 
--- pointers from a column on, with spaces between them and up to the edge
+-- pointers from a column on, with spaces between them and up to the column `edge`
 abbrev pub spaced : RowContext → ℕ → ℕ → List Pointer → Stream
 spaced context edge column [] = spaces (edge - column)
 spaced context edge column (p ∷ ps) =

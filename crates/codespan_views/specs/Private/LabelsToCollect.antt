@@ -134,7 +134,7 @@ module _ {Id : Type 0} (x : LabelToCollect Id) where
       failure_in x.failure x.file_id
       (label_line_lookups x.config x.file (x.failure x.file_id) x.label)
 
--- where the call returns `true`: the context lines go on
+-- where the call returns `true`: the file has not ended
 abbrev pub IfContinues : Result Bool Error → Type 0 → Type 0
 IfContinues r P = IfOk r (λ goes_on. goes_on ≡ true → P)
 

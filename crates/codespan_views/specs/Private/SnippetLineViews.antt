@@ -54,7 +54,7 @@ lookups_of_line (rust.Break next_annotations) = []
 abbrev pub lookups_of_lines : {Id : Type 0} → List (RustLine Id) → List Lookup
 lookups_of_lines snippet_lines = flat_map lookups_of_line snippet_lines
 
--- the line is one of the file's snippet: a labeled line is as its lookups return it, and a known
+-- the line is one of the file's snippet: a shown line is as its lookups return it, and a known
 -- number is that of the line
 abbrev pub IsSnippetLineOf : {Id : Type 0} → FileModel → RustLine Id → Type 0
 IsSnippetLineOf f (rust.Labeled line annotations) = IsLineOf f line

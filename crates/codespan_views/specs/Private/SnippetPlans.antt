@@ -83,7 +83,7 @@ abbrev pub collected_plan_failure : {Id : Type 0} → Layout → Failures Id →
 collected_plan_failure layout failure collected =
     first_error failure (collected_plan_lookups layout collected)
 
--- the digits of the known number of a line
+-- the digit count of the known number of a line, if it is known
 abbrev pub line_digit_counts : {Id : Type 0} → RustLine Id → List ℕ
 line_digit_counts (rust.Labeled line annotations) = count_digits line.number ∷ []
 line_digit_counts (rust.Filled index (Some number) annotations) = count_digits number ∷ []

@@ -1,5 +1,5 @@
--- The digits of the numbers of the lines that labels span, for the padding width in the classic
--- layout.
+-- The digit counts of the numbers of the lines that labels span, for the padding width in the
+-- classic layout.
 use Rattle.std.specs.Prelude.{ℕ, List, [], ◌∷◌, flat_map, if◌then◌else◌}
 use Rattle.std.specs.List.{range_with_len}
 use Rattle.codespan_core.specs.FileModel.{FileModel, line_count}
@@ -7,7 +7,7 @@ use Rattle.codespan_core.specs.Labels.{LabelModel}
 use Rattle.codespan_picture.specs.Padding.{count_digits, spans}
 use Rattle.codespan_picture.specs.Snippets.{LabelInFile}
 
--- those of a line's number, where the label spans it
+-- that of a line's number, where the label spans it
 abbrev pub digit_count_if_spanned : FileModel → LabelModel → ℕ → List ℕ
 digit_count_if_spanned f x l = if spans f x l then count_digits (f.line_number l) ∷ [] else []
 

@@ -136,7 +136,7 @@ fn follow_chains<'d, FileId>(
 
 /// Returns the index of the annotation's bucket: each line from the 0-based `first_line` on has one
 /// for each rank. For another line the index is past the last bucket, unless the line is so far
-/// away that the product wraps; `put_in_order` tests the order afterwards.
+/// away that the product wraps back to one; `put_in_order` tests the order afterwards.
 fn bucket_of<FileId>(annotation: &Annotation<'_, FileId>, first_line: usize) -> usize {
     let line = annotation.line.index.wrapping_sub(first_line);
     line.wrapping_mul(RANK_COUNT).wrapping_add(rank(annotation))

@@ -7,7 +7,7 @@ ghost use Rattle.codespan_base.specs.declared.diagnostic.Severity.TheVariants.{E
 ghost use Rattle.codespan_base.specs.declared.diagnostic.LabelStyle.TheVariants.{Primary, Secondary};
 ghost use Rattle.codespan_worked.specs.Worked.{text_file, label, message_only, rich, rows, ansi};
 
-/// Shows that a multi-line label colors its last line up to its end, and no character that reaches
+/// Shows that a primary multi-line label colors its last line up to its end, and no character that reaches
 /// past it.
 fn bottom_colors_to_its_end()
     ensures { spelled ansi (rich default_config (message_only Error [])
@@ -25,7 +25,7 @@ fn bottom_colors_to_its_end()
         ∷ [] ∷ []) }
 {}
 
-/// Shows that a multi-line label colors its first line from its start.
+/// Shows that a primary multi-line label colors its first line from its start.
 fn top_colors_from_its_start()
     ensures { spelled ansi (rich (record default_config { end_context_lines = 0 })
         (message_only Error [])

@@ -1,20 +1,29 @@
-use Rattle.std.proofs.Common.{List, ℕ, IfSome, map, rules, string_bytes, subst, sym}
+use Rattle.std.proofs.Common.{◌≡◌, List, [], ℕ, Some, IfSome, map, rules, string_bytes, subst, sym}
 use Rattle.std.specs.Str.Lines.{lines}
 use Rattle.gallery_script.specs.declared.case.Case.{Case}
 use Rattle.gallery_script.specs.Cases.{AppliesLines}
 use Rattle.gallery_script.specs.Requests.{gallery_request_of, gallery_request_view}
 use Rattle.gallery_cases.specs.Requests.{IsResponseOf, IsRunError, IsResponseError}
 use Rattle.gallery_cases.proofs.Outcomes.{responded, requested, failed}
+use Rattle.gallery_cases.proofs.run.respond.Given.{Over}
+use Rattle.gallery_cases.proofs.run.respond.Goals.{After-as_slice}
 use Rattle.gallery_cases.proofs.run.respond.Goals as goal
+
+-- the request is that of the arguments, and the cases are those of the text
+found : (g : Over) (c : After-as_slice g)
+    → (gallery_request_of (map string_bytes c.args.args.now)
+    ≡ Some (gallery_request_view c.in_ok-request.request))
+    × AppliesLines (lines (string_bytes c.in_ok-text.text)) [] c.in_ok-cases.cases.items
+found g c = (
+  requested gallery_request_view c.from_arguments.result _ c.ok_or.result c.in_ok-request.request _
+      c.ok_or.ensures.value c.in_ok-request.was c.from_arguments.ensures,
+  subst (λ (t : List ℕ). AppliesLines (lines t) _ c.in_ok-cases.cases.items) c.as_str.ensures.value
+      c.in_ok-cases.ensures.cases,
+)
 
 pub returns-in_err-response-clause-reported : goal.returns-in_err-response-clause-reported
 returns-in_err-response-clause-reported g c =
-    let is_requested = requested gallery_request_view c.from_arguments.result _ c.ok_or.result
-    c.in_ok-request.request _ c.ok_or.ensures.value c.in_ok-request.was
-    c.from_arguments.ensures in
-    let read = c.in_ok-text.ensures.bytes in
-    let applied_lines = subst (λ (t : List ℕ). AppliesLines (lines t) _ c.in_ok-cases.cases.items)
-    c.as_str.ensures.value c.in_ok-cases.ensures.cases in
+    let of_input = found g (goal.at.returns-in_err-response-clause-reported g c).After-as_slice in
     let fails = subst
     (λ (cs : List Case). IsResponseError (gallery_request_view c.in_ok-request.request) cs
     c.in_err-response.field-0.0)
@@ -22,17 +31,13 @@ returns-in_err-response-clause-reported g c =
     let reported : IfSome (g.R.Read.remaining c.args.stdin.now)
     (IsRunError (gallery_request_of (map string_bytes c.args.args.now))
     c.in_err-response.field-0.0) =
-    failed _ _ _ _ c.in_ok-cases.cases.items _ is_requested read applied_lines fails in
+    failed _ _ _ _ c.in_ok-cases.cases.items _ of_input.0 c.in_ok-text.ensures.bytes of_input.1
+    fails in
     search rules
 
 pub returns-clause-rendered : goal.returns-clause-rendered
 returns-clause-rendered g c =
-    let is_requested = requested gallery_request_view c.from_arguments.result _ c.ok_or.result
-    c.in_ok-request.request _ c.ok_or.ensures.value c.in_ok-request.was
-    c.from_arguments.ensures in
-    let read = c.in_ok-text.ensures.bytes in
-    let applied_lines = subst (λ (t : List ℕ). AppliesLines (lines t) _ c.in_ok-cases.cases.items)
-    c.as_str.ensures.value c.in_ok-cases.ensures.cases in
+    let of_input = found g (goal.at.returns-clause-rendered g c).After-as_slice in
     let of_cases = subst
     (λ (cs : List Case). IsResponseOf (gallery_request_view c.in_ok-request.request) cs
     c.in_ok-response.response.items)
@@ -42,4 +47,4 @@ returns-clause-rendered g c =
     c.in_ok-cases.cases.items bytes)
     (sym c.as_slice-2.ensures.value) of_cases in
     responded _ _ _ _ c.as_slice-2.result.now c.in_ok-cases.cases.items c.write_output.result _
-    is_requested read applied_lines responds c.write_output.ensures.written
+    of_input.0 c.in_ok-text.ensures.bytes of_input.1 responds c.write_output.ensures.written
