@@ -109,25 +109,25 @@ static WITH_MESSAGE: Texts<'_> = Texts {
     ..INITIAL
 };
 
-/// The texts with another label.
+/// The texts with one more label.
 static WITH_LABEL: Texts<'_> = Texts {
     labels: &["a", "b"],
     ..INITIAL
 };
 
-/// The texts with two other labels.
+/// The texts with two more labels.
 static WITH_LABELS: Texts<'_> = Texts {
     labels: &["a", "b", "c"],
     ..INITIAL
 };
 
-/// The texts with another note.
+/// The texts with one more note.
 static WITH_NOTE: Texts<'_> = Texts {
     notes: &["n", "o"],
     ..INITIAL
 };
 
-/// The texts with two other notes.
+/// The texts with two more notes.
 static WITH_NOTES: Texts<'_> = Texts {
     notes: &["n", "o", "p"],
     ..INITIAL

@@ -48,7 +48,7 @@ impl Outcome {
         }
     }
 
-    /// Returns one word, or a few for a wrong outcome.
+    /// Returns one word, or a few for a wrong outcome or an unknown subject.
     fn words(&self) -> &'static str {
         match self {
             Outcome::Unknown => "no subject has this name",
@@ -65,7 +65,7 @@ impl Outcome {
     }
 }
 
-/// Writes one word, or a few for a wrong outcome.
+/// Writes one word, or a few for a wrong outcome or an unknown subject.
 impl fmt::Display for Outcome {
     fn fmt<W: Write>(&self, f: &mut fmt::Formatter<W>) -> fmt::Result {
         f.write_str(self.words())

@@ -80,8 +80,8 @@ pub fn judge_rendering(
     }
 }
 
-/// Makes a call over several files and judges it: in escape sequences, if it writes style marks
-/// and it is rendered in these.
+/// Makes a call over several files and judges it: in escape sequences, if the call writes style
+/// marks and the worked output has an output in colors.
 fn judge_several(alloc: Global, rendering: &Rendering<'_>) -> Result<Outcome, Error> {
     let mut files = SimpleFiles::new(alloc);
     for (name, source) in rendering.worked.files {

@@ -141,7 +141,7 @@ static STYLED_OR_LSP: [NamedSubject; 7] = [
     ),
 ];
 
-/// The call of `codespan_native`, and the calls that do not allocate.
+/// The call of `codespan_native`, by the name of its export, and the calls that do not allocate.
 static OTHERS: [NamedSubject; 3] = [
     ("codespan_emit", Subject::Native),
     (

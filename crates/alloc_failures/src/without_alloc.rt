@@ -236,7 +236,7 @@ fn are_defaults(files: &SimpleFiles<&str, &str>) -> bool {
         && is_ok_with(default_column_number(files, 0, 1, 7), 3)
 }
 
-/// Returns whether each lookup returns a style of the expected color, or a bold one.
+/// Returns whether the calls of `Styles` return styles of the expected colors, and a bold one.
 fn are_styles(styles: &Styles) -> bool {
     let color = Some(Color::Cyan);
     styles.header(Severity::Warning).fg == Some(Color::Yellow)

@@ -47,7 +47,7 @@ pub struct WorkedOutput<'text> {
     pub colored: Option<&'text str>,
 }
 
-/// An empty error, by the default configuration.
+/// An empty error, in the default configuration.
 const EMPTY: WorkedOutput<'static> = WorkedOutput {
     database: DatabaseKind::Several,
     display_style: DisplayStyle::Rich,

@@ -14,8 +14,8 @@ use Rattle.codespan_core.specs.SimpleModel.{simple_file, past_last_line_failure}
 abbrev pub mapped_ends : List ℕ → List ℕ
 mapped_ends text = map (λ s. s - 1) (starts_after 0 text) ++ length text ∷ []
 
--- the set number that line i counts from, after its line index: the nearest at the line or above
--- it, in a list whose line indices ascend
+-- the pair of a line index and its set number that line i counts from: the nearest at the line or
+-- above it, in a list whose line indices ascend
 abbrev pub nearest_set : List (ℕ × ℕ) → ℕ → Option (ℕ × ℕ)
 nearest_set [] i = None
 nearest_set (s ∷ ss) i = nearer (nearest_set ss i) (if nat_le s.0 i then Some s else None)

@@ -144,8 +144,8 @@ impl<FileId: Drop> Label<FileId> {
 ///
 /// The order of its labels decides the order of files, of lanes and of equal ranges in rich style,
 /// the order of headers in the other styles, and which error is returned where several lookups
-/// fail; nothing else. The Rust crate's documentation says that the order has no meaning, but its
-/// code does the same.
+/// fail; nothing else of an output. The Rust crate's documentation says that the order has no
+/// meaning, but its code does the same.
 ///
 /// # Examples
 ///

@@ -176,7 +176,7 @@ pub trait Files<'a> {
     /// # Errors
     ///
     /// - The error that `database` states, such as [`Error::FileMissing`] where there is no such
-    ///   file, or another one where the text can not be read.
+    ///   file, or another one where the text cannot be read.
     /// - [`Error::OutOfMemory`] where an allocation fails.
     fn source(&'a self, id: Self::FileId) -> Result<Self::Source, Error>
         ensures value { IfOk result (λ s. Self.Source.text s ≡ ((database self.now).file id).text) }
@@ -217,7 +217,7 @@ pub trait Files<'a> {
     /// Returns the column number of a byte on a line as users see it: in most databases the
     /// characters from the line's start to the byte, counted from 1, as
     /// [`default_column_number`](codespan_reporting::files::default_column_number) has it. Both
-    /// indices count from 0. An implementation can not call that function, since its proof would
+    /// indices count from 0. An implementation cannot call that function, since its proof would
     /// then rest on itself;
     /// [`column_number_by_default!`](codespan_base::column_number_by_default) expands to its body.
     ///
@@ -238,7 +238,7 @@ pub trait Files<'a> {
 
     /// Returns the line number and the column number of a byte, as users see them: in most
     /// databases as [`default_location`](codespan_reporting::files::default_location) has it. The
-    /// byte index counts from 0. An implementation can not call that function, since its proof
+    /// byte index counts from 0. An implementation cannot call that function, since its proof
     /// would then rest on itself; [`location_by_default!`](codespan_base::location_by_default)
     /// expands to its body.
     ///

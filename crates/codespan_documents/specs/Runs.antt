@@ -51,8 +51,8 @@ abbrev pub run_characters : List RunView → List ℕ
 run_characters runs = flat_map (λ (run : RunView). chars run.text) runs
 
 -- the text of each run is UTF-8
-abbrev pub AreTexts : List RunView → Type 0
-AreTexts runs = AllByRecursion (λ (run : RunView). IsUtf8 run.text) runs
+abbrev pub TextsAreUtf8 : List RunView → Type 0
+TextsAreUtf8 runs = AllByRecursion (λ (run : RunView). IsUtf8 run.text) runs
 
 -- ---- the runs of a styled text
 

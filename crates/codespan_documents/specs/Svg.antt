@@ -11,7 +11,7 @@ use Rattle.codespan_documents.specs.Glyphs.{after_glyph, cells_of, extent_from, 
 -- ---- characters
 
 -- a character below U+0020, U+FFFE or U+FFFF: an XML document can hold none of them but tab,
--- newline and carriage return, which are spelled otherwise
+-- newline and carriage return; tab and carriage return are written otherwise, a newline ends a row
 abbrev pub is_forbidden_in_xml : ℕ → Bool
 is_forbidden_in_xml c = nat_lt c 32 || (c == 65534) || (c == 65535)
 
@@ -57,7 +57,7 @@ weight_attribute false = []
 abbrev pub x_of : CellPosition → ℕ
 x_of position = 12 + 9 * position.column
 
--- the pixels above the baseline of a position: eighteen for each row
+-- the pixels above the baseline of a position: 25 in the first row, eighteen more in each other
 abbrev pub y_of : CellPosition → ℕ
 y_of position = 25 + 18 * position.row
 

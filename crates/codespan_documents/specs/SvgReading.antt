@@ -29,7 +29,7 @@ shown_in_svg c =
 abbrev pub shown_glyphs : List Glyph → List ℕ
 shown_glyphs glyphs = flat_map (λ (glyph : Glyph). shown_in_svg glyph.character) glyphs
 
--- what a document of runs shows: their text, after two line ends of its head and before one
+-- what a document of runs shows: their text, after the line ends of its first two tags, before one
 abbrev pub shown_svg_text : List RunView → List ℕ
 shown_svg_text runs = 10 ∷ 10 ∷ flat_map shown_in_svg (run_characters runs) ++ 10 ∷ []
 

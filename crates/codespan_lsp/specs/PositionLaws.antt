@@ -29,7 +29,7 @@ PositionsReturn = (encoding : PositionEncoding) (f : FileModel) (byte : ℕ)
 abbrev pub IsEarlierPosition : Position → Position → Type 0
 IsEarlierPosition p q = (p.line < q.line) ⊎ ((p.line ≡ q.line) × (p.character < q.character))
 
--- a later byte has a later position
+-- of two bytes on lines the later one has the later position
 abbrev pub PositionsAscend : Type 0
 PositionsAscend = (encoding : PositionEncoding) (f : FileModel) (a b : ℕ)
     → IsLawful f → IsOnLine f a → IsOnLine f b → a < b

@@ -6,17 +6,17 @@ use Rattle.std.specs.Str.{chars}
 use Rattle.codespan_lsp.specs.declared.encoding.PositionEncoding.{PositionEncoding}
 use Rattle.codespan_lsp.specs.declared.encoding.PositionEncoding.TheVariants.{Utf8, Utf16, Utf32}
 
--- the code units of a character
+-- how many code units a character has
 abbrev pub char_units : PositionEncoding → ℕ → ℕ
 char_units Utf8 c = len_utf8 c
 char_units Utf16 c = length (encode_utf16 c)
 char_units Utf32 c = 1
 
--- those of some characters
+-- how many some characters have
 abbrev pub total_units : PositionEncoding → List ℕ → ℕ
 total_units encoding cs = sum_by (char_units encoding) cs
 
--- those of a text
+-- how many a text has
 abbrev pub code_units : PositionEncoding → List ℕ → ℕ
 code_units encoding text = total_units encoding (chars text)
 

@@ -8,7 +8,7 @@ pub fn positions_return()
     ensures { PositionsReturn }
 {}
 
-/// States that a later byte has a later position.
+/// States that of two bytes on lines the later one has the later position.
 pub fn positions_ascend()
     ensures { PositionsAscend }
 {}

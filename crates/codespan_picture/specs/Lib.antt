@@ -33,5 +33,5 @@ pub mod StatedNames
 pub mod RichLaws
 -- what each call of `Renderer` renders
 pub mod RenderedRows
--- definitions that proofs use, and calls that users do not name
+-- definitions for proofs, and for the contracts of calls that users do not name
 pub mod Private

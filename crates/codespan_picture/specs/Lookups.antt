@@ -1,4 +1,4 @@
--- The lookups of an output, in their order, and which error is returned.
+-- The lookups of an output, in the order in which their errors count, and which error is returned.
 use Rattle.std.specs.Prelude.{◌≡◌, ◌≢◌, ◌<◌, length, ℕ, ◌+◌, Bool, not, ◌&&◌, ◌||◌, nat_lt, nat_le, List, [], ◌∷◌, ◌++◌, map, filter, flat_map, Option, Some, None, Contains, if◌then◌else◌, true, false}
 use Rattle.std.specs.List.{range_with_len}
 use Rattle.codespan_picture.specs.Types.{Config, DisplayStyle, Rich, Layout, Classic, Unbroken, Diagnostic, Error, FormatError, LineTooLarge, OutOfMemory}
@@ -52,7 +52,7 @@ abbrev pub looked_up_lines : Config → FileModel → LabelModel → List ℕ
 looked_up_lines config f x = filter (is_looked_up config f x) (range_with_len 0 (line_count f))
 
 -- the lookups of one label: the line indices of its ends, then the ranges and numbers of its lines
--- and of those around them
+-- and of those around them, then that past the last line
 abbrev pub label_line_lookups : Config → FileModel → (Lookup → Option Error) → LabelModel
     → List Lookup
 label_line_lookups config f failure x =

@@ -1,5 +1,5 @@
--- Definitions that proofs use, and calls that users do not name, here and in the crates above: a
--- reader of the contracts of what users name needs none of them.
+-- Definitions for proofs, and for the contracts of calls that users do not name, here and in the
+-- crates above: a reader of the contracts of what users name needs none of them.
 pub mod LineViews
 pub mod WrittenParts
 pub mod CharCursors
@@ -7,5 +7,4 @@ pub mod LineCharacters
 pub mod RemainingLaneMarks
 pub mod PrimaryCover
 pub mod Runs
--- the underlines of multi-line labels
 pub mod Underlines

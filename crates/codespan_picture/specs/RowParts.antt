@@ -1,5 +1,5 @@
--- The parts of rows as streams. Those that are unfoldable stay folded in a proof unless it opens
--- them: a chain of calls then matches their parts from left to right.
+-- The parts of rows as streams. Those that are unfoldable stay folded in a proof unless it
+-- unfolds them: calls that write one after another then match their parts from left to right.
 use Rattle.std.specs.Prelude.{ℕ, ◌+◌, ◌-◌, Bool, true, ◌||◌, ◌&&◌, ◌==◌, nat_lt, nat_le, max, List, [], ◌∷◌, ◌++◌, filter, length, fold, flat_map, Option, Some, None, if◌then◌else◌, codes, decimal}
 use Rattle.std.specs.List.{list_any, range_with_len}
 use Rattle.codespan_picture.specs.Types.{Severity, LabelStyle, Primary, Secondary, Chars}

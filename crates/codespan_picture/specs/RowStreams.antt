@@ -1,5 +1,5 @@
 -- The stream of each row, and of many. Those that are unfoldable stay folded in a proof unless it
--- opens them: a chain of calls then matches their parts from left to right.
+-- unfolds them: calls that write one after another then match their parts from left to right.
 use Rattle.std.specs.Prelude.{ℕ, List, [], ◌∷◌, ◌++◌, flat_map, Option, Some, None, codes}
 use Rattle.codespan_picture.specs.Types.{Severity, Chars}
 use Rattle.codespan_core.specs.Streams.{Stream, Header, HeaderMessage, NoteBullet, SourceBorder, LabelStyleMark, Reset, style_mark, glyph, byte_stream, space, newline}

@@ -66,7 +66,7 @@ line_rows line l = rows_of (line l)
 abbrev pub break_rows : (ℕ → Line) → ℕ → List Row
 break_rows line d = BreakRow (line d).lanes ∷ []
 
--- the rows of drawn lines with their breaks, where `previous` is drawn before them
+-- the rows of drawn lines with their breaks, where the optional line is drawn before them
 abbrev pub rows_of_drawn : LabeledFileModel → Option ℕ → List ℕ → List Row
 rows_of_drawn s =
     in_sequence (λ l. l) (break_between (break_rows (line_at s))) (line_rows (line_at s))

@@ -1,4 +1,4 @@
 -- a renderer, as its contracts see it
 pub mod Renderers
--- definitions that proofs use, and calls that users do not name
+-- definitions for proofs, and for the contracts of calls that users do not name
 pub mod Private

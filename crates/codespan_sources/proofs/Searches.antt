@@ -33,7 +33,7 @@ module _ (first : ℕ) where
   start_at (l ∷ ls) zero d h = refl
   start_at (l ∷ ls) (suc i) d h = start_at ls i d (omega (arith, h))
 
-  module _ (lines : List RawLine) (rising : (i : ℕ) → i + 1 < length (starts_of first lines)
+  module _ (lines : List RawLine) (ascending : (i : ℕ) → i + 1 < length (starts_of first lines)
       → slice_index (starts_of first lines) i < slice_index (starts_of first lines) (i + 1)) where
     -- a later line starts later
     climb : (i n : ℕ) → i + n < length (starts_of first lines)
@@ -42,7 +42,7 @@ module _ (first : ℕ) where
     climb i (suc n) h =
         let low = climb i n (omega (arith, h)) in
         let e : i + n + 1 ≡ i + suc n = omega arith in
-        let step = rw e at (rising (i + n) (omega (arith, h))) in
+        let step = rw e at (ascending (i + n) (omega (arith, h))) in
         omega (arith, low, step)
 
     rises : IsNonDecreasingBy (λ (l : RawLine). l.start - first) lines

@@ -7,7 +7,8 @@ ghost use Rattle.codespan_sources.specs.StatedLines.{are_lines, locations_ascend
 use crate::raw::{RawLine, RawLocation};
 
 /// Returns whether these lines cut a text, which is a window of a file from a byte on: they start
-/// with the text, ascend without overlap and end inside it, at character boundaries.
+/// with the text, are one at least, ascend without overlap and end inside it, at character
+/// boundaries.
 pub fn are_lines(text: &[u8], first_byte: usize, lines: &[RawLine]) -> bool
     ensures { result ≡ are_lines text.now first_byte lines.now }
 {

@@ -43,7 +43,7 @@ severity_of n =
     if n == 0 then Help else if n == 1 then Note else if n == 2 then Warning
     else if n == 3 then Error else Bug
 
--- the style of a label of a number
+-- the label style of a number
 abbrev pub label_style_of : ℕ → LabelStyle
 label_style_of n = if n == 0 then Primary else Secondary
 

@@ -102,7 +102,7 @@ pub struct RawChars<'a> {
     pub multi_bottom_left: u32,
     /// The underline from the bottom corner to the label's end.
     pub multi_bottom: u32,
-    /// The lane of a multi-line label between its corners.
+    /// The bar of a lane, between its corners.
     pub multi_left: u32,
     /// The pointer between a caret and a hanging message.
     pub pointer_left: u32,

@@ -19,10 +19,10 @@ use Rattle.codespan_documents.specs.declared.style.Style.{Style}
 use Rattle.codespan_documents.specs.declared.style.Style.TheVariants.{Plain}
 use Rattle.codespan_documents.specs.declared.text.StyledText.{StyledText}
 use Rattle.codespan_styled.specs.Private.Recorded.{recorded_runs, style_number, style_spelling}
-use Rattle.codespan_documents.specs.Runs.{AreTexts, joined, runs_from, style_after, styled_runs}
+use Rattle.codespan_documents.specs.Runs.{TextsAreUtf8, joined, runs_from, style_after, styled_runs}
 use Rattle.codespan_styled.proofs.Bytes.{runs-bytes, utf8-bytes}
 use Rattle.codespan_styled.proofs.Decoding.{joined_runs, runs_of_recorded}
-use Rattle.codespan_styled.specs.Outputs.{AreRuns, EmitsRuns, RunsAreTexts, output_at}
+use Rattle.codespan_styled.specs.Outputs.{AreRuns, EmitsRuns, RunsAreUtf8, output_at}
 
 -- a fresh writer that received a stream holds its bytes last
 bytes_after : (spelling : Spelling) (old new : Sink) (s : Stream) (first last : List ℕ)
@@ -84,16 +84,16 @@ module _ {Id : Type 0} {config : Config} {files : FileDatabase Id} {d : Diagnost
 
 -- the runs of a text are texts
 runs-texts : (style : Style) (text : List ℕ) (s : Stream) → AreUtf8After text s
-    → AreTexts (runs_from style text s)
+    → TextsAreUtf8 (runs_from style text s)
 runs-texts style text [] h = (h, tt)
 runs-texts style text (Byte b ∷ s) h = runs-texts style (text ++ b ∷ []) s h
 runs-texts style text (Mark m ∷ s) h = (h.0, runs-texts (style_after m) [] s h.1)
 runs-texts style text (Slot k ∷ s) h = runs-texts style text s h
 
 -- so are those of an output
-pub runs_are_texts : {Id : Type 0} (config : Config) (files : FileDatabase Id) (d : Diagnostic Id)
-    → RunsAreTexts config files d
-runs_are_texts config files d characters lawful loci named =
+pub runs_are_utf8 : {Id : Type 0} (config : Config) (files : FileDatabase Id) (d : Diagnostic Id)
+    → RunsAreUtf8 config files d
+runs_are_utf8 config files d characters lawful loci named =
     runs-texts Plain [] (output_at config files d loci)
     (text-output files d lawful config.display_style config config characters loci
     named).between_style_marks

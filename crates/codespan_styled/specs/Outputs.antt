@@ -9,7 +9,7 @@ use Rattle.codespan_picture.specs.Utf8Laws.{CharsAreScalars}
 use Rattle.codespan_picture.specs.OutputStreams.{AreLoci, NamesAreUtf8, output}
 use Rattle.codespan_picture.specs.Rows.{Locus}
 use Rattle.codespan_views.specs.Output.{IsEmitError, Succeeds}
-use Rattle.codespan_documents.specs.Runs.{AreTexts, RunView, joined, runs_of}
+use Rattle.codespan_documents.specs.Runs.{TextsAreUtf8, RunView, joined, runs_of}
 
 module _ {Id : Type 0} (config : Config) (files : FileDatabase Id) (d : Diagnostic Id) where
   -- the output with these loci, in the configuration's style
@@ -29,9 +29,9 @@ module _ {Id : Type 0} (config : Config) (files : FileDatabase Id) (d : Diagnost
   -- the runs of the output are texts, where the characters of the configuration are Unicode scalar
   -- values, its files are lawful, and the names of the loci are texts: no style mark is inside a
   -- character
-  abbrev pub RunsAreTexts : Type 0
-  RunsAreTexts = CharsAreScalars config.chars → ((id : Id) → IsLawful (files.file id))
-      → (loci : List Locus) → NamesAreUtf8 loci → AreTexts (runs_of (output_at loci))
+  abbrev pub RunsAreUtf8 : Type 0
+  RunsAreUtf8 = CharsAreScalars config.chars → ((id : Id) → IsLawful (files.file id))
+      → (loci : List Locus) → NamesAreUtf8 loci → TextsAreUtf8 (runs_of (output_at loci))
 
   -- the call returns the runs of the output, or fails as `emit_into_string` does
   abbrev pub EmitsRuns : {T : Type 0} → (T → List RunView) → Result T Error → Type 0

@@ -24,7 +24,7 @@ use std::alloc::Global;
 ///
 /// - [`Error::OutOfMemory`]: an allocation fails, or a lookup fails with it. The contract leaves
 ///   open when. A style mark inside a character would fail with it too, but no output has one: see
-///   [`laws::runs_are_texts`].
+///   [`laws::runs_are_utf8`].
 /// - [`Error::FormatError`]: the `Display` of a file's name fails, or a lookup fails with it. The
 ///   contract leaves open when, but it is not returned where nothing is looked up.
 /// - Any other error: that of the first lookup that fails.

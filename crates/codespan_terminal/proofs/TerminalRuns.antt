@@ -17,7 +17,7 @@ use Rattle.codespan_base.specs.Ansi.{ansi_bold, ansi_color, ansi_reset, ansi_sty
 use Rattle.codespan_base.specs.StyleSpellings.{header_color_spec, label_color_spec}
 use Rattle.codespan_base.specs.Streams.{StyleMark, Header, HeaderMessage, LineNumber, NoteBullet, SourceBorder, LabelStyleMark, Reset}
 use Rattle.codespan_documents.specs.declared.text.Run.{Run}
-use Rattle.codespan_documents.specs.Runs.{AreTexts, RunView, run_characters, run_view}
+use Rattle.codespan_documents.specs.Runs.{TextsAreUtf8, RunView, run_characters, run_view}
 use Rattle.codespan_documents.specs.declared.style.Style.{Style}
 use Rattle.codespan_documents.specs.declared.style.Style.TheVariants as run_styles
 use Rattle.codespan_base.specs.StyleSpellings.{ansi_spelling}
@@ -143,7 +143,7 @@ safe_split : (text : List ℕ) (runs : List RunView)
     (chars text ++ run_characters runs)
 safe_split text runs = sym (filter-append is_safe (chars text) (run_characters runs))
 
-ReadsText-runs : (styles : Styles) (runs : List RunView) → AreTexts runs
+ReadsText-runs : (styles : Styles) (runs : List RunView) → TextsAreUtf8 runs
     → ReadsText (runs_bytes styles runs) (safe_characters (run_characters runs))
 ReadsText-runs styles [] texts = ReadsText-nil
 ReadsText-runs styles (run ∷ runs) texts =
@@ -156,7 +156,7 @@ ReadsText-runs styles (run ∷ runs) texts =
     (ReadsText-mark styles (style_mark_of run.style)) (ReadsText-safe run.text texts.0))
     (ReadsText-runs styles runs texts.1))
 
-ReadsText-terminal : (styles : Styles) (runs : List RunView) → AreTexts runs
+ReadsText-terminal : (styles : Styles) (runs : List RunView) → TextsAreUtf8 runs
     → ReadsText (terminal_text styles runs) (safe_characters (run_characters runs))
 ReadsText-terminal styles [] texts = ReadsText-nil
 ReadsText-terminal styles (first ∷ rest) texts =
@@ -169,7 +169,7 @@ ReadsText-terminal styles (first ∷ rest) texts =
     (ReadsText-runs styles rest texts.1))
 
 -- a text for a terminal shows the safe characters of its runs, each in its column
-pub shows_safe : (styles : Styles) (runs : List RunView) → AreTexts runs
+pub shows_safe : (styles : Styles) (runs : List RunView) → TextsAreUtf8 runs
     → ShowsSafe (terminal_text styles runs) runs
 shows_safe styles runs texts =
     let read = (ReadsText-terminal styles runs texts).reads in
@@ -185,7 +185,7 @@ shows_safe styles runs texts =
     }
 
 -- the texts of runs that are strings are UTF-8
-pub are_texts : (runs : List Run) → AreTexts (map run_view runs)
+pub are_texts : (runs : List Run) → TextsAreUtf8 (map run_view runs)
 are_texts [] = tt
 are_texts (run ∷ runs) = (IsUtf8-string_bytes run.text, are_texts runs)
 

@@ -69,7 +69,7 @@ pub data TerminalState : Type 0 where
 
 -- its state after the next character: a sequence is an escape character (0x1b), `[` (91),
 -- digits and `;` (59), and `m` (109); any other control character but tab and newline, and each
--- directional control, is unknown
+-- directional control, leads to `Unknown`
 abbrev pub next_state : TerminalState → ℕ → TerminalState
 next_state Text c = if c == 0x1b then Escape else if is_safe c then Text else Unknown
 next_state Escape c = if c == 91 then Parameters else Unknown
@@ -110,7 +110,7 @@ abbrev pub safe_columns : ℕ → ℕ → List ℕ → List CharacterInColumn
 safe_columns tab_width column cs =
     filter (λ (p : CharacterInColumn). is_safe p.0) (columns tab_width column cs)
 
--- ---- the whole
+-- ---- what is claimed of a text for a terminal
 
 -- how a terminal shows a text for these runs
 pub record ShowsSafe (text : List ℕ) (runs : List RunView) : Type 0 where

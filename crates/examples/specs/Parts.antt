@@ -1,4 +1,4 @@
--- The two parts of a checked document.
+-- The two parts of a `Checked`: the schema and the document.
 use Rattle.std.specs.Prelude.{◌≡◌, ℕ, List, Option, Some, Bool, true, refl, codes}
 use Rattle.examples.specs.declared.files.checked.Part.{Part}
 use Rattle.examples.specs.declared.files.checked.Part.TheVariants.{Schema, Document}

@@ -25,7 +25,7 @@ abbrev pub simple_database : List ℕ → List ℕ → FileDatabase (Unit {0})
 simple_database name source =
     one_file_database (simple_file (Some name) source) (simple_failure source)
 
--- a simple file with these set line numbers
+-- a `MappedFile` of this name and this source, with these set numbers
 abbrev pub mapped_database : List (ℕ × ℕ) → List ℕ → List ℕ → FileDatabase (Unit {0})
 mapped_database set_numbers name source =
     one_file_database (mapped_file (Some name) source set_numbers)

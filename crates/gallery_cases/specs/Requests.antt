@@ -36,8 +36,8 @@ IsResponseError request cases (Program (CannotRender error)) = Unit {0}
 IsResponseError request cases OutOfMemory = Unit {0}
 IsResponseError request cases _ = ⊥
 
--- what an error says of the input: a line's is the first of the input, and no case has an unknown
--- name
+-- what an error says of the input: that of a line is of the first wrong line, and no case has an
+-- unknown name
 abbrev pub IsRunError : Option GalleryRequestView → RunError GalleryError → List ℕ → Type 0
 IsRunError request (Program (Line number line_error)) input =
     IsFirstLineError (lines input) (Program (Line number line_error))

@@ -18,8 +18,7 @@ use std::alloc::Global;
 use std::io::{Read, Write};
 
 /// Writes the requested output of the cases of the input, and returns the program's status: 0, or,
-/// after one line about the error on `stderr`, 2 for wrong arguments and 1 for any other
-/// error.
+/// after one line about the error on `stderr`, 2 for wrong arguments and 1 for any other error.
 ///
 /// Nothing is written to the output before all is rendered. A failure of `stderr` is ignored.
 pub fn run<R: Read, W: Write, E: Write>(

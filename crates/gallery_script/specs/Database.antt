@@ -30,7 +30,7 @@ with_unit_ids diagnostic =
       notes = diagnostic.notes;
     }
 
--- the line numbers that are set after those of a list are set too, one after another
+-- the set numbers of a list, and then these, set one after another
 abbrev pub with_set_numbers : List (ℕ × ℕ) → List SetNumber → List (ℕ × ℕ)
 with_set_numbers set_numbers [] = set_numbers
 with_set_numbers set_numbers (set_number ∷ more) =

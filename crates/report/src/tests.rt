@@ -145,7 +145,7 @@ fn owned_arguments(rt: &impl Abort, alloc: Global, args: &[&str]) -> Vec<String>
     owned
 }
 
-/// Makes a run over a reader and writers of which `failing` fails.
+/// Makes a run over a reader and writers, of which that fails which `failing` says.
 pub fn run_over(
     rt: &impl Abort,
     alloc: Global,
@@ -174,8 +174,8 @@ pub fn run_over(
 /// `stderr`, and the status.
 pub type Run<'run> = (&'run [&'run str], &'run [u8], (&'run str, &'run str, u8));
 
-/// Asserts what is seen of a run of this name, of which `failing` fails. The run reads nothing
-/// exactly if its arguments are wrong.
+/// Asserts what is seen of a run of this name, in which that fails which `failing` says. The run
+/// reads nothing exactly if its arguments are wrong.
 pub fn check_run(rt: &impl Abort, alloc: Global, name: &str, failing: Failing, run: &Run<'_>) {
     let (args, text, expected) = run;
     let outcome = run_over(rt, alloc, args, text, failing);

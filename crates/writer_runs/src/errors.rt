@@ -1,4 +1,4 @@
-//! What is wrong in a run, and the errors that end the program.
+//! What is wrong in a run or in what runs are compared with, and the errors that end the program.
 
 use crate::rendering::RenderCall;
 use crate::style_writers::StyleWriterKind;
@@ -21,7 +21,7 @@ pub enum StopKind {
     AtStyleMark,
 }
 
-/// What is wrong in a run.
+/// What is wrong in a run, or in what runs are compared with.
 #[derive(Drop)]
 pub enum WrongRun {
     /// A call or an allocation failed, although no writer stops.

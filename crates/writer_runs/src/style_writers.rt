@@ -71,8 +71,9 @@ impl StyleWriterKind {
     }
 
     /// Renders by way of this writer of styles to a writer that records, and returns the recording.
-    /// Once the escape sequences are removed, what was written has to be the plain text; a writer
-    /// that spells style marks as escape sequences has to have written some.
+    /// Once the escape sequences are removed, what was written has to be the plain text; where the
+    /// call writes style marks, a writer that spells them as escape sequences has to have written
+    /// some.
     ///
     /// # Errors
     ///

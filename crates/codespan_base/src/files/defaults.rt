@@ -11,7 +11,7 @@ use std::convert::AsStr;
 /// [`column_index`] of the source, the line's range and the byte, plus 1. Both indices count from
 /// 0.
 ///
-/// A database's own `column_number` can not call this, since its proof would then rest on itself;
+/// A database's own `column_number` cannot call this, since its proof would then rest on itself;
 /// [`column_number_by_default!`](codespan_base::column_number_by_default) expands to the body.
 ///
 /// # Errors
@@ -34,7 +34,7 @@ pub fn default_column_number<'a, F: Files<'a>>(
 /// Returns the location of a byte as most databases have it: the number of its line, and its column
 /// number there. The byte index counts from 0.
 ///
-/// A database's own `location` can not call this, since its proof would then rest on itself;
+/// A database's own `location` cannot call this, since its proof would then rest on itself;
 /// [`location_by_default!`](codespan_base::location_by_default) expands to the body.
 ///
 /// # Errors

@@ -1,4 +1,4 @@
--- For the law of `Files`, and for `next` of `LineStarts`: facts on line starts.
+-- For the law of `Files`, for `next` of `LineStarts`, and for lookups: facts on line starts.
 use Rattle.std.proofs.Common.{◌≡◌, ℕ, zero, suc, ◌+◌, ◌-◌, ◌^◌, ◌<◌, ◌≤◌, Bool, true, false, cond, List, [], ◌∷◌, length, get_or, drop, refl, ◌∙◌, arith, eqb, inl, inr}
 use Rattle.std.specs.Prelude.{◌≢◌, if◌then◌else◌, count_by, nat_le, slice_index}
 use Rattle.std.proofs.lemmas.Bool.{cases_lt, eqb-true, eq-eqb, le-leb, lt-leb}
@@ -89,7 +89,7 @@ cuts from [] = record {
 }
 cuts from (b ∷ bs) = cuts_by from b bs _ (eqb b 10) refl (cuts (from + 1) bs)
 
--- the first i numbers are at most b, and those after them are above it
+-- i numbers are at most b, where the first i are, and those after them are above it
 pub count_split : (b : ℕ) (xs : List ℕ) (i : ℕ) → i ≤ length xs
     → ((k : ℕ) → k < i → get_or xs k 0 ≤ b) → ((k : ℕ) → i ≤ k → k < length xs → b < get_or xs k 0)
     → count_by (λ s. nat_le s b) xs ≡ i

@@ -1,4 +1,5 @@
--- For the members `lawful` and `past_last_line` of `SimpleFile`: the file of a text is lawful.
+-- For the members and calls of `SimpleFile`, and of other databases of texts: the file of a text is
+-- lawful, and which line has a byte.
 use Rattle.std.proofs.Common.{◌≡◌, ℕ, zero, suc, ◌+◌, ◌-◌, ◌^◌, ◌<◌, ◌≤◌, List, [], ◌∷◌, length, get_or, refl, arith, Option, ◌⊎◌, ⊎_elim, inl, inr}
 use Rattle.std.proofs.lemmas.Bool.{cases_lt}
 use Rattle.std.proofs.lemmas.Bool.Decides.{leb_tells}
@@ -109,7 +110,7 @@ past_last_line_is n i =
       | inr p ↦ rw p.0 (λ _. omega (arith, p.1), λ _. tt)
     ]
 
--- the file of a text fails past its last line
+-- the file of a text fails with `LineTooLarge` exactly past its last line
 pub simple_past_last_line : (name : Option (List ℕ)) (text : List ℕ) (i : ℕ)
     → FailsPastLastLine (simple_file name text) i (simple_failure text (LineRange i))
 simple_past_last_line name text i there = past_last_line_is (length (line_starts_of text)) i

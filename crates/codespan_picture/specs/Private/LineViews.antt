@@ -1,4 +1,5 @@
--- What the rows of a line are rendered from, by the structs of `rows::line` and the enum of `rows::lanes`.
+-- What the rows of a line are rendered from, by the structs of `rows::line` and the enum of
+-- `rows::lanes`.
 use Rattle.std.specs.Prelude.{ℕ, Option}
 use Rattle.std.specs.Option.{option_map}
 use Rattle.codespan_core.specs.Streams.{Stream}
@@ -12,7 +13,7 @@ use Rattle.codespan_picture.specs.Lanes.{LaneRowKind, Source, EmptyOrBreak, Sing
 use Rattle.codespan_picture.specs.Rows.{RowContext, Lanes, Line}
 use Rattle.codespan_picture.specs.RowParts.{inner_gutter_column, inner_gutter}
 
--- what all rows of a line are rendered by
+-- what all rows of an output are rendered by
 abbrev pub context_view : rust_context.RowContext → RowContext
 context_view x = record {
   chars = x.chars.now;

@@ -19,7 +19,7 @@ pub trait CharCursor: Drop {
     /// The characters that it has not returned yet.
     ghost remaining: { Self → List metrics.Metrics };
 
-    /// The labels of the line.
+    /// The single-line labels of the line.
     ghost labels: { Self → List SingleLabelTuple };
 
     /// Whether this is the character that it has just returned.
@@ -32,8 +32,8 @@ pub trait CharCursor: Drop {
         ensures labels { labels self.new ≡ labels self.old };
 
     /// Returns the style of the caret under the character that it has just returned: primary where
-    /// a primary label covers it, secondary where only secondary ones do, and `None` where none
-    /// does.
+    /// a primary single-line label covers it, secondary where only secondary ones do, and `None`
+    /// where none does.
     ///
     /// # Requires
     ///
@@ -44,7 +44,7 @@ pub trait CharCursor: Drop {
         ensures labels { labels self.new ≡ labels self.old }
         ensures style { result ≡ style_under (single_label_views (labels self.old)) metrics };
 
-    /// Returns whether a primary label covers the character that it has just returned.
+    /// Returns whether a primary single-line label covers the character that it has just returned.
     ///
     /// # Requires
     ///

@@ -22,7 +22,7 @@ pub trait LineCharacters {
     /// A cursor over its characters.
     type Cursor: CharCursor;
 
-    /// The tab width, the text and the labels of the line.
+    /// The tab width, the text and the single-line labels of the line.
     ghost input: { Self → CharInput };
 
     /// Returns a cursor over the characters of the line.

@@ -12,7 +12,7 @@ use crate::arguments::SingleLabel;
 use crate::rows::carets::{is_overlapping, max_label_end};
 
 /// The labels of a line by their messages: the one whose message trails, and those before and after
-/// it, which may hang: those of them that have a message do.
+/// it, of which those with a message hang.
 #[derive(Clone, Copy)]
 pub struct Messages<'row, 'd> {
     /// The label whose message trails.

@@ -37,7 +37,7 @@ boundary text i e = grind (arith, nat_tests, e)
 module _ (text : List ℕ) (first_byte : ℕ) where
   -- lines one after another
   record Chain (ls : List RawLine) : Type 0 where
-    pub rising : (i : ℕ) → i + 1 < length (starts_of first_byte ls)
+    pub ascending : (i : ℕ) → i + 1 < length (starts_of first_byte ls)
         → slice_index (starts_of first_byte ls) i < slice_index (starts_of first_byte ls) (i + 1)
     pub starts_on_boundaries : (i : ℕ) → i < length (starts_of first_byte ls)
         → IsCharBoundary text (slice_index (starts_of first_byte ls) i)
@@ -79,7 +79,7 @@ module _ (text : List ℕ) (first_byte : ℕ) where
       → IsCharBoundary text (l.end - first_byte) → l.start - first_byte ≤ l.end - first_byte
       → Chain (l ∷ [])
   chain_one l s e h = record {
-    rising = λ i p. absurd (omega (arith, p));
+    ascending = λ i p. absurd (omega (arith, p));
     starts_on_boundaries = start_on_boundary;
     ends_on_boundaries = end_on_boundary;
     ends_after_start = end_after_start;
@@ -107,19 +107,19 @@ module _ (text : List ℕ) (first_byte : ℕ) where
       → l.start - first_byte < m.start - first_byte → l.end - first_byte ≤ m.start - first_byte
       → Chain (m ∷ ms) → Chain (l ∷ m ∷ ms)
   chain_more l m ms s e h later apart c = record {
-    rising = rising;
+    ascending = ascending;
     starts_on_boundaries = starts_on_boundaries;
     ends_on_boundaries = ends_on_boundaries;
     ends_after_start = ends_after_start;
     ends_before_next = ends_before_next;
   }
     where
-      rising : (i : ℕ) → i + 1 < length (starts_of first_byte (l ∷ m ∷ ms))
+      ascending : (i : ℕ) → i + 1 < length (starts_of first_byte (l ∷ m ∷ ms))
           → slice_index (starts_of first_byte (l ∷ m ∷ ms)) i
           < slice_index (starts_of first_byte (l ∷ m ∷ ms)) (i + 1)
-      rising zero p = later
-      rising (suc k) p =
-          let q : suc k + 1 ≡ suc (k + 1) = omega arith in rw q (c.rising k (omega (arith, p)))
+      ascending zero p = later
+      ascending (suc k) p =
+          let q : suc k + 1 ≡ suc (k + 1) = omega arith in rw q (c.ascending k (omega (arith, p)))
 
       starts_on_boundaries : (i : ℕ) → i < length (starts_of first_byte (l ∷ m ∷ ms))
           → IsCharBoundary text (slice_index (starts_of first_byte (l ∷ m ∷ ms)) i)
@@ -173,7 +173,7 @@ stated_lawful name text first_byte (l ∷ ls) stated u fits t =
       fits = fits;
       has_line = omega arith;
       first = zero_start;
-      ascending = c.rising;
+      ascending = c.ascending;
       starts_on_boundaries = c.starts_on_boundaries;
       ends_on_boundaries = c.ends_on_boundaries;
       ends_after_start = c.ends_after_start;

@@ -4,7 +4,7 @@
 ghost use Rattle.std.specs.Prelude.{◌≡◌, ℕ, List};
 ghost use Rattle.codespan_base.specs.Streams.{Stream, spelled};
 ghost use Rattle.codespan_base.specs.declared.term.config.styles.Styles.{Styles};
-ghost use Rattle.codespan_documents.specs.Runs.{AreTexts, RunView, runs_of};
+ghost use Rattle.codespan_documents.specs.Runs.{TextsAreUtf8, RunView, runs_of};
 ghost use Rattle.codespan_base.specs.StyleSpellings.{ansi_spelling};
 ghost use Rattle.codespan_terminal.specs.Terminal.{AreSafe, ShowsSafe, columns, safe_characters, safe_columns, terminal_text};
 
@@ -12,7 +12,7 @@ ghost use Rattle.codespan_terminal.specs.Terminal.{AreSafe, ShowsSafe, columns, 
 /// of styles, no other control character but tab and newline, and no directional control, and shows
 /// the safe characters of its runs, each in its column.
 pub fn safe_text_is_shown()
-    ensures { (styles : Styles) (runs : List RunView) → AreTexts runs
+    ensures { (styles : Styles) (runs : List RunView) → TextsAreUtf8 runs
         → ShowsSafe (terminal_text styles runs) runs }
 {}
 
@@ -24,7 +24,7 @@ pub fn columns_stay()
 {}
 
 /// States that of an output whose characters are safe the text for a terminal is what
-/// `emit_to_write_style` writes to an `Ansi`, byte for byte.
+/// `emit_to_write_style` writes to a `StylesWriter` over `Ansi`, byte for byte.
 pub fn safe_runs_are_as_written()
     ensures { (styles : Styles) (s : Stream) → AreSafe (runs_of s)
         → terminal_text styles (runs_of s) ≡ spelled (ansi_spelling styles) s }

@@ -77,7 +77,7 @@ impl<'a, 'text: 'a> Files<'a> for Checked<'text> {
 
     type Source = &'text str;
 
-    // A part is the file of its name and of its text.
+    // The id of a file is its part, which is its name too.
     ghost database = { λ s. record {
       same = ⟦<Part as PartialEq>⟧.eq;
       file = λ id. simple_file (part_name id) (source_of (of_part s.schema s.document id)).now;

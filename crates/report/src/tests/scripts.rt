@@ -191,7 +191,7 @@ const SCRIPTS_WITH_LABELS_AND_NOTES: [ScriptRun<'static>; 6] = [
     ),
 ];
 
-/// The runs of the worked scripts, by name.
+/// The runs of scripts whose outputs `codespan_worked` computes, by name.
 static WORKED_SCRIPTS: [(&str, &[ScriptRun<'static>]); 4] = [
     ("script_run", &SCRIPT_RUN),
     ("script_unknown_word", &SCRIPT_UNKNOWN_WORD),

@@ -57,7 +57,7 @@ pub struct Styles {
 }
 
 impl Styles {
-    ghost use Rattle.codespan_base.specs.PartStyles.{no_color_styles, header_color_spec, label_color_spec as style_of_label};
+    ghost use Rattle.codespan_base.specs.PartStyles.{no_color_styles, header_color_spec, label_color_spec};
 
     /// Borrows the style of the severity and the code in a header.
     pub fn header(&self, severity: Severity) -> &ColorSpec
@@ -103,7 +103,7 @@ impl Styles {
     /// Borrows the style of a label in a diagnostic of this severity. Secondary labels have one
     /// style in all severities.
     pub fn label(&self, severity: Severity, label_style: LabelStyle) -> &ColorSpec
-        ensures { result.now ≡ style_of_label self.now severity label_style }
+        ensures { result.now ≡ label_color_spec self.now severity label_style }
     {
         match (label_style, severity) {
             (LabelStyle::Primary, Severity::Bug) => &self.primary_label_bug,

@@ -82,7 +82,7 @@ pub struct Chars<'chars> {
     pub multi_bottom_left: char,
     /// The underline from the bottom corner to the label's end: `'─'`, in ASCII `'-'`.
     pub multi_bottom: char,
-    /// The lane of a multi-line label between its corners: `'│'`, in ASCII `'|'`.
+    /// The bar of a lane, between its corners: `'│'`, in ASCII `'|'`.
     pub multi_left: char,
 
     /// The pointer between a caret and a hanging message: `'│'`, in ASCII `'|'`.

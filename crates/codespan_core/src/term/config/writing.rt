@@ -59,7 +59,7 @@ pub fn put_char<W: PutStyle>(w: &mut W, c: char) -> Result<(), W::Error>
     put_glyph(w, text.as_bytes())
 }
 
-/// Writes the bytes of a character. The characters of box drawing have three bytes each, which are
+/// Writes the bytes of a character. Most characters of borders and lanes have three bytes, which are
 /// written as an array: a `put` of a known number of bytes needs no call to copy them.
 #[inline(always)]
 fn put_glyph<W: PutStyle>(w: &mut W, text: &[u8]) -> Result<(), W::Error>
@@ -103,7 +103,7 @@ pub fn put_repeated<W: PutStyle>(w: &mut W, c: char, count: usize) -> Result<(),
     }
 }
 
-/// Writes two copies of a character. Where it has three bytes, as those of box drawing have, the
+/// Writes two copies of a character. Where it has three bytes, as most of underlines have, the
 /// copies are written as one array, as in `put_glyph`.
 #[inline(always)]
 fn put_pair<W: PutStyle>(w: &mut W, c: char) -> Result<(), W::Error>

@@ -1,5 +1,0 @@
-use Rattle.codespan_styled.proofs.Rendering.{runs_are_texts}
-use Rattle.codespan_styled.proofs.render.laws.runs_are_texts.Goals as goal
-
-pub returns : goal.returns
-returns g c = λ config files d. runs_are_texts config files d
