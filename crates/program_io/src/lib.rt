@@ -1,6 +1,6 @@
 //! What programs share at their edges: their arguments, the whole input as text, the output, the
-//! line and the status of an error; and what the scripts of `report` and the cases of `gallery` have
-//! in common, the fields of a line, and the names of display styles and severities.
+//! line and the status of an error; and what scripts of `report` and cases of `gallery` have in
+//! common, the fields of a line, and the names of display styles and severities.
 #![tactic(auto)]
 
 pub mod arguments;

@@ -92,8 +92,8 @@ fn stops_at<D: Render>(
 }
 
 /// Renders to a `SequenceWriter`, which fails at each style mark in turn, and returns the number of
-/// runs. The text itself has no escape character: each one in `whole` begins the spelling of a style
-/// mark.
+/// runs. The text itself has no escape character: each one in `whole` begins the spelling of a
+/// style mark.
 ///
 /// # Errors
 ///
@@ -128,9 +128,9 @@ fn stopped_at_style_mark(style_marks: usize) -> WrongRun {
     )
 }
 
-/// Renders to a `SequenceWriter`, which fails at the style mark after this many, and returns whether
-/// these bytes have then been written, the writer below was not flushed and, if the bytes are not
-/// all, the result is `Io` and no style mark and no write followed.
+/// Renders to a `SequenceWriter`, which fails at the style mark after this many, and returns
+/// whether these bytes have then been written, the writer below was not flushed and, if the bytes
+/// are not all, the result is `Io` and no style mark and no write followed.
 fn stops_at_style_mark<D: Render>(
     alloc: Global,
     call: &D,
@@ -144,8 +144,8 @@ fn stops_at_style_mark<D: Render>(
         && recording.text() == written
 }
 
-/// Renders to a `SequenceWriter`, which fails at the style mark after this many, and returns whether,
-/// if it has stopped, the result is `Io` and no style mark and no write followed.
+/// Renders to a `SequenceWriter`, which fails at the style mark after this many, and returns
+/// whether, if it has stopped, the result is `Io` and no style mark and no write followed.
 fn fails_at_style_mark<D: Render>(
     call: &D,
     recording: &mut Recording,

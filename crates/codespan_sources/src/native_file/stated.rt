@@ -34,8 +34,8 @@ impl<'a> StatedText<'a> {
     ///
     /// # Requires
     ///
-    /// The lines are one at least, start with the source, ascend without overlap and end inside it, at
-    /// character boundaries. A byte index before `first_byte` counts as `first_byte`.
+    /// The lines are one at least, start with the source, ascend without overlap and end inside it,
+    /// at character boundaries. A byte index before `first_byte` counts as `first_byte`.
     pub fn new(
         name: &'a str,
         source: &'a str,

@@ -7,8 +7,8 @@ ghost use Rattle.codespan_base.specs.declared.diagnostic.Severity.TheVariants.{E
 ghost use Rattle.codespan_base.specs.declared.diagnostic.LabelStyle.TheVariants.{Primary, Secondary};
 ghost use Rattle.codespan_worked.specs.Worked.{text_file, label, message_only, rich, rows, ansi};
 
-/// Shows that a primary multi-line label colors its last line up to its end, and no character that reaches
-/// past it.
+/// Shows that a primary multi-line label colors its last line up to its end, and no character that
+/// reaches past it.
 fn bottom_colors_to_its_end()
     ensures { spelled ansi (rich default_config (message_only Error [])
         (text_file (codes "f") (codes "\nb𝔸") ∷ [])

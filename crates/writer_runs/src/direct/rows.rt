@@ -11,8 +11,8 @@ use codespan_renderer::term::renderer::MultiLabel;
 /// The rows that one direct call writes.
 #[derive(Clone, Copy)]
 pub struct DirectRow<'text> {
-    /// Their name: that of the worked output of `codespan_worked` that has them, or of a small case;
-    /// after a comma, which of its rows.
+    /// Their name: that of the output of `codespan_worked` that has them, or of a small case; after
+    /// a comma, which of its rows.
     pub name: &'text str,
     /// The call.
     pub call: RowCall<'text>,

@@ -59,8 +59,8 @@ pub fn put_char<W: PutStyle>(w: &mut W, c: char) -> Result<(), W::Error>
     put_glyph(w, text.as_bytes())
 }
 
-/// Writes the bytes of a character. Most characters of borders and lanes have three bytes, which are
-/// written as an array: a `put` of a known number of bytes needs no call to copy them.
+/// Writes the bytes of a character. Most characters of borders and lanes have three bytes, written
+/// as an array: a `put` of a known number of bytes needs no call to copy them.
 #[inline(always)]
 fn put_glyph<W: PutStyle>(w: &mut W, text: &[u8]) -> Result<(), W::Error>
     ensures { Writes (W.sink w.old) (byte_stream text.now) result (W.sink w.new) }

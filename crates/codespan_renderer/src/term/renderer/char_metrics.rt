@@ -10,8 +10,8 @@ use std::str::Chars;
 use unicode_width::UnicodeWidthChar;
 
 /// An iterator over the characters of a line, from left to right. One that
-/// [`CharMetrics::with_placeholder`] or [`CharMetrics::fork`] returns may also yield the placeholder
-/// after the last one, which counts as one more character of one byte and one cell.
+/// [`CharMetrics::with_placeholder`] or [`CharMetrics::fork`] returns may also yield the
+/// placeholder after the last one, which counts as one more character of one byte and one cell.
 #[derive(Drop)]
 pub struct CharMetrics<'text> {
     text: &'text str,
