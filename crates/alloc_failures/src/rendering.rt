@@ -67,11 +67,10 @@ pub fn judge_rendering(
     call: RenderCall,
     worked: &WorkedOutput<'_>,
 ) -> Result<Outcome, Error> {
-    let config = worked.config();
     let rendering = Rendering {
         call,
         worked,
-        config,
+        config: worked.config(),
     };
     match worked.database {
         DatabaseKind::Several => judge_several(alloc, &rendering),
@@ -80,8 +79,7 @@ pub fn judge_rendering(
     }
 }
 
-/// Makes a call over several files and judges it: in escape sequences, if the call writes style
-/// marks and the worked output has an output in colors.
+/// Makes a call over several files and judges it, in colors if the call and the output have any.
 fn judge_several(alloc: Global, rendering: &Rendering<'_>) -> Result<Outcome, Error> {
     let mut files = SimpleFiles::new(alloc);
     for (name, source) in rendering.worked.files {
@@ -223,12 +221,8 @@ fn render_styled<'files, F: Files<'files>, W: WriteStyle>(
     if matches!(rendering.call, RenderCall::EmitToWriteStyle) {
         return emit_to_write_style(writer, config, files, diagnostic);
     }
-    render_view(
-        &mut Renderer::new(writer, config),
-        config,
-        files,
-        diagnostic,
-    )
+    let mut renderer = Renderer::new(writer, config);
+    render_view(&mut renderer, config, files, diagnostic)
 }
 
 /// Renders by the view of the style.
