@@ -9,7 +9,7 @@ use Rattle.gallery_script.specs.Cases.{AppliesLines}
 use Rattle.gallery_script.specs.Requests.{GalleryRequestView}
 use Rattle.program_io.specs.declared.run_error.RunError.{RunError}
 use Rattle.program_io.specs.declared.run_error.RunError.TheVariants.{WrongArguments, CannotReadInput, NotUtf8, OutOfMemory, CannotWriteOutput, Program}
-use Rattle.gallery_cases.specs.Requests.{IsResponse, IsResponseOf, IsRunError, IsResponseError}
+use Rattle.gallery_cases.specs.Requests.{IsResponse, IsResponseOf, IsGalleryRunError, IsResponseError}
 
 -- with wrong arguments the output is unchanged
 pub unchanged_at_error : (outcome : Result (Unit {0}) (RunError GalleryError)) {X : Type 0}
@@ -65,7 +65,7 @@ pub failed : (expected : Option GalleryRequestView) (left : Option (List ℕ))
     (error : RunError GalleryError)
     → expected ≡ Some request → IfSome left (λ input. text ≡ input)
     → AppliesLines (lines text) [] cases → IsResponseError request cases error
-    → IfSome left (IsRunError expected error)
+    → IfSome left (IsGalleryRunError expected error)
 failed expected None request text cases error is_requested read applied_lines fails = tt
 failed expected (Some input) request text cases (Program (UnknownCase name)) is_requested read
     applied_lines fails = (

@@ -38,11 +38,11 @@ IsResponseError request cases _ = ⊥
 
 -- what an error says of the input: that of a line is of the first wrong line, and no case has an
 -- unknown name
-abbrev pub IsRunError : Option GalleryRequestView → RunError GalleryError → List ℕ → Type 0
-IsRunError request (Program (Line number line_error)) input =
+abbrev pub IsGalleryRunError : Option GalleryRequestView → RunError GalleryError → List ℕ → Type 0
+IsGalleryRunError request (Program (Line number line_error)) input =
     IsFirstLineError (lines input) (Program (Line number line_error))
-IsRunError request (Program (UnknownCase name)) input =
+IsGalleryRunError request (Program (UnknownCase name)) input =
     (format : Format) × (request ≡ Some (Document format (string_bytes name)))
     × ((cases : List Case) × AppliesLines (lines input) [] cases
     × (case_named (string_bytes name) cases ≡ None))
-IsRunError request _ input = Unit {0}
+IsGalleryRunError request _ input = Unit {0}

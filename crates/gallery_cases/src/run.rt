@@ -2,7 +2,7 @@
 
 ghost use Rattle.std.specs.Prelude.{◌≡◌, ◌≢◌, ◌≤◌, ◌↔◌, ℕ, List, MatchResult, None, OnOk, IfErr, IfOk, IfSome, IsErrAnd, IsErrOf, IsOkAnd, map, string_bytes};
 ghost use Rattle.std.specs.Io.KnownBytes.{Appends};
-ghost use Rattle.gallery_cases.specs.Requests.{IsResponse, IsResponseOf, IsRunError, IsResponseError};
+ghost use Rattle.gallery_cases.specs.Requests.{IsResponse, IsResponseOf, IsGalleryRunError, IsResponseError};
 ghost use Rattle.gallery_script.specs.Requests.{gallery_request_of, gallery_request_view};
 
 use crate::document::{default_style_sheet, document};
@@ -57,7 +57,7 @@ fn respond<R: Read, W: Write>(
         × Appends (W.contents stdout.old) (W.contents stdout.new) response))) }
     ensures reported { IfErr result (λ error.
         IfSome (R.remaining stdin.old)
-        (IsRunError (gallery_request_of (map string_bytes args.now)) error)) }
+        (IsGalleryRunError (gallery_request_of (map string_bytes args.now)) error)) }
     ensures unchanged { IfErr result (λ error. error ≢ RunError.CannotWriteOutput
         → stdout.new ≡ stdout.old) }
 {

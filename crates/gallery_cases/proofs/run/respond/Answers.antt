@@ -3,7 +3,7 @@ use Rattle.std.specs.Str.Lines.{lines}
 use Rattle.gallery_script.specs.declared.case.Case.{Case}
 use Rattle.gallery_script.specs.Cases.{AppliesLines}
 use Rattle.gallery_script.specs.Requests.{gallery_request_of, gallery_request_view}
-use Rattle.gallery_cases.specs.Requests.{IsResponseOf, IsRunError, IsResponseError}
+use Rattle.gallery_cases.specs.Requests.{IsResponseOf, IsGalleryRunError, IsResponseError}
 use Rattle.gallery_cases.proofs.Outcomes.{responded, requested, failed}
 use Rattle.gallery_cases.proofs.run.respond.Given.{Over}
 use Rattle.gallery_cases.proofs.run.respond.Goals.{After-as_slice}
@@ -29,7 +29,7 @@ returns-in_err-response-clause-reported g c =
     c.in_err-response.field-0.0)
     c.as_slice.ensures.value c.in_err-response.ensures.fails in
     let reported : IfSome (g.R.Read.remaining c.args.stdin.now)
-    (IsRunError (gallery_request_of (map string_bytes c.args.args.now))
+    (IsGalleryRunError (gallery_request_of (map string_bytes c.args.args.now))
     c.in_err-response.field-0.0) =
     failed _ _ _ _ c.in_ok-cases.cases.items _ of_input.0 c.in_ok-text.ensures.bytes of_input.1
     fails in
