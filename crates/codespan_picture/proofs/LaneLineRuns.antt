@@ -16,7 +16,8 @@ use Rattle.codespan_picture.proofs.FillLemmas.{breaks_before}
 use Rattle.codespan_picture.specs.LaneLaws.{HasLane, LanesJoinCorners}
 use Rattle.codespan_picture.specs.RichLaws.{NoneReversed}
 use Rattle.codespan_picture.proofs.BarLemmas.{lane_mark_in-from}
-use Rattle.codespan_picture.proofs.RangeLemmas.{kept, has_lane-ordered, line_of-below, shown-by, shows-first, shows-last}
+use Rattle.codespan_core.specs.Lemmas.Lines.{line_of_below}
+use Rattle.codespan_picture.proofs.RangeLemmas.{kept, has_lane-ordered, shown-by, shows-first, shows-last}
 use Rattle.codespan_picture.proofs.LaneLineLemmas.{Shows, Begins, Finishes, Whole, finishes_later, finishes_before, whole_before, whole_later, whole_joined, one_line}
 use Rattle.codespan_picture.proofs.LaneLineRows.{lane_mark_with, no_lane_mark, left_lane_mark}
 use Rattle.codespan_picture.proofs.LaneLineEnds.{Split, bottom_lane_mark, top_lane_mark}
@@ -249,8 +250,8 @@ lanes_join_corners config layout s ordered = λ locus is_followed lane x has.
     let several = has_lane-ordered s lane x ordered has in
     let inside = (kept (λ x. not (is_single s.file x)) s.labels lane x has).0 in
     let some : 0 < line_count s.file = has_line s.file.starts x.start x.end several in
-    let low = line_of-below s.file.starts x.start some in
-    let high = line_of-below s.file.starts x.end some in
+    let low = line_of_below s.file.starts x.start some in
+    let high = line_of_below s.file.starts x.end some in
     one_line layout s (snippet config locus s ++ empty_row_after is_followed s) lane x
     (whole_before layout lane (line_at s (first_line s.file x)) (snippet config locus s) (trailing_empty_rows is_followed)
     (whole_later layout lane (line_at s (first_line s.file x))

@@ -16,7 +16,7 @@ use Rattle.codespan_picture.specs.Lines.{shows, is_shown, is_drawn, drawn_lines}
 use Rattle.codespan_picture.specs.Snippets.{LabeledFileModel}
 use Rattle.codespan_picture.specs.Padding.{spans, spanned_lines, count_digits, numbered_lines, digits_of, padding_of}
 use Rattle.codespan_picture.specs.LineLaws.{NumbersAscend, PaddingFits}
-use Rattle.codespan_picture.proofs.RangeLemmas.{line_of-below}
+use Rattle.codespan_core.specs.Lemmas.Lines.{line_of_below}
 use Rattle.codespan_picture.proofs.Greatest.{greatest-low}
 
 -- ---- a greater number has no fewer digits
@@ -225,11 +225,11 @@ over-shown config s l none h =
     sym (ap (λ n. shows (record config { after_label_lines = n }) first last l) none) ∙ found.2 in
     elim (shown-over first last l config.before_label_lines config.start_context_lines
     config.end_context_lines shown) [
-      | inl p ↦ spanned-over s x l first found.1 p (line_of-below s.file.starts x.start some)
+      | inl p ↦ spanned-over s x l first found.1 p (line_of_below s.file.starts x.start some)
           (spans-first first last)
       | inr q ↦ elim q [
         | inl p ↦ spanned-over s x l last found.1 (omega arith)
-            (line_of-below s.file.starts x.end some) (spans-last first last)
+            (line_of_below s.file.starts x.end some) (spans-last first last)
         | inr p ↦ spanned-over s x l l found.1 (omega arith) low (spans-inside first last l p.0 p.1)
       ]
     ]

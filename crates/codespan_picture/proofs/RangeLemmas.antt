@@ -1,15 +1,14 @@
 -- For `bars_are_labels` and `breaks_have_bars`: a multi-line label begins on an earlier line than
 -- it ends on, where its range does.
-use Rattle.std.proofs.Common.{◌≡◌, ℕ, zero, suc, ◌+◌, ◌-◌, ◌<◌, ◌≤◌, Bool, true, false, ◌⊎◌, inl, inr, ⊎_elim, cond, not, nat_le, nat_lt, List, [], ◌∷◌, filter, length, Some, slice_get, refl, sym, ap, ◌∙◌, arith}
+use Rattle.std.proofs.Common.{◌≡◌, ℕ, zero, suc, ◌+◌, ◌-◌, ◌<◌, ◌≤◌, Bool, true, false, ◌⊎◌, inl, inr, ⊎_elim, cond, not, nat_lt, List, [], ◌∷◌, filter, length, Some, slice_get, refl, sym, ap, ◌∙◌, arith}
 use Rattle.std.specs.Prelude.{Contains}
 use Rattle.std.specs.List.{list_any}
 use Rattle.std.proofs.lemmas.Bool.{cases_lt, and_parts, false≢true, and_from}
 use Rattle.std.proofs.lemmas.Bool.Decides.{nat_tests}
 use Rattle.std.proofs.lemmas.List.Folds.{list_any_at}
-use Rattle.std.proofs.lemmas.List.Sums.{count_by-le-length}
 use Rattle.codespan_core.specs.declared.term.config.Layout.{Layout}
-use Rattle.codespan_core.specs.FileModel.{line_of, line_count}
-use Rattle.codespan_core.specs.Lemmas.Lines.{line_of-rises}
+use Rattle.codespan_core.specs.FileModel.{line_count}
+use Rattle.codespan_core.specs.Lemmas.Lines.{line_of_below, line_of-rises}
 use Rattle.codespan_core.specs.declared.term.config.Config.{Config}
 use Rattle.codespan_core.specs.Labels.{LabelModel, is_single, first_line, last_line}
 use Rattle.codespan_picture.specs.RichLaws.{NoneReversed}
@@ -53,10 +52,6 @@ bars_are_labels layout s ordered =
 
 -- ---- the labels that go through a break
 
-pub line_of-below : (starts : List ℕ) (b : ℕ) → 0 < length starts → line_of starts b < length starts
-unfolding line_of
-line_of-below starts b some = omega (arith, count_by-le-length (λ s. nat_le s b) starts)
-
 -- a label shows the line
 pub shown-by : (config : Config) (s : LabeledFileModel) (x : LabelModel) (l : ℕ)
     → Contains s.labels x → l < line_count s.file
@@ -93,10 +88,10 @@ breaks_have_bars config layout s ordered = λ c d lane x shown_c shown_d apart n
     let several = has_lane-ordered s lane x ordered has in
     let some : 0 < line_count s.file = (let low = shown-low config s c shown_c in omega arith) in
     let first = not_between config s c d (first_line s.file x) none
-    (shown-by config s x (first_line s.file x) inside (line_of-below s.file.starts x.start some)
+    (shown-by config s x (first_line s.file x) inside (line_of_below s.file.starts x.start some)
     (shows-first config (first_line s.file x) (last_line s.file x))) in
     let last = not_between config s c d (last_line s.file x) none
-    (shown-by config s x (last_line s.file x) inside (line_of-below s.file.starts x.end some)
+    (shown-by config s x (last_line s.file x) inside (line_of_below s.file.starts x.end some)
     (shows-last config (first_line s.file x) (last_line s.file x))) in
     let bar = (bars_are_labels layout s ordered d lane x has).1 in (
       λ is l after before.

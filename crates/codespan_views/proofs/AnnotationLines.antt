@@ -25,7 +25,7 @@ use Rattle.codespan_views.proofs.LabelAnnotations.{all-of_file, all-below, annot
 use Rattle.codespan_views.proofs.LabelIndexing.{num_multi_labels_of-more, label_lanes}
 use Rattle.codespan_views.proofs.LaneMarks.{marks_from}
 use Rattle.codespan_picture.proofs.OrderSorts.{has_range}
-use Rattle.codespan_picture.proofs.RangeLemmas.{line_of-below}
+use Rattle.codespan_core.specs.Lemmas.Lines.{line_of_below}
 use Rattle.codespan_picture.proofs.ListElements.{all-append, all-weaker, filter-whole, filter-nothing}
 use Rattle.codespan_picture.proofs.SortedFilters.{Falls}
 use Rattle.codespan_views.proofs.FileLabels.{is_of_range, HasFileIndex}
@@ -47,7 +47,7 @@ module _ {Id : Type 0} {same : Id → Id → Bool} {file : Id → FileModel} {id
 
   -- a label is on lines that the file has
   ends-below : (x : LabelModel) → (first_line own_file x < line_count own_file) × (last_line own_file x < line_count own_file)
-  ends-below x = (line_of-below own_file.starts x.start here.has_line, line_of-below own_file.starts x.end here.has_line)
+  ends-below x = (line_of_below own_file.starts x.start here.has_line, line_of_below own_file.starts x.end here.has_line)
 
   -- its annotations of the file are of such lines
   pub annotations-below : (xs before : List (LabelInFile Id)) → AllByRecursion (λ e. is_of_file f e ≡ true → e.line < line_count own_file) (annotations_after same file config ids before xs)
