@@ -13,7 +13,7 @@ use Rattle.codespan_picture.specs.Carets.{max_label_end}
 use Rattle.codespan_picture.specs.Arguments.{SingleLabelTuple, single_label_view, single_label_views}
 use Rattle.codespan_picture.specs.Rows.{RowContext, Line, HangingRow, last_with_end, does_trail, indexed_trailing_label, trailing_label, hanging_labels, pointer_and_hanging_rows}
 use Rattle.codespan_picture.specs.RowStreams.{pointer_row, hanging_row, stream_of, stream_of_rows}
-use Rattle.codespan_picture.specs.Private.Runs.{indexed_label_view, AreHanging, hanging_stream}
+use Rattle.codespan_picture.specs.Private.RowLabels.{indexed_label_view, AreHanging, hanging_stream}
 use Rattle.codespan_picture.proofs.TrailingLabel.{is_empty_bytes, entry_is, without_at}
 
 -- ---- where one trails

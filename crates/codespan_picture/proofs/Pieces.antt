@@ -7,7 +7,7 @@ use Rattle.codespan_core.specs.Labels.{LabelModel}
 use Rattle.codespan_picture.specs.Arguments.{SingleLabelTuple, single_label_view, single_label_views}
 use Rattle.codespan_picture.specs.RowParts.{max_label_start}
 use Rattle.codespan_picture.proofs.HangingStarts.{fold_start-le}
-use Rattle.codespan_picture.specs.Private.Runs.{ArePrefixAndSuffix}
+use Rattle.codespan_picture.specs.Private.RowLabels.{ArePrefixAndSuffix}
 use Rattle.std.specs.List.{push}
 
 -- the elements before an index of a list and those from there on make the list

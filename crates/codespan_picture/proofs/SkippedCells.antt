@@ -15,7 +15,7 @@ use Rattle.codespan_picture.specs.CharMetrics.{metrics_then, char_metrics_to_end
 use Rattle.codespan_picture.specs.Rows.{RowContext}
 use Rattle.codespan_picture.specs.RowParts.{carets}
 use Rattle.codespan_picture.specs.Private.LineCharacters.{EndBy, LeavesOut}
-use Rattle.codespan_picture.specs.Private.Runs.{least_start}
+use Rattle.codespan_picture.specs.Private.RowLabels.{least_start}
 use Rattle.codespan_picture.proofs.CaretRuns.{carets_left, carets-same, carets-start, counts-all}
 use Rattle.codespan_picture.proofs.ScanState.{ConsecutiveWithin, ScanState, scan_state-more}
 

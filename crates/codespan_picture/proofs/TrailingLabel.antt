@@ -10,7 +10,7 @@ use Rattle.codespan_core.specs.Labels.{LabelModel, has_message, is_empty_stream}
 use Rattle.codespan_core.specs.Streams.{byte_stream}
 use Rattle.codespan_picture.specs.Arguments.{SingleLabelTuple, single_label_view, single_label_views}
 use Rattle.codespan_picture.specs.Rows.{last_with_end, overlaps_any, does_trail}
-use Rattle.codespan_picture.specs.Private.Runs.{indexed_label_view}
+use Rattle.codespan_picture.specs.Private.RowLabels.{indexed_label_view}
 
 -- a text is empty as a stream where it is empty
 pub is_empty_bytes : (text : List ℕ) → is_empty_stream (byte_stream text) ≡ (length text == 0)

@@ -7,4 +7,5 @@ pub mod LineCharacters
 pub mod RemainingLaneMarks
 pub mod PrimaryCover
 pub mod Runs
+pub mod RowLabels
 pub mod Underlines

@@ -4,7 +4,7 @@ use Rattle.std.proofs.lemmas.Bool.{and_parts}
 use Rattle.std.proofs.lemmas.Bool.Decides.{nat_tests}
 use Rattle.codespan_core.specs.Labels.{LabelModel}
 use Rattle.codespan_picture.specs.Arguments.{SingleLabelTuple, single_label_views, starts_from, starts_in_order}
-use Rattle.codespan_picture.specs.Private.Runs.{ArePrefixAndSuffix}
+use Rattle.codespan_picture.specs.Private.RowLabels.{ArePrefixAndSuffix}
 use Rattle.codespan_renderer.proofs.LabelCursorSteps.{starts-lower}
 use Rattle.codespan_picture.proofs.Pieces.{whole}
 

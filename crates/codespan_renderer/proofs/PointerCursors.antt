@@ -12,7 +12,7 @@ use Rattle.codespan_picture.specs.RowParts.{max_label_start, starts_in}
 use Rattle.codespan_picture.proofs.HangingStarts.{any-below, any-hanging_labels, starts_in-low}
 use Rattle.std.specs.List.{list_any}
 use Rattle.codespan_renderer.specs.Private.PreferredStyles.{preferred_style, pointer_style_if_any}
-use Rattle.codespan_picture.specs.Private.Runs.{AreHanging}
+use Rattle.codespan_picture.specs.Private.RowLabels.{AreHanging}
 use Rattle.codespan_renderer.proofs.ScannedPointers.{pointer_is}
 use Rattle.codespan_picture.proofs.Consecutive.{AreConsecutive}
 

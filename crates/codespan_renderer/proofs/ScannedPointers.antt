@@ -16,7 +16,7 @@ use Rattle.codespan_picture.specs.Lanes.{label_glyph}
 use Rattle.codespan_picture.specs.Rows.{RowContext, hanging_labels}
 use Rattle.codespan_picture.specs.RowParts.{starts_in, pointer_style, max_label_start, spaces_up_to, pointer_at, pointers, metrics_before}
 use Rattle.codespan_renderer.specs.Private.PreferredStyles.{prefer_primary, preferred_style, pointer_style_if_any}
-use Rattle.codespan_picture.specs.Private.Runs.{AreHanging}
+use Rattle.codespan_picture.specs.Private.RowLabels.{AreHanging}
 use Rattle.codespan_renderer.proofs.PreferredStyles.{preferred-cons, preferred-primary}
 use Rattle.codespan_picture.proofs.RowEquations.{spaces-add}
 use Rattle.codespan_picture.proofs.TrailingLabel.{is_empty_bytes}

@@ -15,7 +15,7 @@ use Rattle.codespan_renderer.specs.declared.term.renderer.char_metrics.CharMetri
 use Rattle.codespan_renderer.specs.Private.RemainingMetrics.{metrics_from, no_more}
 use Rattle.codespan_renderer.specs.Private.CachedMetrics.{AreCached}
 use Rattle.codespan_picture.specs.Private.LineCharacters.{EndBy}
-use Rattle.codespan_picture.specs.Private.Runs.{least_start}
+use Rattle.codespan_picture.specs.Private.RowLabels.{least_start}
 use Rattle.codespan_renderer.proofs.WidthSearch.{consecutive-front, consecutive-low}
 
 -- the characters before one that begins at a byte index or before it end by that index

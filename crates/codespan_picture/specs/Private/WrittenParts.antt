@@ -17,7 +17,7 @@ use Rattle.codespan_picture.specs.declared.rows.line.RowContext as rust_context
 use Rattle.codespan_picture.specs.declared.rows.line.Line as rust_line
 use Rattle.codespan_picture.specs.declared.rows.messages.Messages as rust_messages
 use Rattle.codespan_picture.specs.Private.LineViews.{context_view, lanes_view, line_view}
-use Rattle.codespan_picture.specs.Private.Runs.{hanging_stream}
+use Rattle.codespan_picture.specs.Private.RowLabels.{hanging_stream}
 
 -- ---- the header
 

@@ -6,7 +6,7 @@ ghost use Rattle.codespan_picture.specs.CharMetrics.{width_of};
 ghost use Rattle.codespan_picture.specs.Arguments.{single_label_views};
 ghost use Rattle.codespan_picture.specs.RowParts.{metrics_before, metrics_up_to, max_label_start};
 ghost use Rattle.codespan_picture.specs.Private.WrittenParts.{line_metrics_view, pointers_stream, pointers_before_stream};
-ghost use Rattle.codespan_picture.specs.Private.Runs.{AreHanging, least_start};
+ghost use Rattle.codespan_picture.specs.Private.RowLabels.{AreHanging, least_start};
 ghost use Rattle.codespan_picture.specs.Private.LineCharacters.{LeavesOut, CharInput, char_input, metrics_of, metrics_to_end_of};
 
 use crate::rows::char_cursor::CharCursor;

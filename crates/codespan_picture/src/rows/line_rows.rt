@@ -8,7 +8,7 @@ ghost use Rattle.codespan_picture.specs.RowStreams.{stream_of_rows};
 ghost use Rattle.codespan_picture.specs.Private.LineCharacters.{char_input};
 ghost use Rattle.codespan_picture.specs.Private.LineViews.{context_view, line_view};
 ghost use Rattle.codespan_picture.specs.Private.WrittenParts.{caret_rows_stream};
-ghost use Rattle.codespan_picture.specs.Private.Runs.{optional_label_view};
+ghost use Rattle.codespan_picture.specs.Private.RowLabels.{optional_label_view};
 
 use crate::rows::carets::write_caret_row;
 use crate::rows::line::{Line, RowContext};

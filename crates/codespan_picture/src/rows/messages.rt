@@ -5,7 +5,7 @@ ghost use Rattle.std.specs.List.{list_any};
 ghost use Rattle.std.specs.Option.{option_map_or};
 ghost use Rattle.codespan_core.specs.Labels.{has_message};
 ghost use Rattle.codespan_picture.specs.Arguments.{single_label_view, single_label_views};
-ghost use Rattle.codespan_picture.specs.Private.Runs.{optional_label_view, indexed_label_view, AreHanging, ArePrefixAndSuffix};
+ghost use Rattle.codespan_picture.specs.Private.RowLabels.{optional_label_view, indexed_label_view, AreHanging, ArePrefixAndSuffix};
 ghost use Rattle.codespan_picture.specs.Rows.{trailing_label, last_with_end, overlaps_any, does_trail};
 
 use crate::arguments::SingleLabel;

@@ -9,7 +9,7 @@ ghost use Rattle.codespan_picture.specs.Private.WrittenParts.{hanging_rows_strea
 ghost use Rattle.codespan_picture.specs.Lanes.{label_glyph};
 ghost use Rattle.codespan_picture.specs.RowParts.{max_label_start};
 ghost use Rattle.codespan_picture.specs.RowStreams.{pointer_row, hanging_row};
-ghost use Rattle.codespan_picture.specs.Private.Runs.{AreHanging, ArePrefixAndSuffix};
+ghost use Rattle.codespan_picture.specs.Private.RowLabels.{AreHanging, ArePrefixAndSuffix};
 ghost use Rattle.codespan_picture.specs.Private.LineCharacters.{char_input};
 
 use crate::arguments::SingleLabel;

@@ -9,7 +9,7 @@ ghost use Rattle.codespan_picture.specs.declared.char_metrics.Metrics as metrics
 ghost use Rattle.codespan_picture.specs.Arguments.{single_label_views, lane_mark_view};
 ghost use Rattle.codespan_picture.specs.Private.LineViews.{line_view};
 ghost use Rattle.codespan_picture.specs.Private.PrimaryCover.{CoversAsLaneMarks};
-ghost use Rattle.codespan_picture.specs.Rows.{RowContext as RowContextSpec};
+ghost use Rattle.codespan_picture.specs.Rows.{RowContext};
 ghost use Rattle.codespan_picture.specs.RowParts.{colored_text, source_style};
 
 use crate::arguments::{MultiLabel, SingleLabel};
@@ -86,7 +86,7 @@ fn has_tab(text: &str) -> bool
 /// of the line and no lane mark is primary.
 #[inline(always)]
 pub fn is_plain(line: Line<'_, '_>) -> bool
-    ensures { result ≡ true → (context : RowContextSpec)
+    ensures { result ≡ true → (context : RowContext)
         → colored_text context (line_view line.entry) ≡ byte_stream line.entry.text.now }
 {
     !has_primary_label(line.labels)

@@ -7,7 +7,7 @@ ghost use Rattle.codespan_picture.specs.Carets.{covers, style_under};
 ghost use Rattle.codespan_picture.specs.RowParts.{starts_in};
 ghost use Rattle.codespan_picture.specs.Rows.{hanging_labels};
 ghost use Rattle.codespan_picture.specs.Private.CharCursors.{is_covered};
-ghost use Rattle.codespan_picture.specs.Private.Runs.{AreHanging};
+ghost use Rattle.codespan_picture.specs.Private.RowLabels.{AreHanging};
 ghost use Rattle.codespan_renderer.specs.Private.PreferredStyles.{preferred_style, pointer_style_if_any, prefer_primary};
 
 use crate::term::renderer::SingleLabel;

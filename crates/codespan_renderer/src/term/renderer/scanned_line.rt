@@ -4,7 +4,7 @@
 ghost use Rattle.std.specs.Prelude.{⊤};
 ghost use Rattle.codespan_core.specs.WriterLaw.{Writes};
 ghost use Rattle.codespan_picture.specs.Private.WrittenParts.{pointers_before_stream};
-ghost use Rattle.codespan_picture.specs.Private.Runs.{AreHanging};
+ghost use Rattle.codespan_picture.specs.Private.RowLabels.{AreHanging};
 
 use crate::term::renderer::SingleLabel;
 use crate::term::renderer::char_metrics::{CharMetrics, Metrics};

@@ -4,7 +4,7 @@ use Rattle.codespan_core.proofs.Loops.{StillToWrite}
 use Rattle.codespan_picture.specs.Arguments.{single_label_views}
 use Rattle.codespan_picture.specs.Private.LineViews.{context_view, line_view}
 use Rattle.codespan_picture.specs.RowParts.{max_label_start}
-use Rattle.codespan_picture.specs.Private.Runs.{hanging_stream}
+use Rattle.codespan_picture.specs.Private.RowLabels.{hanging_stream}
 use Rattle.codespan_picture.proofs.rows.pointers.write_hanging_rows.Given as goal
 
 -- the remaining labels are the first ones

@@ -11,7 +11,7 @@ ghost use Rattle.codespan_renderer.specs.Private.CursorStates.{IsBefore, HasRetu
 ghost use Rattle.codespan_renderer.specs.Private.CachedMetrics.{AreCached, ReachesPast, remaining_from_cache, reach_of};
 ghost use Rattle.codespan_picture.specs.Private.LineCharacters.{EndBy};
 ghost use Rattle.codespan_renderer.specs.Private.PointerLists.{pointers_in};
-ghost use Rattle.codespan_picture.specs.Private.Runs.{least_start};
+ghost use Rattle.codespan_picture.specs.Private.RowLabels.{least_start};
 
 use crate::term::renderer::Renderer;
 use crate::term::renderer::cached::cached_metrics::MetricsFromCache;

@@ -8,7 +8,7 @@ ghost use Rattle.codespan_picture.specs.Private.LineViews.{context_view};
 ghost use Rattle.codespan_renderer.specs.Private.CachedMetrics.{remaining_from_cache};
 ghost use Rattle.codespan_renderer.specs.Private.PointerLists.{pointer_under, pointers_in, pointers_before, spaced};
 ghost use Rattle.codespan_picture.specs.Rows.{hanging_labels};
-ghost use Rattle.codespan_picture.specs.Private.Runs.{AreHanging};
+ghost use Rattle.codespan_picture.specs.Private.RowLabels.{AreHanging};
 
 use crate::term::renderer::cached::cached_metrics::MetricsFromCache;
 use crate::term::renderer::cached::label_cursor::StartCursor;
