@@ -1,12 +1,11 @@
 -- For the clause of `diagnostics::diagnostic_of_label_request`: the diagnostic of a label request,
 -- as its fields are set.
-use Rattle.std.proofs.Common.{◌≡◌, ℕ, List, [], ◌∷◌, ◌++◌, ap, ◌∙◌, refl, string_bytes, None, Result, Ok, Err, IfOk}
-use Rattle.std.specs.declared.ops.Range.{Range}
+use Rattle.std.proofs.Common.{◌≡◌, [], ◌∷◌, ◌++◌, ap, ◌∙◌, refl, string_bytes, None, Result, Ok, Err, IfOk}
 use Rattle.codespan_core.specs.declared.diagnostic.Diagnostic.{Diagnostic}
 use Rattle.codespan_core.specs.declared.diagnostic.Label.{Label}
 use Rattle.codespan_core.specs.declared.diagnostic.LabelStyle.TheVariants.{Primary}
 use Rattle.codespan_core.specs.declared.diagnostic.Severity.TheVariants as severities
-use Rattle.codespan_core.specs.Diagnostics.{diagnostic_view, label_view}
+use Rattle.codespan_core.specs.Diagnostics.{diagnostic_view}
 use Rattle.report_script.specs.ReportDiagnostics.{label_request_diagnostic}
 use Rattle.report_script.specs.Requests.{LabelRequestView}
 

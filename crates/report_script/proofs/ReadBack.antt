@@ -1,6 +1,6 @@
 -- For the clause of `laws::scripts_read_back`: what is read of a script that is written out from
 -- its statements.
-use Rattle.std.proofs.Common.{◌≡◌, ℕ, suc, ◌+◌, ◌-◌, ◌^◌, ◌<◌, ◌≤◌, Bool, true, false, List, [], ◌∷◌, ◌++◌, length, map, Option, Some, None, Ok, codes, is_some, bytes_eq, refl, sym, ap, ◌∙◌, subst, arith, if◌then◌else◌, append_assoc, length-append, unwrap_or, All, option_map, option_and_then, slice_get, filter_map}
+use Rattle.std.proofs.Common.{◌≡◌, ℕ, suc, ◌+◌, ◌^◌, ◌<◌, ◌≤◌, Bool, true, false, List, [], ◌∷◌, ◌++◌, length, map, Option, Some, None, Ok, codes, is_some, bytes_eq, refl, sym, ap, ◌∙◌, subst, arith, if◌then◌else◌, append_assoc, length-append, unwrap_or, All, option_map, option_and_then, slice_get, filter_map}
 use Rattle.std.specs.List.{AllByRecursion, cons_option, slice_split}
 use Rattle.std.specs.declared.ops.Range.{Range}
 use Rattle.std.proofs.lemmas.List.{length-map}

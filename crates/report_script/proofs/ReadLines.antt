@@ -1,6 +1,6 @@
 -- For the clause of `laws::scripts_read_back`: what is read of each line of a script that is
 -- written out from its statements.
-use Rattle.std.proofs.Common.{◌≡◌, ℕ, ◌+◌, ◌-◌, ◌^◌, ◌<◌, List, [], ◌∷◌, length, take, Option, Some, None, codes, bytes_eq, refl, ap, ◌∙◌, if◌then◌else◌, one-add, unwrap_or, decimal, option_map, filter_map}
+use Rattle.std.proofs.Common.{◌≡◌, ℕ, ◌+◌, ◌^◌, ◌<◌, List, [], ◌∷◌, length, take, Option, Some, None, codes, bytes_eq, refl, ap, ◌∙◌, if◌then◌else◌, one-add, unwrap_or, decimal, option_map, filter_map}
 use Rattle.std.specs.List.{AllByRecursion, cons_option, position_or_len}
 use Rattle.std.specs.declared.ops.Range.{Range}
 use Rattle.codespan_core.specs.declared.diagnostic.LabelStyle.{LabelStyle}
