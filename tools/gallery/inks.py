@@ -7,7 +7,7 @@ SHOWN = {'\x1b': '\\e', '\0': '\\0', '\r': '\\r', '\t': '\\t'}
 ENTITIES = {'&': '&amp;', '<': '&lt;', '>': '&gt;'}
 SHADES = ('#6e7681', '#ff7b72', '#7ee787', '#e3b341', '#79c0ff', '#d2a8ff', '#56d4dd', '#b1bac4')
 PLAIN = (None, False)
-FONT = 'font-family="DejaVu Sans Mono, Menlo, Consolas, monospace" font-size="15" fill="#e6edf3" xml:space="preserve"'
+FONT = 'font-family="DejaVu Sans Mono, Menlo, Consolas, monospace" font-size="15" fill="#e6edf3"'
 
 
 def glyphs(text):
@@ -31,21 +31,28 @@ def cells(c):
 
 
 def placed(characters):
-    """Glyphs with the row and the column of each; newlines are left out."""
+    """Glyphs with the row and the column of each, and newlines with where their row ends."""
     row = column = 0
     for c, ink in characters:
-        if c == '\n':
-            row, column = row + 1, 0
-        else:
-            yield row, column, c, ink
-            column += cells(c)
+        yield row, column, c, ink
+        row, column = (row + 1, 0) if c == '\n' else (row, column + cells(c))
 
 
-def texts(characters):
-    """The glyphs of each text: those of a row that follow one another in one ink and take one cell or none; any other alone."""
+def shown(characters):
+    """The glyphs that a document has in its texts, with their rows and columns: all but spaces and newlines."""
+    return [glyph for glyph in placed(characters) if glyph[2] not in ' \n']
+
+
+def joins(before, glyph):
+    """Whether a glyph belongs to the text of the one before it: neither is a space or a newline, both take one cell or none, in one ink."""
+    return before[3] == glyph[3] and all(c not in ' \n' and cells(c) < 2 for c in (before[2], glyph[2]))
+
+
+def pieces(characters):
+    """The glyphs of each text, and each space and each newline alone."""
     joined = []
     for glyph in placed(characters):
-        if joined and not (joined[-1][0] == glyph[0] and joined[-1][3] == glyph[3] and cells(joined[-1][2]) < 2 and cells(glyph[2]) < 2):
+        if joined and not joins(joined[-1], glyph):
             yield joined
             joined = []
         joined.append(glyph)
@@ -59,9 +66,11 @@ def xml_text(c):
     return ENTITIES.get(c) or SHOWN.get(c) or other
 
 
-def element(joined):
-    """A text of a document."""
-    row, column, _, (shade, bold) = joined[0]
+def piece_text(joined):
+    """A piece of a document: a space or a newline as it is, or a text."""
+    row, column, first, (shade, bold) = joined[0]
+    if first in ' \n':
+        return first
     attributes = 'x="%d" y="%d" textLength="%d"' % (12 + 9 * column, 25 + 18 * row, 9 * sum(cells(glyph[2]) for glyph in joined))
     ink = (' fill="%s"' % shade if shade else '') + (' font-weight="bold"' if bold else '')
     return '<text %s%s>%s</text>' % (attributes, ink, ''.join(xml_text(glyph[2]) for glyph in joined))
@@ -69,21 +78,20 @@ def element(joined):
 
 def document(characters):
     """The SVG document that shows glyphs."""
-    last = sum(c == '\n' for c, _ in characters)
-    rows = [''] * (last + 1)
-    for joined in texts(characters):
-        rows[joined[0][0]] += element(joined)
+    rows = sum(c == '\n' for c, _ in characters)
     columns = max([column + cells(c) for _, column, c, _ in placed(characters)], default=0)
-    size = (24 + 9 * columns, 24 + 18 * last)
+    size = (24 + 9 * columns, 24 + 18 * rows)
     head = '<svg xmlns="http://www.w3.org/2000/svg" width="%d" height="%d" viewBox="0 0 %d %d" %s>\n' % (*size, *size, FONT)
-    return head + '<rect width="100%" height="100%" rx="6" fill="#161b22"/>\n' + '\n'.join(rows) + '</svg>\n'
+    background = '<rect width="100%" height="100%" rx="6" fill="#161b22"/>\n'
+    return head + background + ''.join(map(piece_text, pieces(characters))) + '</svg>\n'
 
 
 def glyphs_of_svg(text):
-    """The glyphs of a document with their rows and columns, as a reader of XML finds them."""
+    """The glyphs of a document's texts with their rows and columns, as a reader of XML finds them; no text has white space."""
     for part in xml.etree.ElementTree.fromstring(text).iter('{http://www.w3.org/2000/svg}text'):
         row, column = (int(part.get('y')) - 25) / 18, (int(part.get('x')) - 12) / 9
         ink = (part.get('fill'), part.get('font-weight') == 'bold')
+        assert not re.search('[ \t\r\n]', part.text), part.text
         for c in part.text:
             yield row, column, c, ink
             column += cells(c)

@@ -61,12 +61,14 @@ const HTML: &str =
 const SVG: &str = "<svg xmlns=\"http://www.w3.org/2000/svg\" width=\"186\" height=\"42\" \
                    viewBox=\"0 0 186 42\" \
                    font-family=\"DejaVu Sans Mono, Menlo, Consolas, monospace\" font-size=\"15\" \
-                   fill=\"#e6edf3\" xml:space=\"preserve\">\n\
+                   fill=\"#e6edf3\">\n\
                    <rect width=\"100%\" height=\"100%\" rx=\"6\" fill=\"#161b22\"/>\n\
-                   <text x=\"12\" y=\"25\" textLength=\"81\">f&amp;g:2:1: </text>\
+                   <text x=\"12\" y=\"25\" textLength=\"72\">f&amp;g:2:1:</text> \
                    <text x=\"93\" y=\"25\" textLength=\"45\" fill=\"#ff7b72\" font-weight=\"bold\">\
                    error</text>\
-                   <text x=\"138\" y=\"25\" textLength=\"36\" font-weight=\"bold\">: b\u{fffd}d</text>\n\
+                   <text x=\"138\" y=\"25\" textLength=\"9\" font-weight=\"bold\">:</text> \
+                   <text x=\"156\" y=\"25\" textLength=\"18\" font-weight=\"bold\">b\u{fffd}d\
+                   </text>\n\
                    </svg>\n";
 
 /// Its text for a terminal.

@@ -9,7 +9,7 @@ use Rattle.codespan_documents.specs.declared.svg.glyph.Glyph.{Glyph}
 use Rattle.codespan_documents.specs.declared.text.Run.{Run}
 use Rattle.codespan_documents.specs.declared.svg.position.CellPosition.{CellPosition}
 use Rattle.codespan_documents.specs.declared.svg.Pen.{Pen}
-use Rattle.codespan_documents.specs.Glyphs.{after_glyph, cells_of, extent_from, follows, glyphs_of, glyphs_of_run, joins_next, is_newline_glyph, joined_cells, start}
+use Rattle.codespan_documents.specs.Glyphs.{after_glyph, cells_of, extent_from, follows, glyphs_of, glyphs_of_run, joins_next, is_white_space, joined_cells, start}
 use Rattle.codespan_documents.specs.Runs.{run_view}
 use Rattle.codespan_documents.specs.Svg.{first_pen, font_attributes, glyph_text, background_tag_content, next_pen, svg_tag_start, svg_document, text_tag, texts_from, xml_character}
 
@@ -111,18 +111,18 @@ module _ (glyphs : List Glyph) (i : ℕ) (other : Glyph) (inside : i < length gl
       ∙ ap (λ bytes. bytes ++ rest) (is ∙ ap (λ gs. old ++ glyph_text pen glyph gs) others)
       ∙ append_assoc old text rest ∙ ap (λ gs. old ++ texts_from pen gs) (sym left) ∙ before
 
--- a glyph that ends no row, with the tags of its text
+-- a glyph that is no white space, with the tags of its text
 pub glyph-written : (pen : Pen) (glyph : Glyph) (others : List Glyph)
     (old tagged marked new : List ℕ)
-    → is_newline_glyph glyph ≡ false
+    → is_white_space glyph ≡ false
     → tagged ≡ old
     ++ (if follows pen.before glyph then []
     else text_tag pen.position (cells_of glyph + joined_cells glyph others) glyph.ink)
     → marked ≡ tagged ++ xml_character glyph.character
     → new ≡ marked ++ (if joins_next glyph others then [] else codes "</text>")
     → new ≡ old ++ glyph_text pen glyph others
-glyph-written pen glyph others old tagged marked new stays e1 e2 e3 =
-    rw (e3, e2, e1, stays) (simp append_assoc)
+glyph-written pen glyph others old tagged marked new shown e1 e2 e3 =
+    rw (e3, e2, e1, shown) (simp append_assoc)
 
 -- ---- the document
 

@@ -7,3 +7,4 @@ pub mod SvgPieces
 pub mod SvgCells
 pub mod SvgReading
 pub mod SvgElements
+pub mod SvgWhiteSpace

@@ -1,5 +1,6 @@
--- Each character of an SVG document has its cell and its ink, for the clause `cells` of `to_svg`.
-use Rattle.std.proofs.Common.{◌≡◌, ℕ, ◌+◌, true, false, List, [], ◌∷◌, ◌++◌, refl, sym, ap, ◌∙◌, None, Some, Option}
+-- Each character of an SVG document has its cell and its ink: for
+-- `svg::laws::characters_are_in_their_cells`.
+use Rattle.std.proofs.Common.{◌≡◌, ℕ, true, false, List, [], ◌∷◌, ◌++◌, refl, sym, ap, ◌∙◌, None, Some, Option}
 use Rattle.std.specs.Prelude.{Bool, ◌==◌, ◌&&◌, not, if◌then◌else◌}
 use Rattle.std.specs.List.{flat_map}
 use Rattle.codespan_base.specs.declared.term.config.color.Color.{Color}
@@ -8,12 +9,12 @@ use Rattle.codespan_documents.specs.declared.svg.glyph.Glyph.{Glyph}
 use Rattle.codespan_documents.specs.declared.svg.ink.Ink.{Ink}
 use Rattle.codespan_documents.specs.declared.svg.position.CellPosition.{CellPosition}
 use Rattle.codespan_documents.specs.declared.svg.Pen.{Pen}
-use Rattle.codespan_documents.specs.Glyphs.{follows, is_narrow, is_newline_glyph, joins, start}
+use Rattle.codespan_documents.specs.Glyphs.{follows, is_narrow, is_white_space, joins, start}
 use Rattle.codespan_documents.specs.Inks.{optional_color_number, same_ink}
 use Rattle.codespan_documents.specs.Svg.{first_pen, next_pen}
-use Rattle.codespan_documents.specs.SvgReading.{CharacterInCell, Piece, RowEnd, Text, text_characters, piece_characters, joined_glyphs, pieces_from, characters_from}
+use Rattle.codespan_documents.specs.SvgReading.{CharacterInCell, Piece, WhiteSpace, Text, text_characters, piece_characters, joined_glyphs, pieces_from, characters_from}
 use Rattle.codespan_documents.proofs.HtmlReading.{and_true, is_code}
-use Rattle.codespan_documents.proofs.SvgPieces.{two_ifs, newline_joins, follows_newline}
+use Rattle.codespan_documents.proofs.SvgPieces.{two_ifs, white_space_joins, follows_white_space}
 
 -- ---- inks by their numbers
 
@@ -129,32 +130,32 @@ cells_by_pieces pen (glyph ∷ glyphs) = all (cells_by_pieces (next_pen pen glyp
         ∷ characters_from next.position glyphs ≡ left ++ flat_map piece_characters pieces)
         (λ _. whole is) (λ _. whole is)
 
-    none_left : (others : List Glyph) → is_newline_glyph glyph ≡ true
+    none_left : (others : List Glyph) → is_white_space glyph ≡ true
         → cells_left (Some glyph) next.position others ≡ []
     none_left [] e = refl
     none_left (other ∷ others) e =
         ap
         (λ t. if t then text_characters other.ink next.position (other ∷ joined_glyphs other others)
         else [])
-        (newline_joins glyph other e)
+        (white_space_joins glyph other e)
 
-    newline : Rest → is_newline_glyph glyph ≡ true
+    white_space : Rest → is_white_space glyph ≡ true
         → characters_from next.position
         glyphs ≡ (if follows pen.before glyph then own else []) ++ cells
-    newline is e =
+    white_space is e =
         is ∙ ap (λ (cs : List CharacterInCell). cs ++ cells) (none_left glyphs e)
-        ∙ ap (λ t. (if t then own else []) ++ cells) (sym (follows_newline pen.before glyph e))
+        ∙ ap (λ t. (if t then own else []) ++ cells) (sym (follows_white_space pen.before glyph e))
 
     all : Rest
         → characters_from pen.position (glyph ∷ glyphs) ≡ cells_left pen.before pen.position
         (glyph ∷ glyphs) ++ flat_map piece_characters (pieces_from pen (glyph ∷ glyphs))
     all is =
-        two_ifs (is_newline_glyph glyph) (characters_from next.position glyphs)
+        two_ifs (is_white_space glyph) (characters_from next.position glyphs)
         (first ∷ characters_from next.position glyphs)
-        (RowEnd ∷ rest) (if follows pen.before glyph then rest else piece ∷ rest)
+        (WhiteSpace glyph.character ∷ rest) (if follows pen.before glyph then rest else piece ∷ rest)
         (λ (cs : List CharacterInCell) (pieces : List Piece). cs
         ≡ (if follows pen.before glyph then own else []) ++ flat_map piece_characters pieces)
-        (newline is) (λ _. character is)
+        (white_space is) (λ _. character is)
 
 no_cells_before : (glyphs : List Glyph) → cells_left None start glyphs ≡ []
 no_cells_before [] = refl

@@ -1,7 +1,7 @@
 -- The elements of an SVG document and their numbers read back, and so do its characters: for the
 -- clauses `tokens` and `text` of `to_svg`.
 use Rattle.std.proofs.Common.{◌≡◌, ℕ, ◌+◌, ◌/◌, ◌%◌, true, false, List, [], ◌∷◌, ◌++◌, map, codes, decimal, refl, sym, subst, ap, ◌∙◌, append_assoc, append-nil, ◌*◌, arith, zero, suc, None, Some, Option}
-use Rattle.std.specs.Prelude.{Bool, ◌==◌, ◌&&◌, not, nat_lt, if◌then◌else◌}
+use Rattle.std.specs.Prelude.{Bool, ◌==◌, ◌&&◌, ◌||◌, not, nat_lt, if◌then◌else◌}
 use Rattle.std.specs.Char.{encode_utf8}
 use Rattle.std.specs.Fmt.{digit_glyph, digits, digits_onto}
 use Rattle.std.specs.List.{AllByRecursion}
@@ -23,7 +23,7 @@ abbrev pub is_inside : List ℕ → Bool
 is_inside [] = true
 is_inside (b ∷ bs) = not (b == 62) && is_inside bs
 
-not_true : (b : Bool) → not b ≡ true → b ≡ false
+pub not_true : (b : Bool) → not b ≡ true → b ≡ false
 not_true true e = absurd (cc)
 not_true false e = refl
 
@@ -203,3 +203,26 @@ module _ (c : ℕ) (rest : List ℕ) (ends : (c == 10) ≡ false) where
       (λ null. cond_both (c == 13) _ _ ReadsAs (by_code 13 (codes "\\r") refl)
       (λ return. cond_both (c == 9) _ _ ReadsAs (by_code 9 (codes "\\t") refl)
       (λ tab. other amp lt escape null return tab)))))))
+
+-- ---- white space
+
+-- what holds of a newline and of a space holds of white space
+of_white_space : (P : ℕ → Type 0) (c : ℕ) → ((c == 10) || (c == 32)) ≡ true → P 10 → P 32 → P c
+of_white_space P c e newline space = at (c == 10) refl
+  where
+    at : (t : Bool) → (c == 10) ≡ t → P c
+    at true h = subst P (sym (is_code c 10 h)) newline
+    at false h =
+        subst P (sym (is_code c 32 (sym (ap (λ t. t || (c == 32)) h) ∙ e))) space
+
+pub white-space-read : (c : ℕ) (rest : List ℕ) → ((c == 10) || (c == 32)) ≡ true
+    → tokens_from InText (encode_utf8 c ++ rest) ≡ TextByte c ∷ tokens_from InText rest
+unfolding encode_utf8
+white-space-read c rest e =
+    of_white_space
+    (λ k. tokens_from InText (encode_utf8 k ++ rest) ≡ TextByte k ∷ tokens_from InText rest) c e
+    refl refl
+
+pub white-space-shown : (c : ℕ) → ((c == 10) || (c == 32)) ≡ true → c ∷ [] ≡ shown_in_svg c
+unfolding encode_utf8
+white-space-shown c e = of_white_space (λ k. k ∷ [] ≡ shown_in_svg k) c e refl refl

@@ -6,11 +6,11 @@ use Rattle.std.specs.List.{flat_map}
 use Rattle.std.proofs.lemmas.List.{map-append}
 use Rattle.codespan_documents.specs.declared.svg.glyph.Glyph.{Glyph}
 use Rattle.codespan_documents.specs.declared.svg.Pen.{Pen}
-use Rattle.codespan_documents.specs.Glyphs.{cells_of, follows, joins_next, is_narrow, is_newline_glyph, joined_cells, joins}
+use Rattle.codespan_documents.specs.Glyphs.{cells_of, follows, joins_next, is_narrow, is_white_space, joined_cells, joins}
 use Rattle.codespan_documents.specs.HtmlReading.{Token, Tag, TextByte}
 use Rattle.codespan_documents.specs.Inks.{same_ink}
 use Rattle.codespan_documents.specs.Svg.{first_pen, next_pen, text_tag_content}
-use Rattle.codespan_documents.specs.SvgReading.{Piece, RowEnd, Text, joined_glyphs, piece_tokens, pieces_from, shown_glyphs, shown_in_svg, text_width}
+use Rattle.codespan_documents.specs.SvgReading.{Piece, WhiteSpace, Text, joined_glyphs, piece_tokens, pieces_from, shown_glyphs, shown_in_svg, text_width}
 
 -- ---- glyph by glyph
 
@@ -21,7 +21,7 @@ end_tag = Tag (codes "/text") ∷ []
 -- the tokens of a glyph before others
 abbrev pub glyph_tokens : Pen → Glyph → List Glyph → List Token
 glyph_tokens pen glyph others =
-    if is_newline_glyph glyph then TextByte 10 ∷ []
+    if is_white_space glyph then TextByte glyph.character ∷ []
     else (if follows pen.before glyph then []
     else Tag
     (text_tag_content pen.position (cells_of glyph + joined_cells glyph others) glyph.ink)
@@ -49,24 +49,25 @@ three_ifs false x y u v k l P t f = f refl
 
 -- ---- joined glyphs
 
--- a newline joins nothing
-pub newline_joins : (glyph next : Glyph) → is_newline_glyph glyph ≡ true → joins glyph next ≡ false
-newline_joins glyph next e =
+-- white space joins nothing
+pub white_space_joins : (glyph next : Glyph) → is_white_space glyph ≡ true
+    → joins glyph next ≡ false
+white_space_joins glyph next e =
     ap (λ t. (not t && nat_le (cells_of glyph) 1) && is_narrow next
     && same_ink glyph.ink next.ink) e
 
 -- and follows nothing
-joins_newline : (glyph next : Glyph) → is_newline_glyph next ≡ true → joins glyph next ≡ false
-joins_newline glyph next e = at (is_narrow glyph)
+joins_white_space : (glyph next : Glyph) → is_white_space next ≡ true → joins glyph next ≡ false
+joins_white_space glyph next e = at (is_narrow glyph)
   where
     at : (n : Bool) → n && is_narrow next && same_ink glyph.ink next.ink ≡ false
     at true = ap (λ t. (not t && nat_le (cells_of next) 1) && same_ink glyph.ink next.ink) e
     at false = refl
 
-pub follows_newline : (before : Option Glyph) (glyph : Glyph) → is_newline_glyph glyph ≡ true
+pub follows_white_space : (before : Option Glyph) (glyph : Glyph) → is_white_space glyph ≡ true
     → follows before glyph ≡ false
-follows_newline None glyph e = refl
-follows_newline (Some before) glyph e = joins_newline before glyph e
+follows_white_space None glyph e = refl
+follows_white_space (Some before) glyph e = joins_white_space before glyph e
 
 -- the cells of the glyphs that follow
 joined_width : (glyph : Glyph) (others : List Glyph)
@@ -181,38 +182,38 @@ tokens_by_pieces pen (glyph ∷ glyphs) = all (tokens_by_pieces (next_pen pen gl
         ++ (text_tokens glyph (joined_glyphs glyph glyphs) ++ tokens))
         (joined_width glyph glyphs))
 
-    none_left : (others : List Glyph) → is_newline_glyph glyph ≡ true
+    none_left : (others : List Glyph) → is_white_space glyph ≡ true
         → tokens_left (Some glyph) others ≡ []
     none_left [] e = refl
     none_left (other ∷ others) e =
         ap (λ t. if t then text_tokens other (joined_glyphs other others) else [])
-        (newline_joins glyph other e)
+        (white_space_joins glyph other e)
 
-    newline : Rest → is_newline_glyph glyph ≡ true
-        → Goal (TextByte 10 ∷ [])
+    white_space : Rest → is_white_space glyph ≡ true
+        → Goal (TextByte glyph.character ∷ [])
         (if follows pen.before glyph then text_tokens glyph (joined_glyphs glyph glyphs) else [])
-        (RowEnd ∷ rest)
-    newline is e =
-        ap (λ (ps : List Token). TextByte 10 ∷ ps)
+        (WhiteSpace glyph.character ∷ rest)
+    white_space is e =
+        ap (λ (ps : List Token). TextByte glyph.character ∷ ps)
         (is ∙ ap (λ (ps : List Token). ps ++ tokens) (none_left glyphs e))
         ∙ ap
         (λ t. (if t then text_tokens glyph (joined_glyphs glyph glyphs) else [])
-        ++ (TextByte 10 ∷ tokens))
-        (sym (follows_newline pen.before glyph e))
+        ++ (TextByte glyph.character ∷ tokens))
+        (sym (follows_white_space pen.before glyph e))
 
     all : Rest
         → tokens_of_glyphs pen (glyph ∷ glyphs) ≡ tokens_left pen.before
         (glyph ∷ glyphs) ++ flat_map piece_tokens (pieces_from pen (glyph ∷ glyphs))
     all is =
-        two_ifs (is_newline_glyph glyph) (TextByte 10 ∷ [])
+        two_ifs (is_white_space glyph) (TextByte glyph.character ∷ [])
         ((if follows pen.before glyph then [] else tag (cells_of glyph + joined_cells glyph glyphs))
         ++ shown ++ ended)
-        (RowEnd ∷ rest) (if follows pen.before glyph then rest else piece ∷ rest)
+        (WhiteSpace glyph.character ∷ rest) (if follows pen.before glyph then rest else piece ∷ rest)
         (λ (first : List Token) (pieces : List Piece). Goal first
         (if follows pen.before glyph then text_tokens glyph (joined_glyphs glyph glyphs)
         else [])
         pieces)
-        (newline is) (λ _. character is)
+        (white_space is) (λ _. character is)
 
 none_before : (glyphs : List Glyph) → tokens_left None glyphs ≡ []
 none_before [] = refl

@@ -1,22 +1,24 @@
 -- An SVG document reads back as its tags and its text: for the clauses `tokens` and `text` of
 -- `to_svg`.
-use Rattle.std.proofs.Common.{◌≡◌, ℕ, ◌+◌, ◌/◌, true, false, List, [], ◌∷◌, ◌++◌, map, codes, refl, sym, ap, ◌∙◌, append_assoc, append-nil}
-use Rattle.std.specs.Prelude.{Bool, if◌then◌else◌}
+use Rattle.std.proofs.Common.{◌≡◌, ℕ, ◌+◌, true, false, List, [], ◌∷◌, ◌++◌, map, codes, refl, sym, ap, ◌∙◌, append_assoc, append-nil}
+use Rattle.std.specs.Prelude.{Bool, ◌==◌, if◌then◌else◌}
+use Rattle.std.specs.Char.{encode_utf8}
 use Rattle.std.specs.List.{flat_map}
 use Rattle.std.specs.Str.{chars}
+use Rattle.std.proofs.lemmas.Bool.{or_parts}
 use Rattle.std.proofs.lemmas.List.{map-append}
 use Rattle.codespan_base.specs.declared.term.config.styles.Styles.{Styles}
 use Rattle.codespan_documents.specs.declared.svg.glyph.Glyph.{Glyph}
 use Rattle.codespan_documents.specs.declared.svg.ink.Ink.{Ink}
 use Rattle.codespan_documents.specs.declared.svg.Pen.{Pen}
-use Rattle.codespan_documents.specs.Glyphs.{cells_of, extent_from, follows, glyphs_of, glyphs_of_run, joins_next, is_newline_glyph, joined_cells, start}
+use Rattle.codespan_documents.specs.Glyphs.{cells_of, extent_from, follows, glyphs_of, glyphs_of_run, joins_next, is_white_space, joined_cells, start}
 use Rattle.codespan_documents.specs.HtmlReading.{InText, Token, Tag, TextByte, read_tokens, tokens_from, text_of_tokens}
 use Rattle.codespan_documents.specs.Runs.{RunView, run_characters}
 use Rattle.codespan_documents.specs.Svg.{first_pen, glyph_text, background_tag_content, next_pen, svg_document, svg_tag_content, text_tag_content, text_tag, texts_from, xml_character}
 use Rattle.codespan_documents.specs.SvgReading.{piece_tokens, pieces_from, svg_tokens, shown_in_svg, shown_svg_text}
 use Rattle.codespan_documents.proofs.HtmlReading.{text_of-append, text_of-bytes}
 use Rattle.codespan_documents.proofs.SvgPieces.{glyph_tokens, tokens_of_glyphs, tokens_of_pieces, two_ifs}
-use Rattle.codespan_documents.proofs.SvgElements.{is_inside, text-inside, svg-inside, tag-read, character-read}
+use Rattle.codespan_documents.proofs.SvgElements.{is_inside, text-inside, svg-inside, tag-read, character-read, white-space-read, white-space-shown}
 
 -- ---- glyphs
 
@@ -35,16 +37,16 @@ prefix-read : (t : Bool) (content rest : List ℕ) → is_inside content ≡ tru
 prefix-read true content rest h = refl
 prefix-read false content rest h = tag-read content rest h
 
--- a glyph that is no newline
+-- a glyph that is no white space
 character-glyph : (pen : Pen) (glyph : Glyph) (others : List Glyph) (rest : List ℕ)
-    → is_newline_glyph glyph ≡ false
+    → is_white_space glyph ≡ false
     → tokens_from InText
     (((if follows pen.before glyph then []
     else text_tag pen.position (cells_of glyph + joined_cells glyph others) glyph.ink) ++ xml_character glyph.character ++ (if joins_next glyph others then [] else codes "</text>")) ++ rest)
     ≡ ((if follows pen.before glyph then []
     else Tag (text_tag_content pen.position (cells_of glyph + joined_cells glyph others) glyph.ink) ∷ []) ++ map TextByte (shown_in_svg glyph.character) ++ (if joins_next glyph others then [] else Tag (codes "/text") ∷ []))
     ++ tokens_from InText rest
-character-glyph pen glyph others rest ends =
+character-glyph pen glyph others rest shown_glyph =
     let content =
     text_tag_content pen.position (cells_of glyph + joined_cells glyph others) glyph.ink in
     let prefix = if follows pen.before glyph then [] else codes "<" ++ content ++ codes ">" in
@@ -60,7 +62,8 @@ character-glyph pen glyph others rest ends =
     ∙ prefix-read (follows pen.before glyph) content (character ++ (ended ++ rest))
     (text-inside pen.position (cells_of glyph + joined_cells glyph others) glyph.ink)
     ∙ ap (λ (tokens : List Token). opening_tokens ++ tokens)
-    (character-read glyph.character (ended ++ rest) ends
+    (character-read glyph.character (ended ++ rest)
+    (or_parts (glyph.character == 10) (glyph.character == 32) shown_glyph).0
     ∙ ap (λ (tokens : List Token). shown ++ tokens) (ended-read (joins_next glyph others) rest))
     ∙ sym (append_assoc opening_tokens shown (ended_tokens ++ tokens_from InText rest))
     ∙ sym (append_assoc (opening_tokens ++ shown) ended_tokens (tokens_from InText rest))
@@ -69,14 +72,14 @@ glyph-read : (pen : Pen) (glyph : Glyph) (others : List Glyph) (rest : List ℕ)
     → tokens_from InText (glyph_text pen glyph others ++ rest) ≡ glyph_tokens pen glyph
     others ++ tokens_from InText rest
 glyph-read pen glyph others rest =
-    two_ifs (is_newline_glyph glyph) (codes "\n")
+    two_ifs (is_white_space glyph) (encode_utf8 glyph.character)
     ((if follows pen.before glyph then []
     else text_tag pen.position (cells_of glyph + joined_cells glyph others) glyph.ink) ++ xml_character glyph.character ++ (if joins_next glyph others then [] else codes "</text>"))
-    (TextByte 10 ∷ [])
+    (TextByte glyph.character ∷ [])
     ((if follows pen.before glyph then []
     else Tag (text_tag_content pen.position (cells_of glyph + joined_cells glyph others) glyph.ink) ∷ []) ++ map TextByte (shown_in_svg glyph.character) ++ (if joins_next glyph others then [] else Tag (codes "/text") ∷ []))
     (λ bytes tokens. tokens_from InText (bytes ++ rest) ≡ tokens ++ tokens_from InText rest)
-    (λ _. refl) (character-glyph pen glyph others rest)
+    (white-space-read glyph.character rest) (character-glyph pen glyph others rest)
 
 glyphs-read : (pen : Pen) (glyphs : List Glyph) (rest : List ℕ)
     → tokens_from InText (texts_from pen glyphs ++ rest) ≡ tokens_of_glyphs pen
@@ -129,7 +132,7 @@ svg-read glyphs =
 -- the text of the tokens of a glyph
 glyph-text : (pen : Pen) (glyph : Glyph) (others : List Glyph)
     → text_of_tokens (glyph_tokens pen glyph others) ≡ shown_in_svg glyph.character
-glyph-text pen glyph others = at (is_newline_glyph glyph) refl
+glyph-text pen glyph others = at (is_white_space glyph) refl
   where
     prefix : Bool → List Token
     prefix t =
@@ -158,11 +161,19 @@ glyph-text pen glyph others = at (is_newline_glyph glyph) refl
         text_of-append (map TextByte (shown_in_svg glyph.character)) (Tag (codes "/text") ∷ [])
         ∙ append-nil _ ∙ text_of-bytes (shown_in_svg glyph.character)
 
-    at : (n : Bool) → is_newline_glyph glyph ≡ n
+    tokens : Bool → List Token
+    tokens t =
+        if t then TextByte glyph.character ∷ []
+        else prefix (follows pen.before glyph) ++ map TextByte (shown_in_svg glyph.character)
+        ++ ended (joins_next glyph others)
+
+    at : (n : Bool) → is_white_space glyph ≡ n
         → text_of_tokens (glyph_tokens pen glyph others) ≡ shown_in_svg glyph.character
-    at true e = rw e refl
+    at true e =
+        ap (λ t. text_of_tokens (tokens t)) e
+        ∙ white-space-shown glyph.character e
     at false e =
-        ap (λ t. text_of_tokens (if t then TextByte 10 ∷ [] else prefix (follows pen.before glyph) ++ map TextByte (shown_in_svg glyph.character) ++ ended (joins_next glyph others))) e
+        ap (λ t. text_of_tokens (tokens t)) e
         ∙ between (follows pen.before glyph) (joins_next glyph others)
 
 glyphs-text : (pen : Pen) (glyphs : List Glyph)

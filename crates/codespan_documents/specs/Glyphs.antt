@@ -1,5 +1,5 @@
 -- The characters of styled text, each in its ink, and their positions.
-use Rattle.std.specs.Prelude.{ℕ, ◌+◌, ◌==◌, Bool, false, not, nat_le, ◌&&◌, List, [], ◌∷◌, map, max, Option, None, Some, unwrap_or, if◌then◌else◌}
+use Rattle.std.specs.Prelude.{ℕ, ◌+◌, ◌==◌, Bool, false, not, nat_le, ◌&&◌, ◌||◌, List, [], ◌∷◌, map, max, Option, None, Some, unwrap_or, if◌then◌else◌}
 use Rattle.std.specs.List.{flat_map}
 use Rattle.std.specs.Str.{chars}
 use Rattle.unicode_width.specs.Width.{char_width}
@@ -55,9 +55,13 @@ extent_from position (glyph ∷ glyphs) =
 
 -- ---- glyphs of one `text` element
 
--- the glyph occupies at most one cell and is no newline
+-- the glyph is white space, a space or a newline: it is in no `text` element
+abbrev pub is_white_space : Glyph → Bool
+is_white_space glyph = is_newline_glyph glyph || (glyph.character == 32)
+
+-- the glyph occupies at most one cell and is no white space
 abbrev pub is_narrow : Glyph → Bool
-is_narrow glyph = not (is_newline_glyph glyph) && nat_le (cells_of glyph) 1
+is_narrow glyph = not (is_white_space glyph) && nat_le (cells_of glyph) 1
 
 -- the glyph belongs to the `text` element of the one before it: both are narrow, in one ink
 abbrev pub joins : Glyph → Glyph → Bool

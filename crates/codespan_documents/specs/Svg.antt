@@ -6,7 +6,7 @@ use Rattle.codespan_documents.specs.declared.svg.glyph.Glyph.{Glyph}
 use Rattle.codespan_documents.specs.declared.svg.ink.Ink.{Ink}
 use Rattle.codespan_documents.specs.declared.svg.position.CellPosition.{CellPosition}
 use Rattle.codespan_documents.specs.declared.svg.Pen.{Pen}
-use Rattle.codespan_documents.specs.Glyphs.{after_glyph, cells_of, extent_from, follows, joins_next, is_newline_glyph, joined_cells, start}
+use Rattle.codespan_documents.specs.Glyphs.{after_glyph, cells_of, extent_from, follows, joins_next, is_white_space, joined_cells, start}
 
 -- ---- characters
 
@@ -83,11 +83,11 @@ first_pen = record { position = start; before = None }
 abbrev pub next_pen : Pen → Glyph → Pen
 next_pen pen glyph = record { position = after_glyph pen.position glyph; before = Some glyph }
 
--- a glyph before others: a newline ends a row; any other is part of one `text` element with those
--- that it joins
+-- a glyph before others: white space is between the `text` elements, where it is not shown; any
+-- other is part of one `text` element with those that it joins
 abbrev pub glyph_text : Pen → Glyph → List Glyph → List ℕ
 glyph_text pen glyph others =
-    if is_newline_glyph glyph then codes "\n"
+    if is_white_space glyph then encode_utf8 glyph.character
     else (if follows pen.before glyph
     then []
     else text_tag pen.position (cells_of glyph + joined_cells glyph others) glyph.ink)
@@ -120,7 +120,7 @@ svg_tag_start extent =
 unfoldable pub font_attributes : List ℕ
 font_attributes =
     codes " font-family=\"DejaVu Sans Mono, Menlo, Consolas, monospace\" font-size=\"15\""
-    ++ codes " fill=\"#e6edf3\" xml:space=\"preserve\""
+    ++ codes " fill=\"#e6edf3\""
 
 -- that content
 abbrev pub svg_tag_content : CellPosition → List ℕ

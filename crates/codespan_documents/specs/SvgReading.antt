@@ -1,12 +1,12 @@
 -- How an SVG document is read back, by the reader of `HtmlReading`: its tags, and the text between
 -- them, and in which cells the characters of its texts are.
-use Rattle.std.specs.Prelude.{ℕ, ◌+◌, ◌==◌, List, [], ◌∷◌, ◌++◌, map, codes, encode_utf8, if◌then◌else◌}
+use Rattle.std.specs.Prelude.{ℕ, ◌+◌, ◌==◌, Bool, ◌||◌, List, [], ◌∷◌, ◌++◌, map, codes, encode_utf8, if◌then◌else◌}
 use Rattle.std.specs.List.{flat_map}
 use Rattle.codespan_documents.specs.declared.svg.glyph.Glyph.{Glyph}
 use Rattle.codespan_documents.specs.declared.svg.ink.Ink.{Ink}
 use Rattle.codespan_documents.specs.declared.svg.position.CellPosition.{CellPosition}
 use Rattle.codespan_documents.specs.declared.svg.Pen.{Pen}
-use Rattle.codespan_documents.specs.Glyphs.{after_glyph, cells_of, extent_from, follows, is_newline_glyph, joins, start}
+use Rattle.codespan_documents.specs.Glyphs.{after_glyph, cells_of, extent_from, follows, is_white_space, joins, start}
 use Rattle.codespan_documents.specs.HtmlReading.{Token, Tag, TextByte}
 use Rattle.codespan_documents.specs.Runs.{RunView, run_characters}
 use Rattle.codespan_documents.specs.Svg.{first_pen, background_tag_content, is_forbidden_in_xml, next_pen, svg_tag_content, text_tag_content}
@@ -35,10 +35,10 @@ shown_svg_text runs = 10 ∷ 10 ∷ flat_map shown_in_svg (run_characters runs) 
 
 -- ---- pieces
 
--- a piece of a document: the end of a row, or a `text` element: the position where it begins, its
--- first glyph, and the others
+-- a piece of a document: a character of white space, or a `text` element: the position where it
+-- begins, its first glyph, and the others
 pub data Piece : Type 0 where
-  RowEnd : Piece
+  WhiteSpace : ℕ → Piece
   Text : CellPosition → Glyph → List Glyph → Piece
 
 -- the glyphs that follow this one in its `text` element
@@ -52,13 +52,13 @@ abbrev pub text_width : List Glyph → ℕ
 text_width [] = 0
 text_width (glyph ∷ glyphs) = cells_of glyph + text_width glyphs
 
--- the pieces of glyphs: a newline ends a row, and any other that does not follow the one before it
--- begins a `text` element
+-- the pieces of glyphs: white space is one alone, and any other glyph that does not follow the one
+-- before it begins a `text` element
 abbrev pub pieces_from : Pen → List Glyph → List Piece
 pieces_from pen [] = []
 pieces_from pen (glyph ∷ glyphs) =
     let rest = pieces_from (next_pen pen glyph) glyphs in
-    if is_newline_glyph glyph then RowEnd ∷ rest
+    if is_white_space glyph then WhiteSpace glyph.character ∷ rest
     else if follows pen.before glyph then rest
     else Text pen.position glyph (joined_glyphs glyph glyphs) ∷ rest
 
@@ -66,7 +66,7 @@ pieces_from pen (glyph ∷ glyphs) =
 
 -- a `text` element has two tags, and is as long as its cells
 abbrev pub piece_tokens : Piece → List Token
-piece_tokens RowEnd = TextByte 10 ∷ []
+piece_tokens (WhiteSpace character) = TextByte character ∷ []
 piece_tokens (Text position first others) =
     Tag (text_tag_content position (text_width (first ∷ others)) first.ink)
     ∷ map TextByte (shown_glyphs (first ∷ others)) ++ Tag (codes "/text") ∷ []
@@ -95,14 +95,26 @@ text_characters ink position (glyph ∷ glyphs) =
 
 -- the characters of a piece
 abbrev pub piece_characters : Piece → List CharacterInCell
-piece_characters RowEnd = []
+piece_characters (WhiteSpace character) = []
 piece_characters (Text position first others) = text_characters first.ink position (first ∷ others)
 
--- the characters of glyphs from a position on but newlines, each in its ink and in the cell that it
--- has among all of them
+-- the characters of glyphs from a position on but white space, each in its ink and in the cell that
+-- it has among all of them
 abbrev pub characters_from : CellPosition → List Glyph → List CharacterInCell
 characters_from position [] = []
 characters_from position (glyph ∷ glyphs) =
     let rest = characters_from (after_glyph position glyph) glyphs in
-    if is_newline_glyph glyph then rest
+    if is_white_space glyph then rest
     else record { character = glyph.character; ink = glyph.ink; position = position } ∷ rest
+
+-- ---- white space
+
+-- the bytes that a piece shows: white space between `text` elements is not shown
+abbrev pub shown_bytes : Piece → List ℕ
+shown_bytes (WhiteSpace character) = []
+shown_bytes (Text position first others) = shown_glyphs (first ∷ others)
+
+-- the byte is white space to a reader of XML, which may collapse or drop it: a tab, a newline, a
+-- carriage return or a space
+abbrev pub is_collapsible : ℕ → Bool
+is_collapsible byte = (byte == 9) || (byte == 10) || (byte == 13) || (byte == 32)

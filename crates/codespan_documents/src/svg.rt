@@ -34,12 +34,15 @@ const BASELINE: u128 = 25;
 
 /// The end of the first tag, with the font and the color of plain text, and the dark background.
 const FONT_AND_BACKGROUND: &str =
-    " font-family=\"DejaVu Sans Mono, Menlo, Consolas, monospace\" font-size=\"15\" fill=\"#e6edf3\" xml:space=\"preserve\">
+    " font-family=\"DejaVu Sans Mono, Menlo, Consolas, monospace\" font-size=\"15\" fill=\"#e6edf3\">
 <rect width=\"100%\" height=\"100%\" rx=\"6\" fill=\"#161b22\"/>
 ";
 
-/// Returns an SVG document of styled text: an element `text` for characters that follow one another
-/// in a row in one ink, on a dark background.
+/// Returns an SVG document of styled text: an element `text` for characters of a row that follow one
+/// another in one ink without a space between them, on a dark background.
+///
+/// A space is a position: it is between the elements, where it is not shown, and in none of them. So
+/// the document looks the same however a renderer collapses white space.
 ///
 /// The ink of a run is the color of its style in `styles`, on the dark background, and whether it
 /// is bold; `bg` and `intense` have no effect. A cell is nine pixels wide and a row eighteen high,
@@ -114,7 +117,7 @@ struct Pen {
     before: Option<Glyph>,
 }
 
-/// Appends glyphs: `text` elements, and a newline at the end of each row.
+/// Appends glyphs: `text` elements, and white space between them.
 fn push_texts(alloc: Global, document: &mut String, glyphs: &[Glyph]) -> Result<(), AllocError>
     ensures { OnOk result (string_bytes document.new ≡ string_bytes document.old
         ++ texts_from first_pen glyphs.now) }
@@ -146,8 +149,8 @@ fn push_glyph(
     ensures { OnOk result (string_bytes document.new ≡ string_bytes document.old
         ++ glyph_text pen glyph others.now) }
 {
-    if glyph.is_newline() {
-        document.push_str("\n")?;
+    if glyph.is_white_space() {
+        document.push(glyph.character)?;
         return Ok(());
     }
     if !follows(pen.before, glyph) {

@@ -1,7 +1,7 @@
 //! The characters of styled text, each in its ink, and the cells that they occupy.
 
 ghost use Rattle.std.specs.Prelude.{◌≡◌, ◌≤◌, IfOk, length, map};
-ghost use Rattle.codespan_documents.specs.Glyphs.{cells_of, follows, glyphs_of, glyphs_of_run, joins_next, is_narrow, is_newline_glyph, joined_cells, joins};
+ghost use Rattle.codespan_documents.specs.Glyphs.{cells_of, follows, glyphs_of, glyphs_of_run, joins_next, is_narrow, is_newline_glyph, is_white_space, joined_cells, joins};
 ghost use Rattle.codespan_documents.specs.Runs.{run_view};
 
 use crate::style_sheet::color_spec_of_style;
@@ -37,11 +37,18 @@ impl Glyph {
         self.character == '\n'
     }
 
-    /// Returns whether it occupies at most one cell and is no newline.
+    /// Returns whether it is white space, a space or a newline: no `text` element has it.
+    pub fn is_white_space(self) -> bool
+        ensures { result ≡ is_white_space self }
+    {
+        self.is_newline() || self.character == ' '
+    }
+
+    /// Returns whether it occupies at most one cell and is no white space.
     fn is_narrow(self) -> bool
         ensures { result ≡ is_narrow self }
     {
-        !self.is_newline() && self.cells() <= 1
+        !self.is_white_space() && self.cells() <= 1
     }
 
     /// Returns whether the next glyph belongs to the same `text` element: both are narrow, in one

@@ -20,18 +20,23 @@ tagged c = elim c.if-not-follows.branch [
 ]
 
 -- the glyph is the last one of its text
-pub returns-in_ok-push_str-2 : goal.returns-in_ok-push_str-2
-returns-in_ok-push_str-2 c =
-    glyph-written c.args.pen c.args.glyph c.args.others.now _ _ _ _ (sym c.if-is_newline.ensures)
-    (tagged (goal.at.returns-in_ok-push_str-2 c).In_ok-push_character)
+pub returns-in_ok-push_str : goal.returns-in_ok-push_str
+returns-in_ok-push_str c =
+    glyph-written c.args.pen c.args.glyph c.args.others.now _ _ _ _ (sym c.if-is_white_space.ensures)
+    (tagged (goal.at.returns-in_ok-push_str c).In_ok-push_character)
     c.in_ok-push_character.ensures
-    (rw (← c.if-not-joins_next.ensures) c.in_ok-push_str-2.ensures.bytes)
+    (rw (← c.if-not-joins_next.ensures) c.in_ok-push_str.ensures.bytes)
 
 -- the text of the glyph goes on
 pub returns-else-not-joins_next : goal.returns-else-not-joins_next
 returns-else-not-joins_next c =
     glyph-written c.args.pen c.args.glyph c.args.others.now _ _ _
-    (string_bytes c.push_character.new.document) (sym c.if-is_newline.ensures)
+    (string_bytes c.push_character.new.document) (sym c.if-is_white_space.ensures)
     (tagged (goal.at.returns-else-not-joins_next c).In_ok-push_character)
     c.in_ok-push_character.ensures
     (rw (← c.if-not-joins_next.ensures) (sym (append-nil _)))
+
+-- white space is written as itself
+pub returns-then-is_white_space : goal.returns-then-is_white_space
+returns-then-is_white_space c =
+    rw (← c.if-is_white_space.ensures) c.in_ok-push.ensures.bytes
