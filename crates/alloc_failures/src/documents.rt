@@ -89,7 +89,9 @@ const CSS: &str = ".diagnostic .header-bug { }\n\
                    .diagnostic .secondary-label { }\n\
                    .diagnostic .line-number { }\n\
                    .diagnostic .source-border { }\n\
-                   .diagnostic .note-bullet { }\n";
+                   .diagnostic .note-bullet { }\n\
+                   .diagnostic .wide { display: inline-block; width: 2ch; }\n\
+                   .diagnostic .wide-3 { display: inline-block; width: 3ch; }\n";
 
 /// Makes a call and judges it.
 ///

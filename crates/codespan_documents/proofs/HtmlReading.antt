@@ -8,15 +8,14 @@ use Rattle.std.proofs.Math.Utf8.{scalar}
 use Rattle.std.proofs.lemmas.Bool.{cond_both}
 use Rattle.std.proofs.lemmas.Bool.Decides.{nat_tests}
 use Rattle.std.proofs.lemmas.Grind.{flat_map-append}
-use Rattle.std.proofs.lemmas.List.{map-append}
 use Rattle.std.proofs.lemmas.Str.{IsUtf8-append, IsUtf8-nil, IsUtf8-string_bytes, chars-encodes, chars-nil, chars_past_char}
 use Rattle.codespan_base.specs.declared.diagnostic.LabelStyle.TheVariants.{Primary, Secondary}
 use Rattle.codespan_base.specs.declared.diagnostic.Severity.TheVariants.{Bug, Error, Warning, Note, Help}
 use Rattle.codespan_documents.specs.declared.style.Style.{Style}
 use Rattle.codespan_documents.specs.declared.style.Style.TheVariants.{Plain, Header, HeaderMessage, LineNumber, NoteBullet, SourceBorder, Label}
 use Rattle.codespan_documents.specs.declared.text.Run.{Run}
-use Rattle.codespan_documents.specs.Html.{html_character, html_element, html_run, escaped_text, is_forbidden_control, is_noncharacter, replaced_character, shown_text, span_tag_content}
-use Rattle.codespan_documents.specs.HtmlReading.{InEntity, InTag, InText, Token, Tag, TextByte, element_tokens, read_tokens, tokens_from, run_tokens, text_of_html, text_of_tokens, text_tokens, without_newline}
+use Rattle.codespan_documents.specs.Html.{box_class, character_cells, escaped_text, html_cell, html_character, html_element, html_run, html_span, is_forbidden_control, is_noncharacter, is_wide, replaced_character, shown_text, span_tag, span_tag_content, style_class}
+use Rattle.codespan_documents.specs.HtmlReading.{InEntity, InTag, InText, Token, Tag, TextByte, cell_tokens, character_tokens, element_tokens, read_tokens, tokens_from, run_tokens, span_tokens, text_of_html, text_of_tokens, text_tokens, without_newline}
 use Rattle.codespan_documents.specs.Runs.{RunView, is_plain, joined, run_view}
 
 -- ---- bytes of text
@@ -95,101 +94,100 @@ module _ (c : ℕ) (rest : List ℕ) where
       (λ apos. bytes-read (encode_utf8 (replaced_character c)) rest
       (character-bytes (replaced_character c) (replaced_character-text c (lt, amp))))))))
 
--- characters
-characters-read : (cs rest : List ℕ)
-    → tokens_from InText (flat_map html_character cs ++ rest) ≡ map TextByte
-    (flat_map (λ c. encode_utf8 (replaced_character c)) cs) ++ tokens_from InText rest
-characters-read [] rest = refl
-characters-read (c ∷ cs) rest =
-    let first = encode_utf8 (replaced_character c) in
-    let others = flat_map (λ c. encode_utf8 (replaced_character c)) cs in
-    ap (tokens_from InText) (append_assoc (html_character c) (flat_map html_character cs) rest)
-    ∙ character-read c (flat_map html_character cs ++ rest)
-    ∙ ap (λ (tokens : List Token). map TextByte first ++ tokens) (characters-read cs rest)
-    ∙ sym (append_assoc (map TextByte first) (map TextByte others) (tokens_from InText rest))
-    ∙ ap (λ (tokens : List Token). tokens ++ tokens_from InText rest)
-    (sym (map-append TextByte first others))
+-- ---- bytes, one after another
 
--- a text
-text-read : (text rest : List ℕ)
-    → tokens_from InText (escaped_text text ++ rest) ≡ text_tokens text ++ tokens_from InText rest
-text-read text rest = characters-read (chars text) rest
+-- a reader in text finds these tokens in the bytes, whatever follows them
+abbrev Reads : List ℕ → List Token → Type 0
+Reads bs tokens =
+    (rest : List ℕ) → tokens_from InText (bs ++ rest) ≡ tokens ++ tokens_from InText rest
 
--- ---- runs
+reads-append : (a b : List ℕ) (s t : List Token) → Reads a s → Reads b t → Reads (a ++ b) (s ++ t)
+reads-append a b s t first second rest =
+    ap (tokens_from InText) (append_assoc a b rest) ∙ first (b ++ rest)
+    ∙ ap (λ (tokens : List Token). s ++ tokens) (second rest)
+    ∙ sym (append_assoc s t (tokens_from InText rest))
 
--- a text and the tag that ends its run
-ended-read : (text rest : List ℕ)
-    → tokens_from InText
-    ((escaped_text text ++ codes "</span>") ++ rest) ≡ (text_tokens text ++ Tag (codes "/span") ∷ [])
-    ++ tokens_from InText rest
-ended-read text rest =
-    ap (tokens_from InText) (append_assoc (escaped_text text) (codes "</span>") rest)
-    ∙ text-read text (codes "</span>" ++ rest)
-    ∙ sym (append_assoc (text_tokens text) (Tag (codes "/span") ∷ []) (tokens_from InText rest))
+reads-all : {A : Type 0} (bytes : A → List ℕ) (tokens : A → List Token)
+    → ((x : A) → Reads (bytes x) (tokens x)) → (xs : List A)
+    → Reads (flat_map bytes xs) (flat_map tokens xs)
+reads-all bytes tokens each [] rest = refl
+reads-all bytes tokens each (x ∷ xs) rest =
+    reads-append (bytes x) (flat_map bytes xs) (tokens x) (flat_map tokens xs) (each x)
+    (reads-all bytes tokens each xs) rest
 
-run-read-at : (style : Style) (text rest : List ℕ)
-    → tokens_from InText (html_run (record { style = style; text = text }) ++ rest) ≡ run_tokens
-    (record { style = style; text = text }) ++ tokens_from InText rest
-run-read-at Plain text rest = text-read text rest
-run-read-at (Header Bug) text rest =
-    ap (λ (tokens : List Token). Tag (span_tag_content (Header Bug)) ∷ tokens)
-    (ended-read text rest)
-run-read-at (Header Error) text rest =
-    ap (λ (tokens : List Token). Tag (span_tag_content (Header Error)) ∷ tokens)
-    (ended-read text rest)
-run-read-at (Header Warning) text rest =
-    ap (λ (tokens : List Token). Tag (span_tag_content (Header Warning)) ∷ tokens)
-    (ended-read text rest)
-run-read-at (Header Note) text rest =
-    ap (λ (tokens : List Token). Tag (span_tag_content (Header Note)) ∷ tokens)
-    (ended-read text rest)
-run-read-at (Header Help) text rest =
-    ap (λ (tokens : List Token). Tag (span_tag_content (Header Help)) ∷ tokens)
-    (ended-read text rest)
-run-read-at HeaderMessage text rest =
-    ap (λ (tokens : List Token). Tag (span_tag_content HeaderMessage) ∷ tokens)
-    (ended-read text rest)
-run-read-at LineNumber text rest =
-    ap (λ (tokens : List Token). Tag (span_tag_content LineNumber) ∷ tokens) (ended-read text rest)
-run-read-at NoteBullet text rest =
-    ap (λ (tokens : List Token). Tag (span_tag_content NoteBullet) ∷ tokens) (ended-read text rest)
-run-read-at SourceBorder text rest =
-    ap (λ (tokens : List Token). Tag (span_tag_content SourceBorder) ∷ tokens)
-    (ended-read text rest)
-run-read-at (Label Bug Primary) text rest =
-    ap (λ (tokens : List Token). Tag (span_tag_content (Label Bug Primary)) ∷ tokens)
-    (ended-read text rest)
-run-read-at (Label Error Primary) text rest =
-    ap (λ (tokens : List Token). Tag (span_tag_content (Label Error Primary)) ∷ tokens)
-    (ended-read text rest)
-run-read-at (Label Warning Primary) text rest =
-    ap (λ (tokens : List Token). Tag (span_tag_content (Label Warning Primary)) ∷ tokens)
-    (ended-read text rest)
-run-read-at (Label Note Primary) text rest =
-    ap (λ (tokens : List Token). Tag (span_tag_content (Label Note Primary)) ∷ tokens)
-    (ended-read text rest)
-run-read-at (Label Help Primary) text rest =
-    ap (λ (tokens : List Token). Tag (span_tag_content (Label Help Primary)) ∷ tokens)
-    (ended-read text rest)
-run-read-at (Label severity Secondary) text rest =
-    ap (λ (tokens : List Token). Tag (span_tag_content (Label severity Secondary)) ∷ tokens)
-    (ended-read text rest)
+reads-if : (test : Bool) (a b : List ℕ) (s t : List Token) → Reads a s → Reads b t
+    → Reads (if test then a else b) (if test then s else t)
+reads-if true a b s t first second = first
+reads-if false a b s t first second = second
 
-runs-read : (runs : List RunView) (rest : List ℕ)
-    → tokens_from InText (flat_map html_run runs ++ rest) ≡ flat_map run_tokens runs ++ tokens_from
-    InText rest
-runs-read [] rest = refl
-runs-read (run ∷ runs) rest =
-    ap (tokens_from InText) (append_assoc (html_run run) (flat_map html_run runs) rest)
-    ∙ run-read-at run.style run.text (flat_map html_run runs ++ rest)
-    ∙ ap (λ (tokens : List Token). run_tokens run ++ tokens) (runs-read runs rest)
-    ∙ sym (append_assoc (run_tokens run) (flat_map run_tokens runs) (tokens_from InText rest))
+-- ---- spans
+
+-- the tag that starts a `span` of the class is read as one
+abbrev IsClass : List ℕ → Type 0
+IsClass class = Reads (span_tag class) (Tag (span_tag_content class) ∷ [])
+
+span-read : (class content : List ℕ) (tokens : List Token) → IsClass class → Reads content tokens
+    → Reads (html_span class content) (span_tokens class tokens)
+span-read class content tokens starts inside =
+    let start = Tag (span_tag_content class) ∷ [] in
+    reads-append (span_tag class ++ content) (codes "</span>") (start ++ tokens)
+    (Tag (codes "/span") ∷ [])
+    (reads-append (span_tag class) content start tokens starts inside) (λ rest. refl)
+
+-- the class of a box
+box-class : (c : ℕ) → IsClass (box_class c)
+box-class c =
+    cond_both (character_cells c == 2) (codes "wide") (codes "wide-3") IsClass (λ _ rest. refl)
+    (λ _ rest. refl)
+
+-- the class of a style
+class-of-style : (style : Style) → IsClass (style_class style)
+class-of-style Plain rest = refl
+class-of-style (Header Bug) rest = refl
+class-of-style (Header Error) rest = refl
+class-of-style (Header Warning) rest = refl
+class-of-style (Header Note) rest = refl
+class-of-style (Header Help) rest = refl
+class-of-style HeaderMessage rest = refl
+class-of-style LineNumber rest = refl
+class-of-style NoteBullet rest = refl
+class-of-style SourceBorder rest = refl
+class-of-style (Label Bug Primary) rest = refl
+class-of-style (Label Error Primary) rest = refl
+class-of-style (Label Warning Primary) rest = refl
+class-of-style (Label Note Primary) rest = refl
+class-of-style (Label Help Primary) rest = refl
+class-of-style (Label severity Secondary) rest = refl
+
+-- ---- texts and runs
+
+-- a character, a wide one in a box
+cell-read : (c : ℕ) → Reads (html_cell c) (cell_tokens c)
+cell-read c =
+    let box = html_span (box_class c) (html_character c) in
+    let tokens = span_tokens (box_class c) (character_tokens c) in
+    reads-if (is_wide c) box (html_character c) tokens (character_tokens c)
+    (span-read (box_class c) (html_character c) (character_tokens c) (box-class c)
+    (character-read c))
+    (character-read c)
+
+text-read : (text : List ℕ) → Reads (escaped_text text) (text_tokens text)
+text-read text = reads-all html_cell cell_tokens cell-read (chars text)
+
+run-read : (run : RunView) → Reads (html_run run) (run_tokens run)
+run-read run =
+    let class = style_class run.style in
+    let text = escaped_text run.text in
+    let tokens = text_tokens run.text in
+    reads-if (is_plain run.style) text (html_span class text) tokens (span_tokens class tokens)
+    (text-read run.text)
+    (span-read class text tokens (class-of-style run.style) (text-read run.text))
 
 -- the element of runs reads back
 pub element-read : (runs : List RunView) → read_tokens (html_element runs) ≡ element_tokens runs
 element-read runs =
     ap (λ (tokens : List Token). Tag (codes "pre class=\"diagnostic\"") ∷ TextByte 10 ∷ tokens)
-    (runs-read runs (codes "</pre>"))
+    (reads-all html_run run_tokens run-read runs (codes "</pre>"))
 
 -- ---- the text of tokens
 
@@ -203,14 +201,36 @@ pub text_of-bytes : (bs : List ℕ) → text_of_tokens (map TextByte bs) ≡ bs
 text_of-bytes [] = refl
 text_of-bytes (b ∷ bs) = ap (λ xs. b ∷ xs) (text_of-bytes bs)
 
+span-text : (class : List ℕ) (tokens : List Token)
+    → text_of_tokens (span_tokens class tokens) ≡ text_of_tokens tokens
+span-text class tokens =
+    text_of-append tokens (Tag (codes "/span") ∷ []) ∙ append-nil (text_of_tokens tokens)
+
+-- the text of a character, in a box or in none
+cell-text : (c : ℕ) → text_of_tokens (cell_tokens c) ≡ encode_utf8 (replaced_character c)
+cell-text c =
+    let shown = encode_utf8 (replaced_character c) in
+    cond_both (is_wide c) _ _ (λ (tokens : List Token). text_of_tokens tokens ≡ shown)
+    (λ _. span-text (box_class c) (character_tokens c) ∙ text_of-bytes shown)
+    (λ _. text_of-bytes shown)
+
+characters-text : (cs : List ℕ)
+    → text_of_tokens (flat_map cell_tokens cs) ≡ flat_map
+    (λ c. encode_utf8 (replaced_character c)) cs
+characters-text [] = refl
+characters-text (c ∷ cs) =
+    text_of-append (cell_tokens c) (flat_map cell_tokens cs)
+    ∙ ap (λ bs. bs ++ text_of_tokens (flat_map cell_tokens cs)) (cell-text c)
+    ∙ ap (λ bs. encode_utf8 (replaced_character c) ++ bs) (characters-text cs)
+
 -- the text of a run
 run-text : (run : RunView) → text_of_tokens (run_tokens run) ≡ shown_text run.text
 run-text run =
     cond_both (is_plain run.style) _ _
     (λ (tokens : List Token). text_of_tokens tokens ≡ shown_text run.text)
-    (λ _. text_of-bytes (shown_text run.text))
-    (λ _. text_of-append (text_tokens run.text) (Tag (codes "/span") ∷ [])
-    ∙ append-nil (text_of_tokens (text_tokens run.text)) ∙ text_of-bytes (shown_text run.text))
+    (λ _. characters-text (chars run.text))
+    (λ _. span-text (style_class run.style) (text_tokens run.text)
+    ∙ characters-text (chars run.text))
 
 -- ---- texts, one after another
 

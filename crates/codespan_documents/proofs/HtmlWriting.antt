@@ -1,38 +1,41 @@
 -- Texts and runs that are appended to an element one by one: for the clause `element` of
 -- `to_html`.
-use Rattle.std.proofs.Common.{◌≡◌, ℕ, List, [], ◌∷◌, ◌++◌, length, map, sym, ap, ◌∙◌, append_assoc, append-nil, arith, codes, false, refl, string_bytes}
+use Rattle.std.proofs.Common.{◌≡◌, ℕ, List, [], ◌∷◌, ◌++◌, length, map, sym, ap, ◌∙◌, append_assoc, append-nil, arith, codes, refl}
 use Rattle.std.specs.Char.{encode_utf8}
 use Rattle.std.specs.List.{flat_map}
 use Rattle.std.specs.Str.{IsUtf8}
 use Rattle.std.proofs.lemmas.Str.{chars-nil, chars_past_char}
 use Rattle.codespan_documents.specs.declared.text.Run.{Run}
-use Rattle.codespan_documents.specs.Html.{html_character, html_element, html_run, escaped_text, style_class}
-use Rattle.codespan_documents.specs.Runs.{is_plain, run_view}
+use Rattle.codespan_documents.specs.Html.{escaped_text, html_cell, html_element, html_run, html_span, span_tag}
+use Rattle.codespan_documents.specs.Runs.{run_view}
 
 -- a character of the text that is left
 pub text-more : (front next whole rest more : List ℕ) (c : ℕ) → IsUtf8 rest
-    → rest ≡ encode_utf8 c ++ more → next ≡ front ++ html_character c
+    → rest ≡ encode_utf8 c ++ more → next ≡ front ++ html_cell c
     → front ++ escaped_text rest ≡ whole
     → next ++ escaped_text more ≡ whole
 text-more front next whole rest more c u e is before =
-    ap (λ f. f ++ escaped_text more) is ∙ append_assoc front (html_character c) (escaped_text more)
-    ∙ ap (λ cs. front ++ flat_map html_character cs) (sym (chars_past_char rest more c u e))
+    ap (λ f. f ++ escaped_text more) is ∙ append_assoc front (html_cell c) (escaped_text more)
+    ∙ ap (λ cs. front ++ flat_map html_cell cs) (sym (chars_past_char rest more c u e))
     ∙ before
 
 -- no text is left
 pub text-end : (front whole rest : List ℕ) → length rest ≡ 0 → front ++ escaped_text rest ≡ whole
     → front ≡ whole
 text-end front whole [] none before =
-    sym (append-nil front) ∙ ap (λ cs. front ++ flat_map html_character cs) (sym chars-nil) ∙ before
+    sym (append-nil front) ∙ ap (λ cs. front ++ flat_map html_cell cs) (sym chars-nil) ∙ before
 text-end front whole (b ∷ rest) none before = absurd (omega arith)
 
--- a run between its tags
-pub run-written : (run : Run) (front b1 b2 b3 b4 b5 class : List ℕ) → is_plain run.style ≡ false
-    → b1 ≡ front ++ codes "<span class=\"" → class ≡ style_class run.style → b2 ≡ b1 ++ class
-    → b3 ≡ b2 ++ codes "\">" → b4 ≡ b3 ++ escaped_text (string_bytes run.text)
-    → b5 ≡ b4 ++ codes "</span>" → b5 ≡ front ++ html_run (run_view run)
-run-written run front b1 b2 b3 b4 b5 class styled e1 named e2 e3 e4 e5 =
-    rw (e5, e4, e3, e2, named, e1, styled) (simp append_assoc)
+regrouped : (front tag content end : List ℕ)
+    → ((front ++ tag) ++ content) ++ end ≡ front ++ ((tag ++ content) ++ end)
+regrouped front tag content end = simp append_assoc
+
+-- a `span` of a class
+pub span-written : (front b1 b2 b3 class named content : List ℕ) → named ≡ class
+    → b1 ≡ front ++ span_tag named → b2 ≡ b1 ++ content → b3 ≡ b2 ++ codes "</span>"
+    → b3 ≡ front ++ html_span class content
+span-written front b1 b2 b3 class named content is e1 e2 e3 =
+    rw (e3, e2, e1, is) (regrouped front (span_tag class) content (codes "</span>"))
 
 -- the whole element
 pub element-written : (runs slice : List Run) (b0 b1 b2 b3 : List ℕ) → b0 ≡ []

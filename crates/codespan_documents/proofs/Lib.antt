@@ -1,6 +1,7 @@
 pub mod Appending
 pub mod HtmlWriting
 pub mod HtmlReading
+pub mod HtmlBalance
 pub mod StyleSheets
 pub mod Glyphs
 pub mod SvgPieces

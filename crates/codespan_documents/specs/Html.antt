@@ -1,7 +1,8 @@
 -- HTML elements of styled text.
-use Rattle.std.specs.Prelude.{ℕ, ◌%◌, ◌==◌, Bool, not, nat_lt, nat_le, ◌&&◌, ◌||◌, List, ◌++◌, codes, encode_utf8, if◌then◌else◌}
+use Rattle.std.specs.Prelude.{ℕ, ◌%◌, ◌==◌, Bool, false, not, nat_lt, nat_le, ◌&&◌, ◌||◌, List, ◌++◌, codes, encode_utf8, unwrap_or, if◌then◌else◌}
 use Rattle.std.specs.List.{flat_map}
 use Rattle.std.specs.Str.{chars}
+use Rattle.unicode_width.specs.Width.{char_width}
 use Rattle.codespan_base.specs.declared.diagnostic.LabelStyle.TheVariants.{Primary, Secondary}
 use Rattle.codespan_base.specs.declared.diagnostic.Severity.{Severity}
 use Rattle.codespan_base.specs.declared.diagnostic.Severity.TheVariants.{Bug, Error, Warning, Note, Help}
@@ -40,9 +41,42 @@ html_character c =
     else if c == 39 then codes "&#39;"
     else encode_utf8 (replaced_character c)
 
--- a text in an element, escaped
+-- ---- spans
+
+-- the content of the tag that starts a `span` of a class
+abbrev pub span_tag_content : List ℕ → List ℕ
+span_tag_content class = codes "span class=\"" ++ class ++ codes "\""
+
+-- the tag that starts a `span` of a class
+abbrev pub span_tag : List ℕ → List ℕ
+span_tag class = codes "<" ++ span_tag_content class ++ codes ">"
+
+-- a `span` of a class
+abbrev pub html_span : List ℕ → List ℕ → List ℕ
+html_span class content = span_tag class ++ content ++ codes "</span>"
+
+-- ---- wide characters
+
+-- the number of cells that a character occupies: the width that `unicode_width` returns for it, or
+-- 0 where it returns none; it is 3 at most
+abbrev pub character_cells : ℕ → ℕ
+character_cells c = unwrap_or (char_width false c) 0
+
+-- the character occupies more than one cell
+abbrev pub is_wide : ℕ → Bool
+is_wide c = nat_lt 1 (character_cells c)
+
+-- the class of the box of a wide character
+abbrev pub box_class : ℕ → List ℕ
+box_class c = if character_cells c == 2 then codes "wide" else codes "wide-3"
+
+-- a character in an element, a wide one in a box
+abbrev pub html_cell : ℕ → List ℕ
+html_cell c = if is_wide c then html_span (box_class c) (html_character c) else html_character c
+
+-- a text in an element, escaped, each wide character in a box
 abbrev pub escaped_text : List ℕ → List ℕ
-escaped_text text = flat_map html_character (chars text)
+escaped_text text = flat_map html_cell (chars text)
 
 -- ---- classes
 
@@ -67,16 +101,11 @@ style_class (Label severity Secondary) = codes "secondary-label"
 
 -- ---- elements
 
--- the content of the tag that starts a run
-abbrev pub span_tag_content : Style → List ℕ
-span_tag_content style = codes "span class=\"" ++ style_class style ++ codes "\""
-
--- a run: a plain one as its text, any other between two tags
+-- a run: a plain one as its text, any other in a `span` of the class of its style
 abbrev pub html_run : RunView → List ℕ
 html_run run =
     if is_plain run.style then escaped_text run.text
-    else codes "<" ++ span_tag_content run.style ++ codes ">" ++ escaped_text run.text
-    ++ codes "</span>"
+    else html_span (style_class run.style) (escaped_text run.text)
 
 -- the element of runs; HTML does not show the newline after the first tag
 abbrev pub html_element : List RunView → List ℕ

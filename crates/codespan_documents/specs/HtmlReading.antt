@@ -1,8 +1,8 @@
 -- How an HTML element is read back: its tags, and the text between them.
-use Rattle.std.specs.Prelude.{ℕ, ◌==◌, List, [], ◌∷◌, ◌++◌, map, codes, if◌then◌else◌}
+use Rattle.std.specs.Prelude.{ℕ, ◌==◌, List, [], ◌∷◌, ◌++◌, map, codes, encode_utf8, Option, None, Some, option_and_then, if◌then◌else◌}
 use Rattle.std.specs.List.{flat_map}
-use Rattle.std.specs.Str.{bytes_eq}
-use Rattle.codespan_documents.specs.Html.{shown_text, span_tag_content}
+use Rattle.std.specs.Str.{bytes_eq, chars}
+use Rattle.codespan_documents.specs.Html.{box_class, is_wide, replaced_character, span_tag_content, style_class}
 use Rattle.codespan_documents.specs.Runs.{RunView, is_plain}
 
 -- a token of an element: a byte of text, or what is between `<` and `>`
@@ -59,17 +59,59 @@ without_newline (b ∷ text) = if b == 10 then text else b ∷ text
 abbrev pub text_of_html : List ℕ → List ℕ
 text_of_html element = without_newline (text_of_tokens (read_tokens element))
 
+-- ---- balance
+
+-- the name of a tag: what is before its first space
+abbrev pub tag_name : List ℕ → List ℕ
+tag_name [] = []
+tag_name (b ∷ tag) = if b == 32 then [] else b ∷ tag_name tag
+
+-- the elements that are open after an end tag of this name, if it is that of the innermost
+abbrev pub closed : List ℕ → List (List ℕ) → Option (List (List ℕ))
+closed name [] = None
+closed name (innermost ∷ elements) = if bytes_eq name innermost then Some elements else None
+
+-- the elements that are open after a tag, by their names, the innermost first: one that begins with
+-- `/` closes the innermost, which has to have its name, and any other opens one
+abbrev pub after_tag : List ℕ → List (List ℕ) → Option (List (List ℕ))
+after_tag [] elements = None
+after_tag (b ∷ tag) elements =
+    if b == 47 then closed tag elements else Some (tag_name (b ∷ tag) ∷ elements)
+
+-- the elements that are open after tokens, where these were open before them
+abbrev pub open_from : List Token → List (List ℕ) → Option (List (List ℕ))
+open_from [] elements = Some elements
+open_from (TextByte b ∷ tokens) elements = open_from tokens elements
+open_from (Tag tag ∷ tokens) elements = option_and_then (open_from tokens) (after_tag tag elements)
+
+-- the elements that are open after tokens; none where an end tag is not that of the innermost
+abbrev pub open_after : List Token → Option (List (List ℕ))
+open_after tokens = open_from tokens []
+
 -- ---- the tokens of the element of runs
+
+-- tokens between the tags of a `span` of a class
+abbrev pub span_tokens : List ℕ → List Token → List Token
+span_tokens class tokens = Tag (span_tag_content class) ∷ tokens ++ Tag (codes "/span") ∷ []
+
+-- a character, as an element shows it
+abbrev pub character_tokens : ℕ → List Token
+character_tokens c = map TextByte (encode_utf8 (replaced_character c))
+
+-- a character, a wide one between the tags of its box
+abbrev pub cell_tokens : ℕ → List Token
+cell_tokens c =
+    if is_wide c then span_tokens (box_class c) (character_tokens c) else character_tokens c
 
 -- a text
 abbrev pub text_tokens : List ℕ → List Token
-text_tokens text = map TextByte (shown_text text)
+text_tokens text = flat_map cell_tokens (chars text)
 
 -- a run: a plain one is its text, any other has a tag before it and one after it
 abbrev pub run_tokens : RunView → List Token
 run_tokens run =
     if is_plain run.style then text_tokens run.text
-    else Tag (span_tag_content run.style) ∷ text_tokens run.text ++ Tag (codes "/span") ∷ []
+    else span_tokens (style_class run.style) (text_tokens run.text)
 
 -- all of an element: no other tag, and no other text
 abbrev pub element_tokens : List RunView → List Token

@@ -78,6 +78,12 @@ classed_styles =
     ∷ Label Bug Primary ∷ Label Error Primary ∷ Label Warning Primary ∷ Label Note Primary
     ∷ Label Help Primary ∷ Label Error Secondary ∷ LineNumber ∷ SourceBorder ∷ NoteBullet ∷ []
 
+-- the rules of the boxes of wide characters: as wide as the cells that the characters occupy
+abbrev pub box_rules : List ℕ
+box_rules =
+    codes ".diagnostic .wide { display: inline-block; width: 2ch; }\n"
+    ++ codes ".diagnostic .wide-3 { display: inline-block; width: 3ch; }\n"
+
 -- the style sheet: a rule for each class
 abbrev pub style_sheet : Styles → List ℕ
-style_sheet styles = flat_map (rule styles) classed_styles
+style_sheet styles = flat_map (rule styles) classed_styles ++ box_rules

@@ -1,8 +1,8 @@
 //! Styled text as an HTML element.
 
-ghost use Rattle.std.specs.Prelude.{◌≡◌, ◌++◌, IfErr, IfOk, OnOk, flat_map, map, string_bytes};
-ghost use Rattle.codespan_documents.specs.Html.{html_character, html_element, html_run, escaped_text, is_forbidden_control, is_noncharacter, replaced_character, shown_text, style_class};
-ghost use Rattle.codespan_documents.specs.HtmlReading.{element_tokens, read_tokens, text_of_html};
+ghost use Rattle.std.specs.Prelude.{◌≡◌, ◌≤◌, ◌++◌, [], IfErr, IfOk, OnOk, Some, codes, flat_map, map, string_bytes};
+ghost use Rattle.codespan_documents.specs.Html.{box_class, character_cells, escaped_text, html_cell, html_character, html_element, html_run, is_forbidden_control, is_noncharacter, is_wide, replaced_character, shown_text, span_tag, style_class};
+ghost use Rattle.codespan_documents.specs.HtmlReading.{element_tokens, open_after, read_tokens, text_of_html};
 ghost use Rattle.codespan_documents.specs.Runs.{joined, run_view, styled_runs};
 
 use crate::style::Style;
@@ -10,6 +10,7 @@ use crate::text::{Run, StyledText};
 use codespan_base::diagnostic::{LabelStyle, Severity};
 use codespan_base::files::Error;
 use std::alloc::{AllocError, Global};
+use unicode_width::UnicodeWidthChar;
 
 /// Returns an HTML element of styled text: a `pre` of the class `diagnostic`, and in it
 /// a `span` for each run that is not plain, with the class of its style.
@@ -18,6 +19,11 @@ use std::alloc::{AllocError, Global};
 /// `primary-label-error`, `secondary-label`, `line-number`, `source-border`, `note-bullet`, and the
 /// like of the other severities. After the tag of the `pre` is a newline, which HTML does not show,
 /// so that a text that begins with a newline keeps it.
+///
+/// Each wide character, which occupies two cells, is in a `span` of its own, of the class `wide`;
+/// so is the one character that occupies three, U+17D8, with the class `wide-3`. By the rules of
+/// [`html_styles`](crate::html_styles) this `span` is a box of so many cells, so that carets are
+/// under their characters even where a font's wide characters are not two cells wide.
 ///
 /// A text can neither start nor end a tag, an attribute or an entity: each of the characters `&`,
 /// `<`, `>`, `"` and `'` becomes an entity. A control character other than a tab, a newline and a
@@ -39,6 +45,8 @@ pub fn to_html(alloc: Global, text: &StyledText) -> Result<String, Error>
         string_bytes html ≡ html_element (styled_runs text.now)) }
     ensures tokens { IfOk result (λ html.
         read_tokens (string_bytes html) ≡ element_tokens (styled_runs text.now)) }
+    ensures balanced { IfOk result (λ html.
+        open_after (read_tokens (string_bytes html)) ≡ Some []) }
     ensures text { IfOk result (λ html.
         text_of_html (string_bytes html) ≡ shown_text (joined (styled_runs text.now))) }
     ensures failed { IfErr result (λ error. error ≡ Error.OutOfMemory) }
@@ -69,22 +77,74 @@ fn push_run(html: &mut String, run: &Run) -> Result<(), AllocError>
     if run.style.is_plain() {
         return push_text(html, run.text.as_str());
     }
-    html.push_str("<span class=\"")?;
-    html.push_str(style_class(run.style))?;
-    html.push_str("\">")?;
+    push_span_tag(html, style_class(run.style))?;
     push_text(html, run.text.as_str())?;
+    push_span_end(html)?;
+    Ok(())
+}
+
+/// Appends the tag that starts a `span` of a class.
+fn push_span_tag(html: &mut String, class: &str) -> Result<(), AllocError>
+    ensures { OnOk result (string_bytes html.new ≡ string_bytes html.old ++ span_tag class.now) }
+{
+    html.push_str("<span class=\"")?;
+    html.push_str(class)?;
+    html.push_str("\">")?;
+    Ok(())
+}
+
+/// Appends the tag that ends a `span`.
+fn push_span_end(html: &mut String) -> Result<(), AllocError>
+    ensures { OnOk result (string_bytes html.new ≡ string_bytes html.old ++ codes "</span>") }
+{
     html.push_str("</span>")?;
     Ok(())
 }
 
-/// Appends a text, with entities.
+/// Appends a text, with entities, each wide character in a box.
 fn push_text(html: &mut String, text: &str) -> Result<(), AllocError>
     ensures { OnOk result (string_bytes html.new ≡ string_bytes html.old ++ escaped_text text.now) }
 {
     for c in text.chars() {
-        push_character(html, c)?;
+        push_cell(html, c)?;
     }
     Ok(())
+}
+
+/// Appends a character, a wide one in a box.
+fn push_cell(html: &mut String, c: char) -> Result<(), AllocError>
+    ensures { OnOk result (string_bytes html.new ≡ string_bytes html.old ++ html_cell c) }
+{
+    if !is_wide(c) {
+        return push_character(html, c);
+    }
+    push_span_tag(html, box_class(c))?;
+    push_character(html, c)?;
+    push_span_end(html)?;
+    Ok(())
+}
+
+/// Returns whether a character occupies more than one cell.
+fn is_wide(c: char) -> bool
+    ensures { result ≡ is_wide c }
+{
+    cells(c) > 1
+}
+
+/// Returns the class of the box of a wide character.
+fn box_class(c: char) -> &'static str
+    ensures { result.now ≡ box_class c }
+{
+    if cells(c) == 2 { "wide" } else { "wide-3" }
+}
+
+/// Returns the number of cells that a character occupies: the width that `unicode_width` returns
+/// for it, or 0 where it returns none.
+fn cells(c: char) -> usize
+    ensures value { result ≡ character_cells c }
+    ensures bound { result ≤ 3 }
+{
+    c.width().unwrap_or(0)
 }
 
 /// Appends a character, as an entity where it can begin or end a tag, an attribute or an entity.

@@ -29,8 +29,13 @@ const CLASSED_STYLES: [Style; 15] = [
     Style::NoteBullet,
 ];
 
-/// Returns a style sheet for the elements of [`to_html`](crate::to_html): a rule for each class,
-/// with the colors and the weight that `styles` has for it.
+/// The rules of the boxes of wide characters: as wide as the cells that the characters occupy.
+const BOX_RULES: &str = ".diagnostic .wide { display: inline-block; width: 2ch; }\n\
+    .diagnostic .wide-3 { display: inline-block; width: 3ch; }\n";
+
+/// Returns a style sheet for the elements of [`to_html`](crate::to_html): a rule for the class of
+/// each style, with the colors and the weight that `styles` has for it, and one for each class of
+/// wide characters, with the width of their cells.
 ///
 /// The colors are those that xterm shows by default, bright where a style is `intense`. Where a
 /// style has no `bg`, the background is the page's: `Styles::default` is meant for a dark page.
@@ -50,6 +55,7 @@ pub fn html_styles(alloc: Global, styles: &Styles) -> Result<String, Error>
 {
     let mut css = String::new(alloc);
     push_rules(&mut css, styles, &CLASSED_STYLES)?;
+    css.push_str(BOX_RULES)?;
     Ok(css)
 }
 

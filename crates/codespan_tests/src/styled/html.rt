@@ -1,4 +1,5 @@
-//! Whole documents, with HTML's own entities, and the runs of a styled text.
+//! Whole documents, with HTML's own entities and with boxes of wide characters, and the runs of a
+//! styled text.
 
 use crate::asserts::{assert_row, assert_text};
 use crate::outputs::styles::in_style;
@@ -12,7 +13,7 @@ use std::panic::Expect;
 use std::process::Abort;
 
 /// The runs of texts, by what is tested, and the document.
-static DOCUMENTS: [(&str, &[(Style, &str)], &str); 2] = [
+static DOCUMENTS: [(&str, &[(Style, &str)], &str); 4] = [
     (
         "entities",
         &[(
@@ -33,6 +34,25 @@ static DOCUMENTS: [(&str, &[(Style, &str)], &str); 2] = [
         "<pre class=\"diagnostic\">\n\
         \u{fffd}\u{fffd}[31m\u{fffd}\u{fffd}\u{fffd}\u{fffd}\u{fffd}\u{fffd}\
         \t\x0c\u{a0}\u{fdcf}\u{10fffd}</pre>",
+    ),
+    (
+        "wide_characters_of_a_label",
+        &[(LABEL, "日本 x語")],
+        "<pre class=\"diagnostic\">\n\
+        <span class=\"primary-label-warning\">\
+        <span class=\"wide\">日</span><span class=\"wide\">本</span> x<span class=\"wide\">語</span>\
+        </span></pre>",
+    ),
+    (
+        "cells_of_plain_text",
+        &[(
+            Style::Plain,
+            "\u{ff8a}\u{ff1c}<e\u{301}\u{1f980}\u{1f1e9}\u{17d8}\u{17d9}",
+        )],
+        "<pre class=\"diagnostic\">\n\
+        \u{ff8a}<span class=\"wide\">\u{ff1c}</span>&lt;e\u{301}\
+        <span class=\"wide\">\u{1f980}</span>\u{1f1e9}\
+        <span class=\"wide-3\">\u{17d8}</span>\u{17d9}</pre>",
     ),
 ];
 

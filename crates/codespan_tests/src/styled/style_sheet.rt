@@ -1,5 +1,6 @@
 //! Style sheets against the colors of xterm, as its manual and `rgb.txt` have them: `red3` for red,
-//! `red` for bright red, and the like; `blue2` for blue and `rgb:5c/5c/ff` for bright blue.
+//! `red` for bright red, and the like; `blue2` for blue and `rgb:5c/5c/ff` for bright blue. Boxes of
+//! wide characters have the width of their cells, whatever the colors.
 
 use crate::asserts::assert_text;
 use codespan_base::term::{Color, ColorSpec, Styles};
@@ -24,7 +25,9 @@ fn default_styles(rt: HostRuntime) {
                 .diagnostic .secondary-label { color: #00cdcd; }\n\
                 .diagnostic .line-number { color: #00cdcd; }\n\
                 .diagnostic .source-border { color: #00cdcd; }\n\
-                .diagnostic .note-bullet { color: #00cdcd; }\n";
+                .diagnostic .note-bullet { color: #00cdcd; }\n\
+                .diagnostic .wide { display: inline-block; width: 2ch; }\n\
+                .diagnostic .wide-3 { display: inline-block; width: 3ch; }\n";
     let css = html_styles(rt.alloc(), &Styles::default()).expect(&rt, "the style sheet");
     assert_text(&rt, css.as_str(), want);
 }
@@ -66,7 +69,9 @@ fn assert_colors(rt: &impl Abort, alloc: Global, color: Color, normal: &str, bri
          .diagnostic .secondary-label {{ }}\n\
          .diagnostic .line-number {{ }}\n\
          .diagnostic .source-border {{ }}\n\
-         .diagnostic .note-bullet {{ color: {bright}; font-weight: bold; }}\n"
+         .diagnostic .note-bullet {{ color: {bright}; font-weight: bold; }}\n\
+         .diagnostic .wide {{ display: inline-block; width: 2ch; }}\n\
+         .diagnostic .wide-3 {{ display: inline-block; width: 3ch; }}\n"
     )
     .expect(rt, "the expected style sheet");
     let css = html_styles(alloc, &with_color(color)).expect(rt, "the style sheet");

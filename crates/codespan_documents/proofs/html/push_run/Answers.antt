@@ -1,12 +1,16 @@
-use Rattle.std.proofs.Common.{◌++◌, sym, ap, ◌∙◌, string_bytes}
-use Rattle.codespan_documents.specs.Html.{escaped_text}
-use Rattle.codespan_documents.proofs.HtmlWriting.{run-written}
+use Rattle.std.proofs.Common.{◌≡◌, ◌++◌, false, sym, ap, ◌∙◌, string_bytes}
+use Rattle.codespan_documents.specs.Html.{escaped_text, style_class}
+use Rattle.codespan_documents.specs.Runs.{is_plain}
+use Rattle.codespan_documents.proofs.HtmlWriting.{span-written}
 use Rattle.codespan_documents.proofs.html.push_run.Goals as goal
 
+-- a run that is not plain
 pub returns : goal.returns
 returns c =
+    let run = c.args.run.now in
+    let styled : is_plain run.style ≡ false = sym c.is_plain.ensures ∙ c.if-is_plain.false in
     let text = c.in_ok-push_text.ensures
-    ∙ ap (λ t. string_bytes c.push_str-3.new.self ++ escaped_text t) c.as_str-2.ensures.value in
-    run-written c.args.run.now _ _ _ _ _ _ _ (sym c.is_plain.ensures ∙ c.if-is_plain.false)
-    c.in_ok-push_str.ensures.bytes c.style_class.ensures c.in_ok-push_str-2.ensures.bytes
-    c.in_ok-push_str-3.ensures.bytes text c.in_ok-push_str-4.ensures.bytes
+    ∙ ap (λ t. string_bytes c.push_span_tag.new.html ++ escaped_text t) c.as_str-2.ensures.value in
+    rw styled
+    (span-written _ _ _ _ (style_class run.style) _ (escaped_text (string_bytes run.text))
+    c.style_class.ensures c.in_ok-push_span_tag.ensures text c.in_ok-push_span_end.ensures)

@@ -15,7 +15,7 @@ loop-c-preserved c =
     let step = c.in-Some.ensures.steps.0 in
     record {
       utf8 = IsUtf8-past_char _ _ _ i.utf8 step;
-      left = text-more _ _ _ _ _ _ i.utf8 step c.in_ok-push_character.ensures i.left;
+      left = text-more _ _ _ _ _ _ i.utf8 step c.in_ok-push_cell.ensures i.left;
     }
 
 pub returns : goal.returns

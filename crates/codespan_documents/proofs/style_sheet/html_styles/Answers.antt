@@ -1,9 +1,12 @@
 use Rattle.std.proofs.Common.{ℕ, List, ◌++◌, ap, ◌∙◌}
-use Rattle.codespan_documents.specs.StyleSheet.{style_sheet}
+use Rattle.std.specs.List.{flat_map}
+use Rattle.codespan_documents.specs.StyleSheet.{box_rules, classed_styles, rule}
 use Rattle.codespan_documents.proofs.style_sheet.html_styles.Goals as goal
 
--- the rules of all classes are appended to nothing
+-- the rules of all classes of styles are appended to nothing, and then those of boxes
 pub returns-clause-css_text : goal.returns-clause-css_text
 returns-clause-css_text c =
-    c.in_ok-push_rules.ensures
-    ∙ ap (λ (l : List ℕ). l ++ style_sheet c.args.styles.now) c.new-css.ensures.bytes
+    let rules = flat_map (rule c.args.styles.now) classed_styles in
+    c.in_ok-push_str.ensures.bytes
+    ∙ ap (λ (l : List ℕ). l ++ box_rules)
+    (c.in_ok-push_rules.ensures ∙ ap (λ (l : List ℕ). l ++ rules) c.new-css.ensures.bytes)
