@@ -1,0 +1,104 @@
+"""Tests of tools/check-width."""
+import unittest
+
+from tree import TreeCase
+
+CODE = 'crates/one/src/lib.rt'
+SPECS = 'crates/one/specs/Sums.antt'
+LONG = 'n ≡ ' + 'm + ' * 30 + 'm'
+
+
+class CheckWidth(TreeCase):
+    TOOLS = ('check-width',)
+    FILES = {
+        CODE: f'''\
+//! Code, comments and bodies are as wide as they have to be: {LONG}.
+ghost use Rattle.one.specs.Sums.{{{', '.join(f'name_{it}' for it in range(20))}}};
+
+pub trait Counted {{
+    ghost fn count(self) -> ℕ;
+}}
+
+/// Returns the sum.
+fn sum(n: usize) -> usize
+    requires small {{ n ≤ 10
+        × n ≥ 1 }}
+    ensures {{ result ≡ n }}
+{{
+    each(|it| -> usize ensures {{ result ≡ it }} {{ it }});
+    let sum = {LONG};
+    sum
+}}
+''',
+        SPECS: f'''\
+use Rattle.std.specs.Prelude.{{{', '.join(f'name_{it}' for it in range(20))}}}
+
+-- the sum
+pub sum : ℕ → ℕ
+sum n = n
+
+pub name : List ℕ
+name =
+    codes "{LONG}"
+''',
+        'crates/one/proofs/Lemmas.antt': f'-- {LONG}\n',
+    }
+
+    def assert_finds_line(self, path, number, line):
+        """Asserts that the tool finds the line of this number, which is this one, and no other."""
+        self.assertEqual(self.text(path).split('\n')[number - 1], line)
+        self.assert_finds(f'{path}:{number}: {len(line)} columns')
+        self.assertEqual(self.run_tool()[2], 'check-width: 1 lines of clauses and definitions are wider than 100 columns\n')
+
+    def test_sound(self):
+        self.assert_passes()
+
+    def test_a_line_of_100_columns(self):
+        line = '    ensures { result ≡ n }'
+        self.change(CODE, line, line.replace('n }', 'n' * (100 - len(line) + 1) + ' }'))
+        self.assert_passes()
+
+    def test_a_line_of_101_columns(self):
+        line = '    ensures { result ≡ n }'
+        wide = line.replace('n }', 'n' * (101 - len(line) + 1) + ' }')
+        self.change(CODE, line, wide)
+        self.assert_finds_line(CODE, 12, wide)
+
+    def test_requires(self):
+        self.change(CODE, '{ n ≤ 10', f'{{ {LONG}')
+        self.assert_finds_line(CODE, 10, f'    requires small {{ {LONG}')
+
+    def test_second_line_of_a_clause(self):
+        self.change(CODE, '× n ≥ 1', f'× {LONG}')
+        self.assert_finds_line(CODE, 11, f'        × {LONG} }}')
+
+    def test_ghost_member(self):
+        self.change(CODE, '-> ℕ;', f'-> {LONG};')
+        self.assert_finds_line(CODE, 5, f'    ghost fn count(self) -> {LONG};')
+
+    def test_clause_of_a_closure(self):
+        self.change(CODE, '{ result ≡ it }', f'{{ {LONG} }}')
+        self.assert_finds_line(CODE, 14, f'    each(|it| -> usize ensures {{ {LONG} }} {{ it }});')
+
+    def test_definition(self):
+        self.change(SPECS, 'sum n = n', f'sum n = {LONG}')
+        self.assert_finds_line(SPECS, 5, f'sum n = {LONG}')
+
+    def test_comment_of_a_definition(self):
+        self.change(SPECS, '-- the sum', f'-- the sum {LONG}')
+        self.assert_finds_line(SPECS, 3, f'-- the sum {LONG}')
+
+    def test_text_with_more_in_its_line(self):
+        self.change(SPECS, 'name =\n    codes', 'name = codes')
+        self.assert_finds_line(SPECS, 8, f'name = codes "{LONG}"')
+
+
+class CheckWidthOfNothing(TreeCase):
+    TOOLS = ('check-width',)
+
+    def test_no_files(self):
+        self.assertEqual(self.run_tool(), (1, '', 'check-width: no files found\n'))
+
+
+if __name__ == '__main__':
+    unittest.main()
