@@ -12,6 +12,16 @@ from unittest import mock
 REPOSITORY = pathlib.Path(__file__).resolve().parent.parent.parent
 
 
+def write_tree(top, tools, files):
+    """Writes a tree of these tools and of the files with these texts."""
+    for name in tools:
+        (top / 'tools').mkdir(exist_ok=True)
+        shutil.copy(REPOSITORY / 'tools' / name, top / 'tools' / name)
+    for path, text in files.items():
+        (top / path).parent.mkdir(parents=True, exist_ok=True)
+        (top / path).write_text(text, encoding='utf-8')
+
+
 def run_script(path, *arguments):
     """Runs a Python script in this process, and returns its status, its output and its errors."""
     output, errors, status = io.StringIO(), io.StringIO(), None
@@ -37,16 +47,15 @@ class TreeCase(unittest.TestCase):
         folder = tempfile.TemporaryDirectory(prefix='tools-tests-')
         self.addCleanup(folder.cleanup)
         self.top = pathlib.Path(folder.name).resolve()
-        for name in self.TOOLS:
-            (self.top / 'tools').mkdir(exist_ok=True)
-            shutil.copy(REPOSITORY / 'tools' / name, self.top / 'tools' / name)
-        for path, text in self.FILES.items():
-            self.put(path, text)
+        self.make_tree()
+
+    def make_tree(self):
+        """Makes the sound tree."""
+        write_tree(self.top, self.TOOLS, self.FILES)
 
     def put(self, path, text):
         """Writes a file of the tree, and makes its folder."""
-        (self.top / path).parent.mkdir(parents=True, exist_ok=True)
-        (self.top / path).write_text(text, encoding='utf-8')
+        write_tree(self.top, (), {path: text})
 
     def text(self, path):
         """The text of a file of the tree."""
