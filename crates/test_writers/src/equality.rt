@@ -1,13 +1,11 @@
-//! Equality of configurations in all but the `snippet_start`.
+//! Equality of configurations in all but the `snippet_start`. Each field is named, so that a new
+//! one does not compile until it is compared too.
 
-use codespan_base::term::{Chars, Config};
+use codespan_base::term::{Chars, Config, DisplayStyle, Layout};
 
 /// Returns whether two configurations are equal in all but the `snippet_start`.
 pub fn is_same_config(left: &Config<'_>, right: &Config<'_>) -> bool {
-    left.display_style == right.display_style
-        && left.layout == right.layout
-        && numbers_of(left) == numbers_of(right)
-        && are_same_chars(&left.chars, &right.chars)
+    settings_of(left) == settings_of(right) && are_same_chars(&left.chars, &right.chars)
 }
 
 /// Returns whether the characters of two configurations are equal in all but the `snippet_start`.
@@ -15,34 +13,63 @@ pub fn are_same_chars(left: &Chars<'_>, right: &Chars<'_>) -> bool {
     characters_of(left) == characters_of(right)
 }
 
-/// Returns the tab width, and how many lines of each kind of context are shown.
-fn numbers_of(config: &Config<'_>) -> [usize; 5] {
-    [
-        config.tab_width,
-        config.start_context_lines,
-        config.end_context_lines,
-        config.before_label_lines,
-        config.after_label_lines,
-    ]
+/// Returns all fields but the characters: the display style, the layout, and the numbers.
+fn settings_of(config: &Config<'_>) -> (DisplayStyle, Layout, [usize; 5]) {
+    let Config {
+        display_style,
+        tab_width,
+        chars: _,
+        start_context_lines,
+        end_context_lines,
+        before_label_lines,
+        after_label_lines,
+        layout,
+    } = *config;
+    let numbers = [
+        tab_width,
+        start_context_lines,
+        end_context_lines,
+        before_label_lines,
+        after_label_lines,
+    ];
+    (display_style, layout, numbers)
 }
 
-/// Returns the characters in the order of their fields.
+/// Returns the characters in the order of their fields, without the `snippet_start`.
 fn characters_of(chars: &Chars<'_>) -> [char; 15] {
+    let Chars {
+        snippet_start: _,
+        source_border_left,
+        source_border_left_break,
+        note_bullet,
+        single_primary_caret,
+        single_secondary_caret,
+        multi_primary_caret_start,
+        multi_primary_caret_end,
+        multi_secondary_caret_start,
+        multi_secondary_caret_end,
+        multi_top_left,
+        multi_top,
+        multi_bottom_left,
+        multi_bottom,
+        multi_left,
+        pointer_left,
+    } = *chars;
     [
-        chars.source_border_left,
-        chars.source_border_left_break,
-        chars.note_bullet,
-        chars.single_primary_caret,
-        chars.single_secondary_caret,
-        chars.multi_primary_caret_start,
-        chars.multi_primary_caret_end,
-        chars.multi_secondary_caret_start,
-        chars.multi_secondary_caret_end,
-        chars.multi_top_left,
-        chars.multi_top,
-        chars.multi_bottom_left,
-        chars.multi_bottom,
-        chars.multi_left,
-        chars.pointer_left,
+        source_border_left,
+        source_border_left_break,
+        note_bullet,
+        single_primary_caret,
+        single_secondary_caret,
+        multi_primary_caret_start,
+        multi_primary_caret_end,
+        multi_secondary_caret_start,
+        multi_secondary_caret_end,
+        multi_top_left,
+        multi_top,
+        multi_bottom_left,
+        multi_bottom,
+        multi_left,
+        pointer_left,
     ]
 }
