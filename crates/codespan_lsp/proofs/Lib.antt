@@ -4,4 +4,5 @@ pub mod PrefixLemmas
 pub mod CutLemmas
 pub mod ErrorLemmas
 pub mod LawLemmas
+pub mod RangeLemmas
 pub mod LabelLemmas

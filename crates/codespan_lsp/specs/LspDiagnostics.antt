@@ -8,7 +8,7 @@ use Rattle.codespan_base.specs.declared.diagnostic.Label.{Label}
 use Rattle.codespan_base.specs.declared.diagnostic.Diagnostic.{Diagnostic}
 use Rattle.codespan_base.specs.declared.files.Error.{Error}
 use Rattle.codespan_lsp.specs.Positions.{first_failure}
-use Rattle.codespan_lsp.specs.Ranges.{range_of, range_failure}
+use Rattle.codespan_lsp.specs.Ranges.{ordered_span, range_of, range_failure}
 use Rattle.codespan_lsp.specs.Severities.{lsp_severity}
 use Rattle.codespan_lsp.specs.Messages.{full_message}
 use Rattle.codespan_lsp.specs.declared.encoding.PositionEncoding.{PositionEncoding}
@@ -59,14 +59,14 @@ abbrev pub secondary_labels : {FileId : Type 0} → List (Label FileId) → List
 secondary_labels labels = filter (λ label. not (is_primary_style label.style)) labels
 
 module _ {FileId : Type 0} (encoding : PositionEncoding) (database : FileDatabase FileId) where
-  -- a label's range, and the error of its lookup
+  -- a label's range, that of its span in order, and the error of its lookup
   abbrev pub label_range : Label FileId → Range
-  label_range label = range_of encoding (database.file label.file_id) label.range
+  label_range label = range_of encoding (database.file label.file_id) (ordered_span label.range)
 
   abbrev pub label_range_failure : Label FileId → Option Error
   label_range_failure label =
       range_failure encoding (database.file label.file_id) (database.failure label.file_id)
-      label.range
+      (ordered_span label.range)
 
   -- the related information of a label
   abbrev pub related_information_for : Label FileId → RelatedView FileId

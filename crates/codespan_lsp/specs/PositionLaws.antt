@@ -1,13 +1,17 @@
 -- What positions and bytes are to each other.
-use Rattle.std.specs.Prelude.{◌≡◌, ◌↔◌, ◌⊎◌, ℕ, ◌+◌, ◌<◌, ◌≤◌, List, ◌++◌, encode_utf8, slice_range, Some, None}
+use Rattle.std.specs.Prelude.{◌≡◌, ◌↔◌, ◌⊎◌, ℕ, ◌+◌, ◌<◌, ◌≤◌, List, ◌++◌, encode_utf8, slice_range, Option, Some, None}
 use Rattle.std.specs.Str.{IsCharBoundary}
-use Rattle.codespan_base.specs.FileModel.{FileModel, line_count, line_of, line_start, line_text}
+use Rattle.std.specs.declared.ops.Range as ops
+use Rattle.codespan_base.specs.FileModel.{FileModel, Lookup, line_count, line_of, line_start, line_text}
 use Rattle.codespan_base.specs.LawfulFiles.{IsLawful, line_end}
+use Rattle.codespan_base.specs.declared.files.Error.{Error}
 use Rattle.codespan_base.specs.declared.files.Error.TheVariants.{InvalidCharBoundary}
 use Rattle.codespan_lsp.specs.Units.{char_units}
 use Rattle.codespan_lsp.specs.Positions.{units_before, position_of, IsByteAt, character_failure}
+use Rattle.codespan_lsp.specs.Ranges.{ordered_span, range_of, range_failure}
 use Rattle.codespan_lsp.specs.declared.encoding.PositionEncoding.{PositionEncoding}
 use Rattle.codespan_lsp.specs.declared.positions.Position.{Position}
+use Rattle.codespan_lsp.specs.declared.spans.Range.{Range}
 
 -- a byte at which a position may be: a character boundary that is not past its line's end
 pub record IsOnLine (f : FileModel) (byte : ℕ) : Type 0 where
@@ -34,6 +38,17 @@ abbrev pub PositionsAscend : Type 0
 PositionsAscend = (encoding : PositionEncoding) (f : FileModel) (a b : ℕ)
     → IsLawful f → IsOnLine f a → IsOnLine f b → a < b
     → IsEarlierPosition (position_of encoding f a) (position_of encoding f b)
+
+-- a range whose start is its end or an earlier position
+abbrev pub IsOrderedRange : Range → Type 0
+IsOrderedRange range = (range.start ≡ range.end) ⊎ IsEarlierPosition range.start range.end
+
+-- each range that is returned for the span of a label is ordered
+abbrev pub LabelRangesAreOrdered : Type 0
+LabelRangesAreOrdered = (encoding : PositionEncoding) (f : FileModel)
+    (failure : Lookup → Option Error) (span : ops.Range ℕ)
+    → IsLawful f → range_failure encoding f failure (ordered_span span) ≡ None
+    → IsOrderedRange (range_of encoding f (ordered_span span))
 
 -- a position of a line is no error exactly where a byte is at it
 abbrev pub ErrorsHaveNoByte : Type 0

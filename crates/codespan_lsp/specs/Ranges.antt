@@ -1,11 +1,18 @@
 -- Ranges of a file, and the errors of the calls that look them up.
-use Rattle.std.specs.Prelude.{ℕ, Option}
+use Rattle.std.specs.Prelude.{ℕ, min, max, Option}
 use Rattle.std.specs.declared.ops.Range as ops
 use Rattle.codespan_base.specs.FileModel.{FileModel, Lookup, or_failure}
 use Rattle.codespan_base.specs.declared.files.Error.{Error}
 use Rattle.codespan_lsp.specs.Positions.{position_of, position_failure, IsByteAt, byte_failure}
 use Rattle.codespan_lsp.specs.declared.encoding.PositionEncoding.{PositionEncoding}
 use Rattle.codespan_lsp.specs.declared.spans.Range.{Range}
+
+-- a span of bytes from the lesser of its ends to the greater
+abbrev pub ordered_span : ops.Range ℕ → ops.Range ℕ
+ordered_span span = record {
+  start = min span.start span.end;
+  end = max span.start span.end;
+}
 
 -- the range of a span of bytes
 abbrev pub range_of : PositionEncoding → FileModel → ops.Range ℕ → Range

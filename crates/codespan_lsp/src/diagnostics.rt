@@ -3,13 +3,13 @@
 ghost use Rattle.std.specs.Prelude.{◌≡◌, IfOk, map};
 ghost use Rattle.codespan_base.specs.LawfulFiles.{FailsBy};
 ghost use Rattle.codespan_base.specs.Labels.{is_primary_style};
-ghost use Rattle.codespan_lsp.specs.LspDiagnostics.{lsp_view, lsp_diagnostics, lsp_diagnostic_for, lsp_failure, lsp_diagnostics_failure, related_view, related_information_of, related_failure};
+ghost use Rattle.codespan_lsp.specs.LspDiagnostics.{lsp_view, lsp_diagnostics, lsp_diagnostic_for, lsp_failure, lsp_diagnostics_failure, label_range, label_range_failure, related_view, related_information_of, related_failure};
 ghost use Rattle.codespan_lsp.specs.declared.encoding.PositionEncoding.TheVariants.{Utf16};
 
 use crate::encoding::PositionEncoding;
 use crate::messages::{clone_code, full_message};
 use crate::severity::DiagnosticSeverity;
-use crate::spans::Range;
+use crate::spans::{Range, ordered_span};
 use codespan_base::diagnostic::{Diagnostic, Label, LabelStyle};
 use codespan_base::files::{Error, Files};
 
@@ -80,8 +80,7 @@ impl PositionEncoding {
         ensures failed { FailsBy (lsp_failure self (F.database files.now) diagnostic.now label.now)
             result }
     {
-        let span = label.range.start..label.range.end;
-        let range = self.byte_span_to_range(files, label.file_id, span)?;
+        let range = self.label_range(files, label)?;
         let related_information = self.related_information(files, &diagnostic.labels)?;
         Ok(LspDiagnostic {
             file_id: label.file_id,
@@ -108,8 +107,7 @@ impl PositionEncoding {
         let mut related = Vec::new(*labels.allocator());
         for label in labels {
             if !is_primary(label) {
-                let span = label.range.start..label.range.end;
-                let range = self.byte_span_to_range(files, label.file_id, span)?;
+                let range = self.label_range(files, label)?;
                 let message = label.message.clone()?;
                 related.push(RelatedInformation {
                     file_id: label.file_id,
@@ -120,12 +118,27 @@ impl PositionEncoding {
         }
         Ok(related)
     }
+
+    /// Returns the range of a label, from the lesser end of the label's span to the greater.
+    fn label_range<'files, F: Files<'files>>(
+        self,
+        files: &'files F,
+        label: &Label<F::FileId>,
+    ) -> Result<Range, Error>
+        ensures value { IfOk result (λ range.
+            range ≡ label_range self (F.database files.now) label.now) }
+        ensures failed { FailsBy (label_range_failure self (F.database files.now) label.now)
+            result }
+    {
+        self.byte_span_to_range(files, label.file_id, ordered_span(&label.range))
+    }
 }
 
 /// Returns the diagnostics that a language server sends for a diagnostic: one for each primary
 /// label, in the order of the labels. Their positions count UTF-16 code units.
 ///
-/// - The range is the label's. Severity and code are the diagnostic's.
+/// - The range is the label's, from the lesser end to the greater: the protocol has no range that
+///   ends before its start. Severity and code are the diagnostic's.
 /// - The message is the diagnostic's, then the label's, if it is not empty, and the notes, each
 ///   after a newline.
 /// - Related information is the file, the range and the message of each secondary label, in the
@@ -146,7 +159,8 @@ impl PositionEncoding {
 ///
 /// - [`Error::OutOfMemory`] where an allocation fails.
 /// - The first error of [`byte_span_to_range`](crate::byte_span_to_range): for each primary label
-///   in turn, that of its own range, and then those of the ranges of the secondary labels.
+///   in turn, that of its own range, and then those of the ranges of the secondary labels. Of a
+///   range the lesser end is looked up first.
 pub fn to_lsp_diagnostics<'files, F: Files<'files>>(
     files: &'files F,
     diagnostic: &Diagnostic<F::FileId>,

@@ -2,7 +2,7 @@
 
 ghost use Rattle.std.specs.Prelude.{◌≡◌, IfOk};
 ghost use Rattle.codespan_base.specs.LawfulFiles.{FailsBy};
-ghost use Rattle.codespan_lsp.specs.Ranges.{range_of, range_failure, IsSpanOf, span_failure};
+ghost use Rattle.codespan_lsp.specs.Ranges.{ordered_span, range_of, range_failure, IsSpanOf, span_failure};
 ghost use Rattle.codespan_lsp.specs.declared.encoding.PositionEncoding.TheVariants.{Utf16};
 
 use crate::encoding::PositionEncoding;
@@ -63,9 +63,16 @@ impl PositionEncoding {
     }
 }
 
+/// Returns a span of bytes from the lesser of its ends to the greater.
+pub(crate) fn ordered_span(span: &ops::Range<usize>) -> ops::Range<usize>
+    ensures { result ≡ ordered_span span.now }
+{
+    span.start.min(span.end)..span.start.max(span.end)
+}
+
 /// Returns the range of a span of bytes of a file; each `character` of it counts UTF-16 code units.
-/// The span is in bytes of the text, from 0, with an exclusive end; its start may be after its end,
-/// as that of the range is then.
+/// The span is in bytes of the text, from 0, with an exclusive end. The ends keep their order: of a
+/// span that starts after its end the range does too, which the protocol does not allow.
 ///
 /// # Errors
 ///

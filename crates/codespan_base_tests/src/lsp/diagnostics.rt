@@ -12,18 +12,22 @@ use std::alloc::Global;
 use std::panic::Expect;
 use std::process::Abort;
 
+/// Returns the position of a line and a character.
+fn position((line, character): (u32, u32)) -> Position {
+    Position { line, character }
+}
+
+/// Returns a range, of the lines and the characters of its start and of its end.
+fn between(start: (u32, u32), end: (u32, u32)) -> Range {
+    Range {
+        start: position(start),
+        end: position(end),
+    }
+}
+
 /// Returns a range on one line.
 fn on_line(line: u32, start: u32, end: u32) -> Range {
-    Range {
-        start: Position {
-            line,
-            character: start,
-        },
-        end: Position {
-            line,
-            character: end,
-        },
-    }
+    between((line, start), (line, end))
 }
 
 /// Returns an error with its labels in file 0, the caller, and in file 1, the callee.
@@ -158,6 +162,27 @@ fn related_information(rt: HostRuntime) {
     }
 }
 
+/// Returns an error with two labels that start after their ends.
+fn with_reversed_labels(rt: &impl Abort, alloc: Global) -> Diagnostic<usize> {
+    Diagnostic::error(alloc)
+        .with_label(Label::secondary(alloc, 1, 12..2))
+        .expect(rt, "one label")
+        .with_label(Label::primary(alloc, 0, 12..4))
+        .expect(rt, "two labels")
+}
+
+/// Reversed labels have ordered ranges, over two lines and on one.
+#[test]
+fn reversed_labels(rt: HostRuntime) {
+    let files = two_files(&rt, rt.alloc(), "ab\n\nf()\n f()", "/*𐐀*/fn f(x)");
+    let diagnostic = with_reversed_labels(&rt, rt.alloc());
+    let diagnostics = to_lsp_diagnostics(&files, &diagnostic).expect(&rt, "LSP diagnostics");
+    let one = diagnostics.first().expect(&rt, "a diagnostic");
+    let related = one.related_information.first().expect(&rt, "a label");
+    assert_same(&rt, &one.range, &between((2, 0), (3, 4)));
+    assert_same(&rt, &related.range, &on_line(0, 2, 10));
+}
+
 /// Returns the LSP diagnostics of a warning with this label.
 fn of_warning<'a, F: Files<'a>>(
     alloc: Global,
@@ -182,6 +207,14 @@ fn label_past_end(rt: HostRuntime) {
     let file = simple_file(&rt, rt.alloc(), "abc");
     let label = Label::primary(rt.alloc(), (), 0..9);
     assert_column_too_large(&rt, of_warning(rt.alloc(), &file, label), (9, 3));
+}
+
+/// Of a reversed label whose ends are both past the end the lesser one fails.
+#[test]
+fn reversed_label_past_end(rt: HostRuntime) {
+    let file = simple_file(&rt, rt.alloc(), "abc");
+    let label = Label::primary(rt.alloc(), (), 9..7);
+    assert_column_too_large(&rt, of_warning(rt.alloc(), &file, label), (7, 3));
 }
 
 /// A missing file fails.
