@@ -2,15 +2,13 @@
 -- `terminal::laws::columns_stay`.
 use Rattle.std.proofs.Common.{◌≡◌, ℕ, zero, suc, ◌+◌, ◌<◌, ◌≤◌, ◌⊎◌, Bool, true, false, cond, not, ◌&&◌, ◌||◌, ◌==◌, nat_le, List, [], ◌∷◌, unwrap_or, refl, sym, ap, subst, ◌∙◌, arith, ⊎_elim, inl, inr, add-zero}
 use Rattle.std.specs.Char.{is_control}
+use Rattle.std.specs.Int.{is_in_range}
 use Rattle.std.proofs.Math.Nat.{eq-or-lt_of_le}
 use Rattle.std.proofs.lemmas.Bool.{and_parts, or_cases, or_parts}
 use Rattle.std.proofs.lemmas.Bool.Decides.{nat_tests}
-use Rattle.ucd_table.specs.Rows.{in_ranges}
-use Rattle.ucd_props.specs.Binary.{is_bidi_control}
-use Rattle.ucd_props.specs.Ranges.{bidi_control_ranges}
 use Rattle.unicode_width.specs.Width.{char_width}
 use Rattle.unicode_width.proofs.Computing.{unicode_width}
-use Rattle.codespan_terminal.specs.Terminal.{is_safe, safe_characters, column_after, columns, safe_columns, CharacterInColumn}
+use Rattle.codespan_terminal.specs.Terminal.{is_directional_control, is_safe, safe_characters, column_after, columns, safe_columns, CharacterInColumn}
 
 -- the cells of a character that is no tab
 abbrev cells_of : ℕ → ℕ
@@ -54,7 +52,7 @@ empty_isolates = refl
 
 -- a number of a range is counted from its start
 within : (p : ℕ → Bool) (n a b c : ℕ) → passes_from p n a ≡ true → b + 1 ≡ a + n
-    → (nat_le a c && nat_le c b) ≡ true → p c ≡ true
+    → is_in_range a b c ≡ true → p c ≡ true
 within p n a b c h e inside =
     let parts = and_parts (nat_le a c) (nat_le c b) inside in
     let low : a ≤ c = grind (arith, nat_tests) in
@@ -62,24 +60,22 @@ within p n a b c h e inside =
     passes_at p n a c h low (omega arith)
 
 -- a directional control has no cells
-empty_directional : (c : ℕ) → is_bidi_control c ≡ true → is_empty c ≡ true
-unfolding is_bidi_control bidi_control_ranges in_ranges
+empty_directional : (c : ℕ) → is_directional_control c ≡ true → is_empty c ≡ true
 empty_directional c h =
-    let letter_mark = nat_le 0x061C c && nat_le c 0x061C in
-    let direction_marks = nat_le 0x200E c && nat_le c 0x200F in
-    let embeddings = nat_le 0x202A c && nat_le c 0x202E in
-    let isolates = nat_le 0x2066 c && nat_le c 0x2069 in
-    ⊎_elim (within is_empty 1 0x061C 0x061C c empty_letter_mark refl)
-    (λ (later : (direction_marks || (embeddings || (isolates || false))) ≡ true).
-    ⊎_elim (within is_empty 2 0x200E 0x200F c empty_direction_marks refl)
-    (λ (last : (embeddings || (isolates || false)) ≡ true).
-    ⊎_elim (within is_empty 5 0x202A 0x202E c empty_embeddings refl)
-    (λ (end : (isolates || false) ≡ true).
-    ⊎_elim (within is_empty 4 0x2066 0x2069 c empty_isolates refl) (λ (none : false ≡ true). cc)
-    (or_cases isolates false end))
-    (or_cases embeddings (isolates || false) last))
-    (or_cases direction_marks (embeddings || (isolates || false)) later))
-    (or_cases letter_mark (direction_marks || (embeddings || (isolates || false))) h)
+    let letter_mark = is_in_range 0x061C 0x061C c in
+    let direction_marks = is_in_range 0x200E 0x200F c in
+    let embeddings = is_in_range 0x202A 0x202E c in
+    let isolates = is_in_range 0x2066 0x2069 c in
+    elim (or_cases (letter_mark || direction_marks || embeddings) isolates h) [
+      | inl early ↦ elim (or_cases (letter_mark || direction_marks) embeddings early) [
+        | inl marks ↦ elim (or_cases letter_mark direction_marks marks) [
+          | inl p ↦ within is_empty 1 0x061C 0x061C c empty_letter_mark refl p
+          | inr p ↦ within is_empty 2 0x200E 0x200F c empty_direction_marks refl p
+        ]
+        | inr p ↦ within is_empty 5 0x202A 0x202E c empty_embeddings refl p
+      ]
+      | inr p ↦ within is_empty 4 0x2066 0x2069 c empty_isolates refl p
+    ]
 
 -- ---- characters that are not safe
 
@@ -104,15 +100,15 @@ no_cells n h = grind (arith, nat_tests)
 -- a character that is not safe has no cells
 unsafe_cells : (c : ℕ) → is_safe c ≡ false → cells_of c ≡ 0
 unsafe_cells c h =
-    let kinds = unsafe_kinds ((c == 9) || (c == 10)) (is_control c) (is_bidi_control c) h in
+    let kinds = unsafe_kinds ((c == 9) || (c == 10)) (is_control c) (is_directional_control c) h in
     ⊎_elim (empty_control c)
-    (λ (e : is_bidi_control c ≡ true). no_cells (cells_of c) (empty_directional c e)) kinds.1
+    (λ (e : is_directional_control c ≡ true). no_cells (cells_of c) (empty_directional c e)) kinds.1
 
 -- the column after it is the same
 unsafe_column : (tab_width column c : ℕ) → is_safe c ≡ false
     → column_after tab_width column c ≡ column
 unsafe_column tab_width column c h =
-    let kinds = unsafe_kinds ((c == 9) || (c == 10)) (is_control c) (is_bidi_control c) h in
+    let kinds = unsafe_kinds ((c == 9) || (c == 10)) (is_control c) (is_directional_control c) h in
     let parts = or_parts (c == 9) (c == 10) kinds.0 in
     rw (parts.1, parts.0, unsafe_cells c h) (add-zero column)
 

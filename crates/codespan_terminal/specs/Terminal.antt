@@ -1,9 +1,9 @@
 -- Text that is safe to print on a terminal.
 use Rattle.std.specs.Prelude.{◌≡◌, ℕ, ◌+◌, Bool, not, ◌||◌, ◌==◌, List, [], ◌∷◌, ◌++◌, filter, if◌then◌else◌}
 use Rattle.std.specs.Char.{is_ascii_digit, is_control}
+use Rattle.std.specs.Int.{is_in_range}
 use Rattle.std.specs.List.{AllByRecursion, flat_map}
 use Rattle.std.specs.Str.{chars, encode_utf8_all}
-use Rattle.ucd_props.specs.Binary.{is_bidi_control}
 use Rattle.codespan_base.specs.StyleSpellings.{ansi_spelling}
 use Rattle.codespan_base.specs.Streams.{StyleMark, Header, HeaderMessage, LineNumber, NoteBullet, SourceBorder, LabelStyleMark, Reset}
 use Rattle.codespan_base.specs.declared.term.config.styles.Styles.{Styles}
@@ -14,9 +14,16 @@ use Rattle.codespan_documents.specs.declared.style.Style.TheVariants as run_styl
 
 -- ---- safe characters
 
+-- the characters of Unicode's property `Bidi_Control`: the Arabic letter mark; the marks of the two
+-- directions; embeddings, overrides and what ends them; isolates and what ends them
+abbrev pub is_directional_control : ℕ → Bool
+is_directional_control c =
+    is_in_range 0x061C 0x061C c || is_in_range 0x200E 0x200F c
+    || is_in_range 0x202A 0x202E c || is_in_range 0x2066 0x2069 c
+
 -- all characters but control characters and directional controls; tab and newline are safe
 abbrev pub is_safe : ℕ → Bool
-is_safe c = ((c == 9) || (c == 10)) || not (is_control c || is_bidi_control c)
+is_safe c = ((c == 9) || (c == 10)) || not (is_control c || is_directional_control c)
 
 -- the characters that are safe
 abbrev pub safe_characters : List ℕ → List ℕ

@@ -5,7 +5,7 @@ ghost use Rattle.codespan_base.specs.Streams.{style_mark};
 ghost use Rattle.codespan_base.specs.WriterLaw.{Writes};
 ghost use Rattle.codespan_documents.specs.Runs.{run_view, styled_runs};
 ghost use Rattle.codespan_base.specs.StyleSpellings.{ansi_spelling};
-ghost use Rattle.codespan_terminal.specs.Terminal.{ShowsSafe, is_safe, style_mark_of, runs_bytes, safe_text, terminal_text};
+ghost use Rattle.codespan_terminal.specs.Terminal.{ShowsSafe, is_directional_control, is_safe, style_mark_of, runs_bytes, safe_text, terminal_text};
 
 pub mod laws;
 
@@ -14,7 +14,6 @@ use codespan_documents::style::Style;
 use codespan_documents::text::{Run, StyledText};
 use std::alloc::{AllocError, Global};
 use std::io;
-use ucd_props::is_bidi_control;
 
 /// Returns a styled text as text for a terminal: each run after the escape sequences of its style.
 ///
@@ -61,7 +60,8 @@ pub fn safe_text(alloc: Global, text: &str) -> Result<String, AllocError>
 /// Returns whether a character is safe to print on a terminal.
 ///
 /// All characters are but control characters (C0, U+007F and C1) other than tab and newline, and
-/// directional controls, those of Unicode's property `Bidi_Control`.
+/// directional controls: those of Unicode's property `Bidi_Control`, which are U+061C, U+200E to
+/// U+200F, U+202A to U+202E and U+2066 to U+2069.
 ///
 /// # Example
 ///
@@ -72,7 +72,17 @@ pub fn safe_text(alloc: Global, text: &str) -> Result<String, AllocError>
 pub fn is_safe(c: char) -> bool
     ensures { result ≡ is_safe c }
 {
-    c == '\t' || c == '\n' || !(c.is_control() || is_bidi_control(c))
+    c == '\t' || c == '\n' || !(c.is_control() || is_directional_control(c))
+}
+
+/// Returns whether a character is a directional control, one of Unicode's property `Bidi_Control`.
+fn is_directional_control(c: char) -> bool
+    ensures { result ≡ is_directional_control c }
+{
+    matches!(
+        c,
+        '\u{61c}' | '\u{200e}'..='\u{200f}' | '\u{202a}'..='\u{202e}' | '\u{2066}'..='\u{2069}'
+    )
 }
 
 /// Appends the text for a terminal that shows runs.

@@ -1,8 +1,7 @@
 use Rattle.std.proofs.Common.{◌≡◌, ℕ, Bool, true, false, not, ◌||◌, ◌==◌, ap, sym, ◌∙◌, refl}
 use Rattle.std.specs.Char.{is_control}
 use Rattle.std.proofs.lemmas.Bool.{eq-eqb, ne_eqb, or_left}
-use Rattle.ucd_props.specs.Binary.{is_bidi_control}
-use Rattle.codespan_terminal.specs.Terminal.{is_safe}
+use Rattle.codespan_terminal.specs.Terminal.{is_directional_control, is_safe}
 use Rattle.codespan_terminal.proofs.terminal.is_safe.Goals.{then-c-eq9, else-c-eq9, then-is_control, else-is_control}
 use Rattle.codespan_terminal.proofs.terminal.is_safe.Goals as goal
 
@@ -20,7 +19,7 @@ spacing_safe c spacing is so = so ∙ sym (or_left ((c == 9) || (c == 10)) _ (sy
 
 -- any other character is safe unless it is a control
 others_safe : (c : ℕ) (spacing control : Bool) → spacing ≡ ((c == 9) || (c == 10)) → spacing ≡ false
-    → control ≡ (is_control c || is_bidi_control c)
+    → control ≡ (is_control c || is_directional_control c)
     → not control ≡ is_safe c
 others_safe c spacing control is other controls = ap not controls ∙ sym (rw (sym is ∙ other) refl)
 
@@ -51,6 +50,6 @@ returns-after-is_control c =
           (first_holds _ (is_control c.args.c) _ (w.result-is ∙ c.is_control.ensures)
           (sym c.is_control.ensures ∙ w.if-is_control.true))
       | else-is_control w ↦ others_safe c.args.c _ _ spacing c.if-c-eq10.false
-          (first_fails _ (is_control c.args.c) _ (w.result-is ∙ w.is_bidi_control.ensures)
+          (first_fails _ (is_control c.args.c) _ (w.result-is ∙ w.is_directional_control.ensures)
           (sym c.is_control.ensures ∙ w.if-is_control.false))
     ]
