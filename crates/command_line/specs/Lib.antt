@@ -1,0 +1,2 @@
+-- which texts have a tab
+pub mod Tabs
