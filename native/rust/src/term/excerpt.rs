@@ -1,6 +1,6 @@
-//! The text of a file that the archive is passed: the lines that an output may show. Where the file
-//! has other lines between them, two empty lines stand for these in the text, so that the archive
-//! sees that lines are left out.
+//! The text of a file that the archive is passed: the lines that labels span, and those of context.
+//! Where the file has other lines between them, two empty lines stand for these in the text, so that
+//! the archive sees that lines are left out.
 
 use alloc::borrow::Cow;
 use alloc::collections::BTreeMap;

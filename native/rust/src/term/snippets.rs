@@ -1,5 +1,5 @@
-//! What a rich output shows of files: the lookups, in the original's order. Only the lines that
-//! labels may show are looked up.
+//! What a rich output shows of files: the lookups, in the original's order. Each line that a label
+//! spans is looked up, those of context around labels, and a single line between two of these.
 
 use alloc::vec::Vec;
 
