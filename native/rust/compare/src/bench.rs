@@ -100,6 +100,10 @@ fn cases() -> Vec<(&'static str, Case)> {
             "one label in 9 MB",
             case(&long, Style::Rich, &[(4_480_028, 4_480_042, "no numbers")]),
         ),
+        (
+            "a label over 10,000 lines",
+            case(&long, Style::Rich, &[(28, 28 + 2_500 * program.len(), "a tall one")]),
+        ),
     ]
 }
 
