@@ -76,7 +76,7 @@ fn run(rt: &HostRuntime, color: bool) -> Result<u8, Error> {
 /// Returns the name of the file and the display style, or `None` where the arguments are wrong.
 fn parse_arguments(args: &[String]) -> Option<(&str, DisplayStyle)> {
     match args {
-        [name] => Some((name.as_str(), DisplayStyle::Rich)),
+        [name] if name.as_str() != "--short" => Some((name.as_str(), DisplayStyle::Rich)),
         [option, name] if option.as_str() == "--short" => {
             Some((name.as_str(), DisplayStyle::Short))
         }

@@ -1,5 +1,5 @@
-//! Equality of configurations in all but the `snippet_start`. Each field is named, so that a new
-//! one does not compile until it is compared too.
+//! Equality of configurations in all but the `snippet_start`. Each field is named, without `..`, so
+//! a new one does not compile until it is named here.
 
 use codespan_base::term::{Chars, Config, DisplayStyle, Layout};
 
