@@ -102,7 +102,11 @@ fn cases() -> Vec<(&'static str, Case)> {
         ),
         (
             "a label over 10,000 lines",
-            case(&long, Style::Rich, &[(28, 28 + 2_500 * program.len(), "a tall one")]),
+            case(
+                &long,
+                Style::Rich,
+                &[(28, 28 + 2_500 * program.len(), "a tall one")],
+            ),
         ),
     ]
 }
