@@ -10,7 +10,7 @@ def text(content):
 def request(times, case):
     """The input of both programs, for a case: its files, labels, notes, code and message."""
     files, labels, notes = case.get('files', [('f', 'abc\n')]), case.get('labels', []), case.get('notes', [])
-    parts = [b'%d\n%d\n' % (times, len(files))]
+    parts = [b'%d\n%s\n%d\n' % (times, case.get('made', 'once').encode(), len(files))]
     parts += [text(name) + text(source) for name, source in files]
     parts += [text(case.get('code', '')), text(case.get('message', '')), b'%d\n' % len(labels)]
     parts += [b'%s\n%d\n%d\n%d\n%s' % (style.encode(), file, start, end, text(message)) for style, file, start, end, message in labels]
@@ -94,6 +94,17 @@ def tall_label(size):
 def lanes(size):
     """{:,} labels over 370 lines, which cross."""
     return one('abc\n' * 400, [('secondary', 0, at * 4 + 1, 1500 - at, 'm') for at in range(size)])
+
+
+def large_file(size):
+    """One label in the middle of a file of {:,} bytes, in lines of 38."""
+    start = size // 38 // 2 * 38
+    return one(('x' * 37 + '\n') * (size // 38), [('primary', 0, start + 4, start + 9, 'here')])
+
+
+def large_file_anew(size):
+    """As `large_file`, of {:,} bytes; the file database is made anew."""
+    return {**large_file(size), 'made': 'anew'}
 
 
 def many_files(size):

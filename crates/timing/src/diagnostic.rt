@@ -1,28 +1,9 @@
-//! The files and the diagnostic to be rendered.
+//! The diagnostic to be rendered.
 
 use crate::error::TimingError;
 use crate::fields::{Fields, Malformed};
 use codespan_base::diagnostic::{Diagnostic, Label, LabelStyle, Severity};
-use codespan_base::files::SimpleFiles;
 use std::alloc::Global;
-
-/// Reads the files.
-///
-/// # Errors
-///
-/// - `Input`: a field is malformed.
-/// - `CannotRender`: an allocation fails.
-pub fn read_files<'a>(
-    alloc: Global,
-    fields: &mut Fields<'a>,
-) -> Result<SimpleFiles<&'a str, &'a str>, TimingError> {
-    let mut files = SimpleFiles::new(alloc);
-    for _ in 0..fields.number()? {
-        let name = fields.text()?;
-        files.add(name, fields.text()?)?;
-    }
-    Ok(files)
-}
 
 /// Reads the diagnostic, an error.
 ///

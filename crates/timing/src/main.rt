@@ -1,23 +1,25 @@
 //! `timing` renders the diagnostic on standard input as many times as the input states, and writes
 //! the last output.
 //!
-//! It writes one line to standard error: how long rendering took, in nanoseconds. It is made to be
-//! measured beside a program over the Rust crate that reads the same input: `tools/bench` does
-//! that. [`fields`] documents the input. If the input is malformed or anything fails, the status is
-//! 1.
+//! It writes one line to standard error: how long rendering took, in nanoseconds, with the file
+//! database where that is made anew for each time. It is made to be measured beside a program over
+//! the Rust crate that reads the same input: `tools/bench` does that. [`fields`] documents the
+//! input. If the input is malformed or anything fails, the status is 1.
 #![tactic(auto)]
 
 mod diagnostic;
 mod error;
 mod fields;
+mod files;
 
 use codespan_base::diagnostic::Diagnostic;
 use codespan_base::files::{Error, SimpleFiles};
 use codespan_base::term::Config;
 use codespan_views::emitting::emit_into_string;
-use diagnostic::{read_diagnostic, read_files};
+use diagnostic::read_diagnostic;
 use error::TimingError;
 use fields::Fields;
+use files::{File, Making, database, read_files, read_making};
 use std::io::{Read, Write};
 use std::time::Instant;
 
@@ -30,17 +32,22 @@ fn main(rt: HostRuntime) -> Result<(), TimingError> {
 /// Renders what the fields state, and writes the last output and the time.
 fn run(rt: &HostRuntime, mut fields: Fields<'_>) -> Result<(), TimingError> {
     let times = fields.number()?;
+    let making = read_making(&mut fields)?;
     let files = read_files(rt.alloc(), &mut fields)?;
     let diagnostic = read_diagnostic(rt.alloc(), &mut fields)?;
+    let made = database(rt.alloc(), &files)?;
 
     let start = Instant::now(rt)?;
-    let output = render(times, &files, &diagnostic)?;
+    let output = match making {
+        Making::Once => render(times, &made, &diagnostic)?,
+        Making::Anew => render_anew(times, &files, &diagnostic)?,
+    };
     let nanos = start.elapsed(rt)?.as_nanos();
 
     write(rt, output.as_str(), nanos)
 }
 
-/// Renders this many times, and returns the last output.
+/// Renders this many times over one file database, and returns the last output.
 fn render(
     times: usize,
     files: &SimpleFiles<&str, &str>,
@@ -50,6 +57,20 @@ fn render(
     let mut output = String::new(*diagnostic.labels.allocator());
     for _ in 0..times {
         output = emit_into_string(&config, files, diagnostic)?;
+    }
+    Ok(output)
+}
+
+/// Renders this many times, each over a file database of its own, and returns the last output.
+fn render_anew(
+    times: usize,
+    files: &[File<'_>],
+    diagnostic: &Diagnostic<usize>,
+) -> Result<String, Error> {
+    let alloc = *diagnostic.labels.allocator();
+    let mut output = String::new(alloc);
+    for _ in 0..times {
+        output = render(1, &database(alloc, files)?, diagnostic)?;
     }
     Ok(output)
 }

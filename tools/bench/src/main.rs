@@ -1,5 +1,6 @@
 //! The program `timing` of this repository, over the Rust crate: it reads the same input, which crates/timing/src/fields.rt describes, renders the
-//! diagnostic as often as that says, writes the last output, and reports on standard error how many nanoseconds the rendering took.
+//! diagnostic as often as that says, writes the last output, and reports on standard error how many nanoseconds that took, with the file database
+//! where it is made anew for each time.
 
 use codespan_reporting::diagnostic::{Diagnostic, Label, LabelStyle};
 use codespan_reporting::files::SimpleFiles;
@@ -32,14 +33,27 @@ impl<'a> Fields<'a> {
     }
 }
 
-/// Reads the files.
-fn read_files<'a>(fields: &mut Fields<'a>) -> SimpleFiles<&'a str, &'a str> {
-    let mut files = SimpleFiles::new();
-    for _ in 0..fields.number() {
-        let name = fields.text();
-        files.add(name, fields.text());
+/// Reads whether the file database is made anew for each rendering.
+fn read_is_made_anew(fields: &mut Fields<'_>) -> bool {
+    match fields.line() {
+        "once" => false,
+        "anew" => true,
+        other => panic!("neither once nor anew: {other}"),
     }
-    files
+}
+
+/// Reads the files: the name and the source of each.
+fn read_files<'a>(fields: &mut Fields<'a>) -> Vec<(&'a str, &'a str)> {
+    (0..fields.number()).map(|_| (fields.text(), fields.text())).collect()
+}
+
+/// Makes the database of the files.
+fn database<'a>(files: &[(&'a str, &'a str)]) -> SimpleFiles<&'a str, &'a str> {
+    let mut database = SimpleFiles::new();
+    for &(name, source) in files {
+        database.add(name, source);
+    }
+    database
 }
 
 /// Reads the diagnostic, an error.
@@ -75,14 +89,19 @@ fn main() -> io::Result<()> {
     io::stdin().read_to_string(&mut input)?;
     let mut fields = Fields(&input);
     let times = fields.number();
+    let is_made_anew = read_is_made_anew(&mut fields);
     let files = read_files(&mut fields);
     let diagnostic = read_diagnostic(&mut fields);
+    let mut made = database(&files);
 
     let config = Config::default();
     let mut output = String::new();
     let start = Instant::now();
     for _ in 0..times {
-        output = emit_into_string(&config, &files, &diagnostic).expect("an output");
+        if is_made_anew {
+            made = database(&files);
+        }
+        output = emit_into_string(&config, &made, &diagnostic).expect("an output");
     }
     let nanos = start.elapsed().as_nanos();
 
