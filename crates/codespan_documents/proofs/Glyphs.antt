@@ -9,7 +9,9 @@ use Rattle.codespan_documents.specs.declared.svg.glyph.Glyph.{Glyph}
 use Rattle.codespan_documents.specs.declared.text.Run.{Run}
 use Rattle.codespan_documents.specs.declared.svg.position.CellPosition.{CellPosition}
 use Rattle.codespan_documents.specs.declared.svg.Pen.{Pen}
-use Rattle.codespan_documents.specs.Glyphs.{after_glyph, cells_of, extent_from, follows, glyphs_of, glyphs_of_run, joins_next, is_white_space, joined_cells, start}
+use Rattle.codespan_documents.specs.Glyphs.{after_glyph, cells_of, extent_from, follows, glyphs_of}
+use Rattle.codespan_documents.specs.Glyphs.{glyphs_of_run, joins_next, is_white_space, joined_cells}
+use Rattle.codespan_documents.specs.Glyphs.{start}
 use Rattle.codespan_documents.specs.Runs.{run_view}
 use Rattle.codespan_documents.specs.Svg.{first_pen, font_attributes, glyph_text, background_tag_content, next_pen, svg_tag_start, svg_document, text_tag, texts_from, xml_character}
 

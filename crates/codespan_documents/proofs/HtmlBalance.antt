@@ -1,11 +1,14 @@
 -- Each element that a tag opens is closed: for the clause `balanced` of `to_html`.
-use Rattle.std.proofs.Common.{◌≡◌, ℕ, true, false, List, [], ◌∷◌, ◌++◌, map, codes, Some, refl, ap, ◌∙◌, append_assoc}
+use Rattle.std.proofs.Common.{◌≡◌, ℕ, true, false, List, [], ◌∷◌, ◌++◌, map, codes, Some, refl, ap}
+use Rattle.std.proofs.Common.{◌∙◌, append_assoc}
 use Rattle.std.specs.Prelude.{Bool, if◌then◌else◌}
 use Rattle.std.specs.Char.{encode_utf8}
 use Rattle.std.specs.List.{flat_map}
 use Rattle.std.specs.Str.{chars}
 use Rattle.codespan_documents.specs.Html.{box_class, is_wide, replaced_character, style_class}
-use Rattle.codespan_documents.specs.HtmlReading.{Token, Tag, TextByte, cell_tokens, character_tokens, element_tokens, open_after, open_from, run_tokens, span_tokens, text_tokens}
+use Rattle.codespan_documents.specs.HtmlReading.{Token, Tag, TextByte, cell_tokens}
+use Rattle.codespan_documents.specs.HtmlReading.{character_tokens, element_tokens, open_after}
+use Rattle.codespan_documents.specs.HtmlReading.{open_from, run_tokens, span_tokens, text_tokens}
 use Rattle.codespan_documents.specs.Runs.{RunView, is_plain}
 
 -- the same elements are open after the tokens as before them

@@ -14,8 +14,17 @@ use Rattle.codespan_base.specs.declared.diagnostic.Severity.TheVariants.{Bug, Er
 use Rattle.codespan_documents.specs.declared.style.Style.{Style}
 use Rattle.codespan_documents.specs.declared.style.Style.TheVariants.{Plain, Header, HeaderMessage, LineNumber, NoteBullet, SourceBorder, Label}
 use Rattle.codespan_documents.specs.declared.text.Run.{Run}
-use Rattle.codespan_documents.specs.Html.{box_class, character_cells, escaped_text, html_cell, html_character, html_element, html_run, html_span, is_forbidden_control, is_noncharacter, is_wide, replaced_character, shown_text, span_tag, span_tag_content, style_class}
-use Rattle.codespan_documents.specs.HtmlReading.{InEntity, InTag, InText, Token, Tag, TextByte, cell_tokens, character_tokens, element_tokens, read_tokens, tokens_from, run_tokens, span_tokens, text_of_html, text_of_tokens, text_tokens, without_newline}
+use Rattle.codespan_documents.specs.Cells.{character_cells}
+use Rattle.codespan_documents.specs.Html.{box_class, escaped_text, html_cell}
+use Rattle.codespan_documents.specs.Html.{html_character, html_element, html_run, html_span}
+use Rattle.codespan_documents.specs.Html.{is_forbidden_control, is_noncharacter, is_wide}
+use Rattle.codespan_documents.specs.Html.{replaced_character, shown_text, span_tag}
+use Rattle.codespan_documents.specs.Html.{span_tag_content, style_class}
+use Rattle.codespan_documents.specs.HtmlReading.{InEntity, InTag, InText, Token, Tag, TextByte}
+use Rattle.codespan_documents.specs.HtmlReading.{cell_tokens, character_tokens, element_tokens}
+use Rattle.codespan_documents.specs.HtmlReading.{read_tokens, tokens_from, run_tokens, span_tokens}
+use Rattle.codespan_documents.specs.HtmlReading.{text_of_html, text_of_tokens, text_tokens}
+use Rattle.codespan_documents.specs.HtmlReading.{without_newline}
 use Rattle.codespan_documents.specs.Runs.{RunView, is_plain, joined, run_view}
 
 -- ---- bytes of text

@@ -1,12 +1,14 @@
 -- Texts and runs that are appended to an element one by one: for the clause `element` of
 -- `to_html`.
-use Rattle.std.proofs.Common.{◌≡◌, ℕ, List, [], ◌∷◌, ◌++◌, length, map, sym, ap, ◌∙◌, append_assoc, append-nil, arith, codes, refl}
+use Rattle.std.proofs.Common.{◌≡◌, ℕ, List, [], ◌∷◌, ◌++◌, length, map, sym, ap, ◌∙◌, append_assoc}
+use Rattle.std.proofs.Common.{append-nil, arith, codes, refl}
 use Rattle.std.specs.Char.{encode_utf8}
 use Rattle.std.specs.List.{flat_map}
 use Rattle.std.specs.Str.{IsUtf8}
 use Rattle.std.proofs.lemmas.Str.{chars-nil, chars_past_char}
 use Rattle.codespan_documents.specs.declared.text.Run.{Run}
-use Rattle.codespan_documents.specs.Html.{escaped_text, html_cell, html_element, html_run, html_span, span_tag}
+use Rattle.codespan_documents.specs.Html.{escaped_text, html_cell, html_element, html_run}
+use Rattle.codespan_documents.specs.Html.{html_span, span_tag}
 use Rattle.codespan_documents.specs.Runs.{run_view}
 
 -- a character of the text that is left

@@ -1,6 +1,7 @@
 -- Each character of an SVG document has its cell and its ink: for
 -- `svg::laws::characters_are_in_their_cells`.
-use Rattle.std.proofs.Common.{◌≡◌, ℕ, true, false, List, [], ◌∷◌, ◌++◌, refl, sym, ap, ◌∙◌, None, Some, Option}
+use Rattle.std.proofs.Common.{◌≡◌, ℕ, true, false, List, [], ◌∷◌, ◌++◌, refl, sym, ap, ◌∙◌, None}
+use Rattle.std.proofs.Common.{Some, Option}
 use Rattle.std.specs.Prelude.{Bool, ◌==◌, ◌&&◌, not, if◌then◌else◌}
 use Rattle.std.specs.List.{flat_map}
 use Rattle.codespan_base.specs.declared.term.config.color.Color.{Color}
@@ -12,7 +13,9 @@ use Rattle.codespan_documents.specs.declared.svg.Pen.{Pen}
 use Rattle.codespan_documents.specs.Glyphs.{follows, is_narrow, is_white_space, joins, start}
 use Rattle.codespan_documents.specs.Inks.{optional_color_number, same_ink}
 use Rattle.codespan_documents.specs.Svg.{first_pen, next_pen}
-use Rattle.codespan_documents.specs.SvgReading.{CharacterInCell, Piece, WhiteSpace, Text, text_characters, piece_characters, joined_glyphs, pieces_from, characters_from}
+use Rattle.codespan_documents.specs.SvgReading.{CharacterInCell, Piece, WhiteSpace, Text}
+use Rattle.codespan_documents.specs.SvgReading.{text_characters, piece_characters, joined_glyphs}
+use Rattle.codespan_documents.specs.SvgReading.{pieces_from, characters_from}
 use Rattle.codespan_documents.proofs.HtmlReading.{and_true, is_code}
 use Rattle.codespan_documents.proofs.SvgPieces.{two_ifs, white_space_joins, follows_white_space}
 
@@ -152,7 +155,8 @@ cells_by_pieces pen (glyph ∷ glyphs) = all (cells_by_pieces (next_pen pen glyp
     all is =
         two_ifs (is_white_space glyph) (characters_from next.position glyphs)
         (first ∷ characters_from next.position glyphs)
-        (WhiteSpace glyph.character ∷ rest) (if follows pen.before glyph then rest else piece ∷ rest)
+        (WhiteSpace glyph.character ∷ rest)
+        (if follows pen.before glyph then rest else piece ∷ rest)
         (λ (cs : List CharacterInCell) (pieces : List Piece). cs
         ≡ (if follows pen.before glyph then own else []) ++ flat_map piece_characters pieces)
         (white_space is) (λ _. character is)

@@ -6,11 +6,14 @@ use Rattle.std.specs.List.{flat_map}
 use Rattle.std.proofs.lemmas.List.{map-append}
 use Rattle.codespan_documents.specs.declared.svg.glyph.Glyph.{Glyph}
 use Rattle.codespan_documents.specs.declared.svg.Pen.{Pen}
-use Rattle.codespan_documents.specs.Glyphs.{cells_of, follows, joins_next, is_narrow, is_white_space, joined_cells, joins}
+use Rattle.codespan_documents.specs.Glyphs.{cells_of, follows, joins_next, is_narrow}
+use Rattle.codespan_documents.specs.Glyphs.{is_white_space, joined_cells, joins}
 use Rattle.codespan_documents.specs.HtmlReading.{Token, Tag, TextByte}
 use Rattle.codespan_documents.specs.Inks.{same_ink}
 use Rattle.codespan_documents.specs.Svg.{first_pen, next_pen, text_tag_content}
-use Rattle.codespan_documents.specs.SvgReading.{Piece, WhiteSpace, Text, joined_glyphs, piece_tokens, pieces_from, shown_glyphs, shown_in_svg, text_width}
+use Rattle.codespan_documents.specs.SvgReading.{Piece, WhiteSpace, Text, joined_glyphs}
+use Rattle.codespan_documents.specs.SvgReading.{piece_tokens, pieces_from, shown_glyphs}
+use Rattle.codespan_documents.specs.SvgReading.{shown_in_svg, text_width}
 
 -- ---- glyph by glyph
 
@@ -208,7 +211,8 @@ tokens_by_pieces pen (glyph ∷ glyphs) = all (tokens_by_pieces (next_pen pen gl
         two_ifs (is_white_space glyph) (TextByte glyph.character ∷ [])
         ((if follows pen.before glyph then [] else tag (cells_of glyph + joined_cells glyph glyphs))
         ++ shown ++ ended)
-        (WhiteSpace glyph.character ∷ rest) (if follows pen.before glyph then rest else piece ∷ rest)
+        (WhiteSpace glyph.character ∷ rest)
+        (if follows pen.before glyph then rest else piece ∷ rest)
         (λ (first : List Token) (pieces : List Piece). Goal first
         (if follows pen.before glyph then text_tokens glyph (joined_glyphs glyph glyphs)
         else [])

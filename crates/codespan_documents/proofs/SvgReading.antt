@@ -1,6 +1,7 @@
 -- An SVG document reads back as its tags and its text: for the clauses `tokens` and `text` of
 -- `to_svg`.
-use Rattle.std.proofs.Common.{◌≡◌, ℕ, ◌+◌, true, false, List, [], ◌∷◌, ◌++◌, map, codes, refl, sym, ap, ◌∙◌, append_assoc, append-nil}
+use Rattle.std.proofs.Common.{◌≡◌, ℕ, ◌+◌, true, false, List, [], ◌∷◌, ◌++◌, map, codes, refl, sym}
+use Rattle.std.proofs.Common.{ap, ◌∙◌, append_assoc, append-nil}
 use Rattle.std.specs.Prelude.{Bool, ◌==◌, if◌then◌else◌}
 use Rattle.std.specs.Char.{encode_utf8}
 use Rattle.std.specs.List.{flat_map}
@@ -11,14 +12,18 @@ use Rattle.codespan_base.specs.declared.term.config.styles.Styles.{Styles}
 use Rattle.codespan_documents.specs.declared.svg.glyph.Glyph.{Glyph}
 use Rattle.codespan_documents.specs.declared.svg.ink.Ink.{Ink}
 use Rattle.codespan_documents.specs.declared.svg.Pen.{Pen}
-use Rattle.codespan_documents.specs.Glyphs.{cells_of, extent_from, follows, glyphs_of, glyphs_of_run, joins_next, is_white_space, joined_cells, start}
+use Rattle.codespan_documents.specs.Glyphs.{cells_of, extent_from, follows, glyphs_of}
+use Rattle.codespan_documents.specs.Glyphs.{glyphs_of_run, joins_next, is_white_space, joined_cells}
+use Rattle.codespan_documents.specs.Glyphs.{start}
 use Rattle.codespan_documents.specs.HtmlReading.{InText, Token, Tag, TextByte, read_tokens, tokens_from, text_of_tokens}
 use Rattle.codespan_documents.specs.Runs.{RunView, run_characters}
 use Rattle.codespan_documents.specs.Svg.{first_pen, glyph_text, background_tag_content, next_pen, svg_document, svg_tag_content, text_tag_content, text_tag, texts_from, xml_character}
 use Rattle.codespan_documents.specs.SvgReading.{piece_tokens, pieces_from, svg_tokens, shown_in_svg, shown_svg_text}
 use Rattle.codespan_documents.proofs.HtmlReading.{text_of-append, text_of-bytes}
 use Rattle.codespan_documents.proofs.SvgPieces.{glyph_tokens, tokens_of_glyphs, tokens_of_pieces, two_ifs}
-use Rattle.codespan_documents.proofs.SvgElements.{is_inside, text-inside, svg-inside, tag-read, character-read, white-space-read, white-space-shown}
+use Rattle.codespan_documents.proofs.SvgElements.{is_inside, text-inside, svg-inside, tag-read}
+use Rattle.codespan_documents.proofs.SvgElements.{character-read, white-space-read}
+use Rattle.codespan_documents.proofs.SvgElements.{white-space-shown}
 
 -- ---- glyphs
 

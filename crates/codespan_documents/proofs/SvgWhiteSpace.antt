@@ -11,7 +11,8 @@ use Rattle.codespan_documents.specs.declared.svg.Pen.{Pen}
 use Rattle.codespan_documents.specs.Glyphs.{cells_of, follows, is_narrow, is_white_space, joins}
 use Rattle.codespan_documents.specs.Inks.{same_ink}
 use Rattle.codespan_documents.specs.Svg.{is_forbidden_in_xml, next_pen}
-use Rattle.codespan_documents.specs.SvgReading.{is_collapsible, joined_glyphs, pieces_from, shown_bytes, shown_glyphs, shown_in_svg}
+use Rattle.codespan_documents.specs.SvgReading.{is_collapsible, joined_glyphs, pieces_from}
+use Rattle.codespan_documents.specs.SvgReading.{shown_bytes, shown_glyphs, shown_in_svg}
 use Rattle.codespan_documents.proofs.HtmlReading.{and_true}
 use Rattle.codespan_documents.proofs.SvgElements.{not_true}
 

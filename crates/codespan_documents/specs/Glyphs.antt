@@ -1,11 +1,12 @@
 -- The characters of styled text, each in its ink, and their positions.
-use Rattle.std.specs.Prelude.{ℕ, ◌+◌, ◌==◌, Bool, false, not, nat_le, ◌&&◌, ◌||◌, List, [], ◌∷◌, map, max, Option, None, Some, unwrap_or, if◌then◌else◌}
+use Rattle.std.specs.Prelude.{ℕ, ◌+◌, ◌==◌, Bool, false, not, nat_le, ◌&&◌, ◌||◌, List, [], ◌∷◌}
+use Rattle.std.specs.Prelude.{map, max, Option, None, Some, if◌then◌else◌}
 use Rattle.std.specs.List.{flat_map}
 use Rattle.std.specs.Str.{chars}
-use Rattle.unicode_width.specs.Width.{char_width}
 use Rattle.codespan_base.specs.declared.term.config.styles.Styles.{Styles}
 use Rattle.codespan_documents.specs.declared.svg.glyph.Glyph.{Glyph}
 use Rattle.codespan_documents.specs.declared.svg.position.CellPosition.{CellPosition}
+use Rattle.codespan_documents.specs.Cells.{character_cells}
 use Rattle.codespan_documents.specs.Inks.{ink_of, same_ink}
 use Rattle.codespan_documents.specs.Runs.{RunView}
 use Rattle.codespan_documents.specs.StyleSheet.{color_spec_of_style}
@@ -22,10 +23,9 @@ glyphs_of_run styles run =
 abbrev pub glyphs_of : Styles → List RunView → List Glyph
 glyphs_of styles runs = flat_map (glyphs_of_run styles) runs
 
--- the number of cells that a glyph occupies: the width that `unicode_width` returns for its
--- character, or 0 where it returns none
+-- the number of cells that a glyph occupies
 abbrev pub cells_of : Glyph → ℕ
-cells_of glyph = unwrap_or (char_width false glyph.character) 0
+cells_of glyph = character_cells glyph.character
 
 -- the glyph is a newline
 abbrev pub is_newline_glyph : Glyph → Bool

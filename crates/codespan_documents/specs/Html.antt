@@ -1,13 +1,14 @@
 -- HTML elements of styled text.
-use Rattle.std.specs.Prelude.{ℕ, ◌%◌, ◌==◌, Bool, false, not, nat_lt, nat_le, ◌&&◌, ◌||◌, List, ◌++◌, codes, encode_utf8, unwrap_or, if◌then◌else◌}
+use Rattle.std.specs.Prelude.{ℕ, ◌%◌, ◌==◌, Bool, false, not, nat_lt, nat_le, ◌&&◌, ◌||◌, List}
+use Rattle.std.specs.Prelude.{◌++◌, codes, encode_utf8, if◌then◌else◌}
 use Rattle.std.specs.List.{flat_map}
 use Rattle.std.specs.Str.{chars}
-use Rattle.unicode_width.specs.Width.{char_width}
 use Rattle.codespan_base.specs.declared.diagnostic.LabelStyle.TheVariants.{Primary, Secondary}
 use Rattle.codespan_base.specs.declared.diagnostic.Severity.{Severity}
 use Rattle.codespan_base.specs.declared.diagnostic.Severity.TheVariants.{Bug, Error, Warning, Note, Help}
 use Rattle.codespan_documents.specs.declared.style.Style.{Style}
 use Rattle.codespan_documents.specs.declared.style.Style.TheVariants.{Plain, Header, HeaderMessage, LineNumber, NoteBullet, SourceBorder, Label}
+use Rattle.codespan_documents.specs.Cells.{character_cells}
 use Rattle.codespan_documents.specs.Runs.{RunView, is_plain}
 
 -- ---- characters
@@ -56,11 +57,6 @@ abbrev pub html_span : List ℕ → List ℕ → List ℕ
 html_span class content = span_tag class ++ content ++ codes "</span>"
 
 -- ---- wide characters
-
--- the number of cells that a character occupies: the width that `unicode_width` returns for it, or
--- 0 where it returns none; it is 3 at most
-abbrev pub character_cells : ℕ → ℕ
-character_cells c = unwrap_or (char_width false c) 0
 
 -- the character occupies more than one cell
 abbrev pub is_wide : ℕ → Bool

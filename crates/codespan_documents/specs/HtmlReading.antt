@@ -1,8 +1,10 @@
 -- How an HTML element is read back: its tags, and the text between them.
-use Rattle.std.specs.Prelude.{ℕ, ◌==◌, List, [], ◌∷◌, ◌++◌, map, codes, encode_utf8, Option, None, Some, option_and_then, if◌then◌else◌}
+use Rattle.std.specs.Prelude.{ℕ, ◌==◌, List, [], ◌∷◌, ◌++◌, map, codes, encode_utf8, Option, None}
+use Rattle.std.specs.Prelude.{Some, option_and_then, if◌then◌else◌}
 use Rattle.std.specs.List.{flat_map}
 use Rattle.std.specs.Str.{bytes_eq, chars}
-use Rattle.codespan_documents.specs.Html.{box_class, is_wide, replaced_character, span_tag_content, style_class}
+use Rattle.codespan_documents.specs.Html.{box_class, is_wide, replaced_character, span_tag_content}
+use Rattle.codespan_documents.specs.Html.{style_class}
 use Rattle.codespan_documents.specs.Runs.{RunView, is_plain}
 
 -- a token of an element: a byte of text, or what is between `<` and `>`

@@ -1,4 +1,5 @@
 pub mod Runs
+pub mod Cells
 pub mod Html
 pub mod HtmlReading
 pub mod StyleSheet

@@ -6,7 +6,8 @@ use Rattle.codespan_documents.specs.declared.svg.glyph.Glyph.{Glyph}
 use Rattle.codespan_documents.specs.declared.svg.ink.Ink.{Ink}
 use Rattle.codespan_documents.specs.declared.svg.position.CellPosition.{CellPosition}
 use Rattle.codespan_documents.specs.declared.svg.Pen.{Pen}
-use Rattle.codespan_documents.specs.Glyphs.{after_glyph, cells_of, extent_from, follows, joins_next, is_white_space, joined_cells, start}
+use Rattle.codespan_documents.specs.Glyphs.{after_glyph, cells_of, extent_from, follows, joins_next}
+use Rattle.codespan_documents.specs.Glyphs.{is_white_space, joined_cells, start}
 
 -- ---- characters
 

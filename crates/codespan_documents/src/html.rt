@@ -1,16 +1,22 @@
 //! Styled text as an HTML element.
 
-ghost use Rattle.std.specs.Prelude.{◌≡◌, ◌≤◌, ◌++◌, [], IfErr, IfOk, OnOk, Some, codes, flat_map, map, string_bytes};
-ghost use Rattle.codespan_documents.specs.Html.{box_class, character_cells, escaped_text, html_cell, html_character, html_element, html_run, is_forbidden_control, is_noncharacter, is_wide, replaced_character, shown_text, span_tag, style_class};
-ghost use Rattle.codespan_documents.specs.HtmlReading.{element_tokens, open_after, read_tokens, text_of_html};
+ghost use Rattle.std.specs.Prelude.{◌≡◌, ◌++◌, [], IfErr, IfOk, OnOk, Some, codes, flat_map};
+ghost use Rattle.std.specs.Prelude.{map, string_bytes};
+ghost use Rattle.codespan_documents.specs.Html.{box_class, escaped_text};
+ghost use Rattle.codespan_documents.specs.Html.{html_cell, html_character, html_element, html_run};
+ghost use Rattle.codespan_documents.specs.Html.{is_forbidden_control, is_noncharacter, is_wide};
+ghost use Rattle.codespan_documents.specs.Html.{replaced_character, shown_text, span_tag};
+ghost use Rattle.codespan_documents.specs.Html.{style_class};
+ghost use Rattle.codespan_documents.specs.HtmlReading.{element_tokens, open_after, read_tokens};
+ghost use Rattle.codespan_documents.specs.HtmlReading.{text_of_html};
 ghost use Rattle.codespan_documents.specs.Runs.{joined, run_view, styled_runs};
 
+use crate::cells::cells;
 use crate::style::Style;
 use crate::text::{Run, StyledText};
 use codespan_base::diagnostic::{LabelStyle, Severity};
 use codespan_base::files::Error;
 use std::alloc::{AllocError, Global};
-use unicode_width::UnicodeWidthChar;
 
 /// Returns an HTML element of styled text: a `pre` of the class `diagnostic`, and in it
 /// a `span` for each run that is not plain, with the class of its style.
@@ -136,15 +142,6 @@ fn box_class(c: char) -> &'static str
     ensures { result.now ≡ box_class c }
 {
     if cells(c) == 2 { "wide" } else { "wide-3" }
-}
-
-/// Returns the number of cells that a character occupies: the width that `unicode_width` returns
-/// for it, or 0 where it returns none.
-fn cells(c: char) -> usize
-    ensures value { result ≡ character_cells c }
-    ensures bound { result ≤ 3 }
-{
-    c.width().unwrap_or(0)
 }
 
 /// Appends a character, as an entity where it can begin or end a tag, an attribute or an entity.

@@ -4,6 +4,7 @@
 //! which renders a diagnostic to a [`StyledText`], re-exports all of this crate.
 #![tactic(auto)]
 
+mod cells;
 pub mod html;
 pub mod style;
 pub mod style_sheet;

@@ -34,15 +34,16 @@ const BASELINE: u128 = 25;
 
 /// The end of the first tag, with the font and the color of plain text, and the dark background.
 const FONT_AND_BACKGROUND: &str =
-    " font-family=\"DejaVu Sans Mono, Menlo, Consolas, monospace\" font-size=\"15\" fill=\"#e6edf3\">
+    " font-family=\"DejaVu Sans Mono, Menlo, Consolas, monospace\" font-size=\"15\" \
+    fill=\"#e6edf3\">
 <rect width=\"100%\" height=\"100%\" rx=\"6\" fill=\"#161b22\"/>
 ";
 
-/// Returns an SVG document of styled text: an element `text` for characters of a row that follow one
-/// another in one ink without a space between them, on a dark background.
+/// Returns an SVG document of styled text: an element `text` for characters of a row that follow
+/// one another in one ink without a space between them, on a dark background.
 ///
-/// A space is a position: it is between the elements, where it is not shown, and in none of them. So
-/// the document looks the same however a renderer collapses white space.
+/// A space is a position: it is between the elements, where it is not shown, and in none of them.
+/// So the document looks the same however a renderer collapses white space.
 ///
 /// The ink of a run is the color of its style in `styles`, on the dark background, and whether it
 /// is bold; `bg` and `intense` have no effect. A cell is nine pixels wide and a row eighteen high,

@@ -1,8 +1,10 @@
 -- What positions and bytes are to each other.
-use Rattle.std.specs.Prelude.{◌≡◌, ◌↔◌, ◌⊎◌, ℕ, ◌+◌, ◌<◌, ◌≤◌, List, ◌++◌, encode_utf8, slice_range, Option, Some, None}
+use Rattle.std.specs.Prelude.{◌≡◌, ◌↔◌, ◌⊎◌, ℕ, ◌+◌, ◌<◌, ◌≤◌, List, ◌++◌, encode_utf8, slice_range}
+use Rattle.std.specs.Prelude.{Option, Some, None}
 use Rattle.std.specs.Str.{IsCharBoundary}
 use Rattle.std.specs.declared.ops.Range as ops
-use Rattle.codespan_base.specs.FileModel.{FileModel, Lookup, line_count, line_of, line_start, line_text}
+use Rattle.codespan_base.specs.FileModel.{FileModel, Lookup, line_count, line_of, line_start}
+use Rattle.codespan_base.specs.FileModel.{line_text}
 use Rattle.codespan_base.specs.LawfulFiles.{IsLawful, line_end}
 use Rattle.codespan_base.specs.declared.files.Error.{Error}
 use Rattle.codespan_base.specs.declared.files.Error.TheVariants.{InvalidCharBoundary}

@@ -3,7 +3,10 @@
 ghost use Rattle.std.specs.Prelude.{◌≡◌, IfOk, map};
 ghost use Rattle.codespan_base.specs.LawfulFiles.{FailsBy};
 ghost use Rattle.codespan_base.specs.Labels.{is_primary_style};
-ghost use Rattle.codespan_lsp.specs.LspDiagnostics.{lsp_view, lsp_diagnostics, lsp_diagnostic_for, lsp_failure, lsp_diagnostics_failure, label_range, label_range_failure, related_view, related_information_of, related_failure};
+ghost use Rattle.codespan_lsp.specs.LspDiagnostics.{lsp_view, lsp_diagnostics, lsp_diagnostic_for};
+ghost use Rattle.codespan_lsp.specs.LspDiagnostics.{lsp_failure, lsp_diagnostics_failure};
+ghost use Rattle.codespan_lsp.specs.LspDiagnostics.{label_range, label_range_failure, related_view};
+ghost use Rattle.codespan_lsp.specs.LspDiagnostics.{related_information_of, related_failure};
 ghost use Rattle.codespan_lsp.specs.declared.encoding.PositionEncoding.TheVariants.{Utf16};
 
 use crate::encoding::PositionEncoding;

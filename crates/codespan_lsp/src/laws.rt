@@ -1,6 +1,8 @@
 //! Laws of positions. Each is the contract of a function that does nothing and does not fail.
 
-ghost use Rattle.codespan_lsp.specs.PositionLaws.{PositionsReturn, PositionsAscend, LabelRangesAreOrdered, ErrorsHaveNoByte, InsideIsNoBoundary};
+ghost use Rattle.codespan_lsp.specs.PositionLaws.{PositionsReturn, PositionsAscend};
+ghost use Rattle.codespan_lsp.specs.PositionLaws.{LabelRangesAreOrdered, ErrorsHaveNoByte};
+ghost use Rattle.codespan_lsp.specs.PositionLaws.{InsideIsNoBoundary};
 
 /// States that a byte at a character boundary, not past its line's end, is at its position, and
 /// that no other byte is: so it goes to a position and back to itself.
@@ -13,8 +15,9 @@ pub fn positions_ascend()
     ensures { PositionsAscend }
 {}
 
-/// States that each range that [`to_lsp_diagnostics`](crate::to_lsp_diagnostics) returns for a label
-/// starts at its end or at an earlier position, also where the label's span starts after its end.
+/// States that each range that [`to_lsp_diagnostics`](crate::to_lsp_diagnostics) returns for a
+/// label starts at its end or at an earlier position, also where the label's span starts after its
+/// end.
 pub fn label_ranges_are_ordered()
     ensures { LabelRangesAreOrdered }
 {}

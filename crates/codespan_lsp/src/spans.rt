@@ -2,7 +2,8 @@
 
 ghost use Rattle.std.specs.Prelude.{◌≡◌, IfOk};
 ghost use Rattle.codespan_base.specs.LawfulFiles.{FailsBy};
-ghost use Rattle.codespan_lsp.specs.Ranges.{ordered_span, range_of, range_failure, IsSpanOf, span_failure};
+ghost use Rattle.codespan_lsp.specs.Ranges.{ordered_span, range_of, range_failure, IsSpanOf};
+ghost use Rattle.codespan_lsp.specs.Ranges.{span_failure};
 ghost use Rattle.codespan_lsp.specs.declared.encoding.PositionEncoding.TheVariants.{Utf16};
 
 use crate::encoding::PositionEncoding;

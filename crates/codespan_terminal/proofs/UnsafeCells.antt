@@ -8,7 +8,8 @@ use Rattle.std.proofs.lemmas.Bool.{and_parts, or_cases, or_parts}
 use Rattle.std.proofs.lemmas.Bool.Decides.{nat_tests}
 use Rattle.unicode_width.specs.Width.{char_width}
 use Rattle.unicode_width.proofs.Computing.{unicode_width}
-use Rattle.codespan_terminal.specs.Terminal.{is_directional_control, is_safe, safe_characters, column_after, columns, safe_columns, CharacterInColumn}
+use Rattle.codespan_terminal.specs.Terminal.{is_directional_control, is_safe, safe_characters}
+use Rattle.codespan_terminal.specs.Terminal.{column_after, columns, safe_columns, CharacterInColumn}
 
 -- the cells of a character that is no tab
 abbrev cells_of : ℕ → ℕ

@@ -5,7 +5,9 @@ ghost use Rattle.codespan_base.specs.Streams.{style_mark};
 ghost use Rattle.codespan_base.specs.WriterLaw.{Writes};
 ghost use Rattle.codespan_documents.specs.Runs.{run_view, styled_runs};
 ghost use Rattle.codespan_base.specs.StyleSpellings.{ansi_spelling};
-ghost use Rattle.codespan_terminal.specs.Terminal.{ShowsSafe, is_directional_control, is_safe, style_mark_of, runs_bytes, safe_text, terminal_text};
+ghost use Rattle.codespan_terminal.specs.Terminal.{ShowsSafe, is_directional_control, is_safe};
+ghost use Rattle.codespan_terminal.specs.Terminal.{style_mark_of, runs_bytes, safe_text};
+ghost use Rattle.codespan_terminal.specs.Terminal.{terminal_text};
 
 pub mod laws;
 

@@ -1,15 +1,17 @@
 //! The characters of styled text, each in its ink, and the cells that they occupy.
 
 ghost use Rattle.std.specs.Prelude.{◌≡◌, ◌≤◌, IfOk, length, map};
-ghost use Rattle.codespan_documents.specs.Glyphs.{cells_of, follows, glyphs_of, glyphs_of_run, joins_next, is_narrow, is_newline_glyph, is_white_space, joined_cells, joins};
+ghost use Rattle.codespan_documents.specs.Glyphs.{cells_of, follows, glyphs_of, glyphs_of_run};
+ghost use Rattle.codespan_documents.specs.Glyphs.{joins_next, is_narrow, is_newline_glyph};
+ghost use Rattle.codespan_documents.specs.Glyphs.{is_white_space, joined_cells, joins};
 ghost use Rattle.codespan_documents.specs.Runs.{run_view};
 
+use crate::cells::cells;
 use crate::style_sheet::color_spec_of_style;
 use crate::svg::ink::Ink;
 use crate::text::Run;
 use codespan_base::term::Styles;
 use std::alloc::{AllocError, Global};
-use unicode_width::UnicodeWidthChar;
 
 /// A character in its ink.
 #[derive(Clone, Copy, Debug, PartialEq, Eq)]
@@ -27,7 +29,7 @@ impl Glyph {
         ensures value { result ≡ cells_of self }
         ensures bound { result ≤ 3 }
     {
-        self.character.width().unwrap_or(0)
+        cells(self.character)
     }
 
     /// Returns whether it is a newline.

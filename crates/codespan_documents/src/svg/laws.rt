@@ -6,7 +6,8 @@ ghost use Rattle.codespan_base.specs.declared.term.config.styles.Styles.{Styles}
 ghost use Rattle.codespan_documents.specs.Glyphs.{glyphs_of, start};
 ghost use Rattle.codespan_documents.specs.Runs.{RunView};
 ghost use Rattle.codespan_documents.specs.Svg.{first_pen};
-ghost use Rattle.codespan_documents.specs.SvgReading.{characters_from, is_collapsible, piece_characters, pieces_from, shown_bytes};
+ghost use Rattle.codespan_documents.specs.SvgReading.{characters_from, is_collapsible};
+ghost use Rattle.codespan_documents.specs.SvgReading.{piece_characters, pieces_from, shown_bytes};
 
 /// States that the `text` elements of a document have each character but spaces and newlines once,
 /// in the order of the runs, in its ink, and, counted from where the element begins, in the cell
@@ -17,7 +18,8 @@ pub fn characters_are_in_their_cells()
         ≡ characters_from start (glyphs_of styles runs) }
 {}
 
-/// States that no `text` element of a document shows a space, a tab, a newline or a carriage return.
+/// States that no `text` element of a document shows a space, a tab, a newline or a carriage
+/// return.
 ///
 /// So a renderer that collapses white space, or drops it at the ends of an element, leaves each
 /// character in its cell: a space is a position, and not a character of an element.

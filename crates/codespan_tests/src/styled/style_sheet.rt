@@ -1,6 +1,6 @@
 //! Style sheets against the colors of xterm, as its manual and `rgb.txt` have them: `red3` for red,
-//! `red` for bright red, and the like; `blue2` for blue and `rgb:5c/5c/ff` for bright blue. Boxes of
-//! wide characters have the width of their cells, whatever the colors.
+//! `red` for bright red, and the like; `blue2` for blue and `rgb:5c/5c/ff` for bright blue. Boxes
+//! of wide characters have the width of their cells, whatever the colors.
 
 use crate::asserts::assert_text;
 use codespan_base::term::{Color, ColorSpec, Styles};

@@ -5,7 +5,8 @@ use Rattle.command_line.proofs.find_tab.Goals as goal
 -- where no tab is found the text has none
 pub returns-in_err-start-clause-none : goal.returns-in_err-start-clause-none
 returns-in_err-start-clause-none c = λ none tab.
-    find_char 9 c.args.text.now None c.in_err-start.ensures.cases (omega arith) tab.0 tab.1.0 tab.1.1
+    find_char 9 c.args.text.now None c.in_err-start.ensures.cases (omega arith) tab.0 tab.1.0
+    tab.1.1
 
 -- no byte before the first tab is one
 pub returns-clause-first : goal.returns-clause-first

@@ -22,7 +22,8 @@ tagged c = elim c.if-not-follows.branch [
 -- the glyph is the last one of its text
 pub returns-in_ok-push_str : goal.returns-in_ok-push_str
 returns-in_ok-push_str c =
-    glyph-written c.args.pen c.args.glyph c.args.others.now _ _ _ _ (sym c.if-is_white_space.ensures)
+    glyph-written c.args.pen c.args.glyph c.args.others.now _ _ _ _
+    (sym c.if-is_white_space.ensures)
     (tagged (goal.at.returns-in_ok-push_str c).In_ok-push_character)
     c.in_ok-push_character.ensures
     (rw (← c.if-not-joins_next.ensures) c.in_ok-push_str.ensures.bytes)
