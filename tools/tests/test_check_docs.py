@@ -5,14 +5,17 @@ import importlib.util
 import io
 import unittest
 
+# first, since it leads to the modules of the tools
 from tree import TreeCase
+
+from check_docs.figures import figures_of_way
 
 README, CALLING, TESTING, MAP = 'README.md', 'crates/codespan_reporting/CALLING.md', 'docs/TESTING.md', 'docs/MAP.md'
 CODE = 'crates/one/src/lib.rt'
 WIDE = 'word ' * 33 + 'words'
 
 
-def two_figures(paths, texts):
+def two_figures(_root, paths, texts):
     """The number of crates, and that of sources."""
     return ((TESTING, 'crates', r'\| (\d+) crates', texts['crates.txt'].count(':')),
             (TESTING, 'sources', r'\| ([\d,]+) sources', sum(it.endswith('.rt') for it in paths)))
@@ -196,6 +199,20 @@ let names = 1;
     def test_mutants_of_a_crate(self):
         self.change(TESTING, 'second tier | 1: 1 of `one`', 'second tier | 2: 2 of `one`')
         self.assert_finds(f'{TESTING}: 2 edits of one in mutants, where the files have 1')
+
+
+class FiguresOfWay(TreeCase):
+    FILES = {'tools/label-way': "print('calls from first_call: 24\\nlines of code of views: 1541\\nlines of specs of views: 1\\nlines of proofs of views: 2')\n"}
+
+    def test_rows(self):
+        self.assertEqual([*figures_of_way(self.top)], [
+            (MAP, 'calls from first_call', r'^\| calls from `first_call` \| ([\d,]+) \|', 24),
+            (MAP, 'lines of code of views', r'^\| lines of code of views \| ([\d,]+) \|', 1541)])
+
+    def test_a_tool_that_fails(self):
+        self.put('tools/label-way', 'raise SystemExit(1)\n')
+        with self.assertRaisesRegex(SystemExit, '^check-docs: tools/label-way fails$'):
+            [*figures_of_way(self.top)]
 
 
 if __name__ == '__main__':

@@ -10,6 +10,8 @@ import unittest
 from unittest import mock
 
 REPOSITORY = pathlib.Path(__file__).resolve().parent.parent.parent
+# a tool in a small tree uses the modules of this repository
+sys.path.insert(0, str(REPOSITORY / 'tools'))
 
 
 def write_tree(top, tools, files):
