@@ -28,12 +28,6 @@ pub greatest-low : (a : ℕ) (xs : List ℕ) → a ≤ fold max a xs
 greatest-low a [] = omega arith
 greatest-low a (x ∷ xs) = omega (arith, greatest-low (max a x) xs)
 
--- none of them is above it
-pub greatest-bounds : (a : ℕ) (xs : List ℕ) → AllByRecursion (λ n. n ≤ fold max a xs) xs
-greatest-bounds a [] = tt
-greatest-bounds a (x ∷ xs) =
-    (omega (arith, greatest-low (max a x) xs), greatest-bounds (max a x) xs)
-
 -- it is not above a bound of them
 pub greatest-least : (m a : ℕ) (xs : List ℕ) → a ≤ m → AllByRecursion (λ n. n ≤ m) xs
     → fold max a xs ≤ m

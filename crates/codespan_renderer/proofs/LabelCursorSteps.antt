@@ -178,11 +178,6 @@ follow-after true tab text =
     follow-then placeholder tab 0 0 (chars text) (λ p q. (refl, omega arith, tt))
 follow-after false tab text = follow-then no_more tab 0 0 (chars text) (λ p q. tt)
 
--- one of the characters that are left
-pub char_metrics-step : (cs : List Metrics) (i : ℕ) (d : Metrics) → i < length cs
-    → drop i cs ≡ get_or cs i d ∷ drop (i + 1) cs
-char_metrics-step cs i d h = rw (drop-cons cs i d h, add-one) refl
-
 -- ---- a cursor over labels and characters
 
 passed-prop : (byte_index : ℕ) (s : LabelCursor) → IsProp (HasPassedLabels byte_index s)

@@ -1,11 +1,10 @@
 -- The header of the label at an index, as a stream, for the clauses `renders` of `render_headers`
 -- and `render_located_headers`.
-use Rattle.std.proofs.Common.{◌≡◌, ℕ, ◌+◌, Bool, true, false, cond, ◌||◌, List, [], ◌∷◌, ◌++◌, map, filter, take, drop, Option, Some, ⊎_elim, refl, sym, ap, ap₂, ◌∙◌}
-use Rattle.std.specs.Prelude.{Contains}
+use Rattle.std.proofs.Common.{◌≡◌, ℕ, ◌+◌, Bool, true, false, ◌||◌, List, [], ◌∷◌, ◌++◌, map, take, drop, Option, Some, refl, sym, ap, ap₂, ◌∙◌}
 use Rattle.std.specs.List.{AllZip}
 use Rattle.std.proofs.lemmas.Grind.{flat_map-append}
 use Rattle.std.proofs.lemmas.List.{map-append, map_more, take-append-drop}
-use Rattle.std.proofs.lemmas.List.Elements.{Contains-append_left, Contains-append_right, Contains-append_cases, filter-append}
+use Rattle.std.proofs.lemmas.List.Elements.{filter-append}
 use Rattle.codespan_core.specs.declared.diagnostic.Diagnostic.{Diagnostic}
 use Rattle.codespan_core.specs.declared.diagnostic.Label.{Label}
 use Rattle.codespan_core.specs.declared.term.config.Config.{Config}
@@ -18,26 +17,6 @@ use Rattle.codespan_picture.specs.Rows.{HeaderRow, HeaderText, RowContext, Locus
 use Rattle.codespan_picture.specs.RowStreams.{header_row, stream_of, stream_of_rows}
 use Rattle.codespan_picture.specs.Snippets.{LabelInFile, has_any, header_rows, note_rows, primary_of}
 use Rattle.codespan_views.proofs.IndexedElements.{IsElementAt}
-
--- what a filter keeps was there
-contained : {X : Type 0} (b : Bool) (x y : X) (ys zs : List X) → (Contains zs x → Contains ys x)
-    → Contains (cond b (y ∷ zs) zs) x → Contains (y ∷ ys) x
-contained true x y ys zs later h =
-    ⊎_elim (λ (k : Contains (y ∷ []) x). Contains-append_left (y ∷ []) ys x k)
-    (λ (k : Contains zs x). Contains-append_right (y ∷ []) ys x (later k))
-    (Contains-append_cases (y ∷ []) zs x h)
-contained false x y ys zs later h = Contains-append_right (y ∷ []) ys x (later h)
-
--- what remains of a list was in it
-unfiltered : {X : Type 0} (p : X → Bool) (x : X) (ys : List X) → Contains (filter p ys) x
-    → Contains ys x
-unfiltered p x [] m = m
-unfiltered p x (y ∷ ys) m = contained (p y) x y ys (filter p ys) (unfiltered p x ys) m
-
--- a list with an element in it has one
-any_of_append : {X : Type 0} (xs : List X) (x : X) (ys : List X) → has_any (xs ++ x ∷ ys) ≡ true
-any_of_append [] x ys = refl
-any_of_append (w ∷ xs) x ys = refl
 
 -- a list that has none is empty
 pub none_of_empty : {X : Type 0} (xs : List X) → has_any xs ≡ false → xs ≡ []

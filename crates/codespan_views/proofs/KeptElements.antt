@@ -2,7 +2,7 @@
 -- `follow_chains`.
 use Rattle.std.proofs.Common.{◌≡◌, ℕ, zero, suc, ◌+◌, ◌<◌, ◌≤◌, Bool, true, false, cond, List, [], ◌∷◌, ◌++◌, length, set, get_or, refl, sym, ap, subst, arith}
 use Rattle.std.specs.List.Sorted.{IsPermutation}
-use Rattle.std.proofs.lemmas.List.{append-nil, append_assoc, length-append, nil_from_length}
+use Rattle.std.proofs.lemmas.List.{append_assoc, length-append, nil_from_length}
 use Rattle.std.proofs.lemmas.List.Sorted.{IsPermutation-refl, IsPermutation-trans, IsPermutation-sym, IsPermutation-cons, IsPermutation-middle, IsPermutation-push_more, length_permutation}
 
 module _ {X : Type 0} (p : ℕ → Bool) where
@@ -59,12 +59,6 @@ module _ {X : Type 0} (p : ℕ → Bool) where
   -- the elements ys of xs are those that numbers ns keep and numbers ms do not
   abbrev pub AreKept : List ℕ → List ℕ → List X → List X → Type 0
   AreKept ms ns xs ys = IsPermutation (kept ms xs ++ ys) (kept ns xs)
-
-  -- none yet
-  pub AreKept-none : (ms : List ℕ) (xs : List X) → AreKept ms ms xs []
-  AreKept-none ms xs =
-      subst (λ ys. IsPermutation ys (kept ms xs)) (sym (append-nil (kept ms xs)))
-      (IsPermutation-refl (kept ms xs))
 
   -- one more
   pub AreKept-more : (ms ns : List ℕ) (xs ys : List X) (i m : ℕ) (y : X) → AreKept ms ns xs ys
