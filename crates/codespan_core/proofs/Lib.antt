@@ -1,6 +1,7 @@
 -- texts and lists of diagnostics
 pub mod TextLemmas
--- columns, and lines past the end
+-- line starts, columns, and lines past the end
+pub mod NewlineLemmas
 pub mod ColumnLemmas
 pub mod PastLastLineFailures
 -- what writers write

@@ -14,6 +14,7 @@ ghost use Rattle.codespan_core.specs.LawfulFiles.{FailsBy};
 mod defaults;
 mod error;
 mod lines;
+mod newline;
 mod simple;
 mod starts;
 

@@ -125,6 +125,28 @@ starts_after_other bs i h n = rw (drop_more bs i 0 h) (rw (ne-eqb (get_or bs i 0
 pub starts_after_end : (bs : List ℕ) (i : ℕ) → length bs ≤ i → starts_after i (drop i bs) ≡ []
 starts_after_end bs i h = rw (drop_all i bs h) refl
 
+-- a step over n bytes that are no newlines
+starts_after_others : (bs : List ℕ) (i n : ℕ) → i + n ≤ length bs
+    → ((k : ℕ) → i ≤ k → k < i + n → get_or bs k 0 ≢ 10)
+    → starts_after i (drop i bs) ≡ starts_after (i + n) (drop (i + n) bs)
+starts_after_others bs i zero h others =
+    let e : i + 0 ≡ i = omega arith in
+    rw e refl
+starts_after_others bs i (suc n) h others =
+    let e : i + suc n ≡ i + 1 + n = omega arith in
+    rw e
+    (starts_after_other bs i (omega arith) (others i (omega arith) (omega arith))
+    ∙ starts_after_others bs (i + 1) n (omega arith)
+    (λ k low high. others k (omega arith) (omega arith)))
+
+-- a step to the next newline, or to the end
+pub starts_after_run : (bs : List ℕ) (i j : ℕ) → i ≤ j → j ≤ length bs
+    → ((k : ℕ) → i ≤ k → k < j → get_or bs k 0 ≢ 10)
+    → starts_after i (drop i bs) ≡ starts_after j (drop j bs)
+starts_after_run bs i j ordered within others =
+    let e : j ≡ i + (j - i) = omega arith in
+    rw e (starts_after_others bs i (j - i) (omega arith) (λ k low high. others k low (omega arith)))
+
 pub ruleset starts_steps = (starts_after_newline, starts_after_other, starts_after_end)
 
 -- a byte's line is a line
