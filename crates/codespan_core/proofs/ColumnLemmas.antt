@@ -1,9 +1,10 @@
 -- For the clause `value` of `column_index`, and of `column_number`, `location` and their defaults.
 use Rattle.std.proofs.lemmas.Bool.Decides.{nat_tests}
-use Rattle.std.proofs.lemmas.Bool.{false_from_ne_true}
-use Rattle.std.proofs.lemmas.List.{map-id}
+use Rattle.std.proofs.lemmas.Bool.{false_from_ne_true, lt-ltb}
+use Rattle.std.proofs.lemmas.List.{map-id, drop_more}
+use Rattle.std.proofs.lemmas.List.Sums.{sum_by-cons}
 use Rattle.std.proofs.lemmas.List.FromFn.{sum_by-map-range_with_len_more}
-use Rattle.std.proofs.Common.{◌≡◌, ℕ, ◌+◌, ◌-◌, ◌≤◌, Bool, true, false, cond, List, refl, arith}
+use Rattle.std.proofs.Common.{◌≡◌, ℕ, zero, suc, ◌+◌, ◌-◌, ◌<◌, ◌≤◌, Bool, true, false, cond, List, length, get_or, take, drop, refl, ap, arith}
 use Rattle.std.specs.Prelude.{count_by}
 use Rattle.std.specs.List.{range_with_len}
 use Rattle.std.specs.Str.{IsCharBoundary}
@@ -11,7 +12,8 @@ use Rattle.std.specs.declared.ops.Range.{Range}
 use Rattle.codespan_core.specs.declared.files.Location.{Location}
 use Rattle.codespan_core.specs.FileModel.{FileModel, line_of}
 use Rattle.codespan_core.specs.LawfulFiles.{IsLineRange, column_index_on, location_of}
-use Rattle.codespan_core.specs.Lines.{is_char_boundary, column_index_of}
+use Rattle.codespan_core.specs.Lines.{begins_char, is_char_boundary, column_index_of}
+use Rattle.codespan_core.specs.Lemmas.Lines.{ne-eqb}
 
 -- the test is true of a boundary
 pub is_char_boundary_yes : (text : List ℕ) (i : ℕ) → IsCharBoundary text i
@@ -44,6 +46,66 @@ count_range_step p start i h =
     let e : i + 1 - start ≡ (i - start) + 1 = omega arith in
     let f : start + 1 + (i - start) ≡ i + 1 = omega arith in
     rw e (rw f at (count_range_more p (start + 1) (i - start)))
+
+-- a count over n indices and then m more
+pub count_range_add : (p : ℕ → Bool) (a n m : ℕ)
+    → count_by p (range_with_len a (n + m)) ≡ count_by p (range_with_len a n) + count_by p
+    (range_with_len (a + n) m)
+count_range_add p a zero m =
+    let e : a + 0 ≡ a = omega arith in
+    let f : 0 + m ≡ m = omega arith in
+    rw (e, f) (omega arith)
+count_range_add p a (suc n) m =
+    let e : a + suc n ≡ a + 1 + n = omega arith in
+    let f : suc n + m ≡ suc (n + m) = omega arith in
+    let rest = count_range_add p (a + 1) n m in
+    rw (e, f) (
+    omega (
+      arith,
+      sum_by-cons (λ x. cond (p x) 1 0) a (range_with_len (a + 1) (n + m)),
+      sum_by-cons (λ x. cond (p x) 1 0) a (range_with_len (a + 1) n),
+      rest,
+    )
+    )
+
+-- before the end of the text, a boundary is a byte that begins a character
+boundary_is_begin : (text : List ℕ) (i : ℕ) → i < length text
+    → is_char_boundary text i ≡ begins_char (get_or text i 0)
+boundary_is_begin text i h =
+    let inside = ne-eqb i (length text) (λ e. absurd (omega arith)) in
+    rw (inside, lt-ltb i (length text) h) refl
+
+-- the boundaries at n indices before the end, as bytes
+pub count_begins : (text : List ℕ) (a n : ℕ) → a + n ≤ length text
+    → count_by (is_char_boundary text) (range_with_len a n) ≡ count_by begins_char
+    (take n (drop a text))
+count_begins text a zero h = refl
+count_begins text a (suc n) h =
+    rw (drop_more text a 0 (omega arith)) (
+    omega (
+      arith,
+      sum_by-cons (λ x. cond (is_char_boundary text x) 1 0) a (range_with_len (a + 1) n),
+      sum_by-cons (λ x. cond (begins_char x) 1 0) (get_or text a 0) (take n (drop (a + 1) text)),
+      ap (λ b. cond {A = ℕ} b 1 0) (boundary_is_begin text a (omega arith)),
+      count_begins text (a + 1) n (omega arith),
+    )
+    )
+
+-- the step of such a count over a block of 16 bytes
+pub count_block_step : (text : List ℕ) (start i : ℕ) → start ≤ i → i + 1 + 16 ≤ length text
+    → count_by (is_char_boundary text) (range_with_len (start + 1) (i + 16 - start)) ≡ count_by
+    (is_char_boundary text) (range_with_len (start + 1) (i - start)) + count_by begins_char
+    (take 16 (drop (i + 1) text))
+count_block_step text start i low room =
+    let e : i + 16 - start ≡ (i - start) + 16 = omega arith in
+    let f : start + 1 + (i - start) ≡ i + 1 = omega arith in
+    rw e (
+    omega (
+      arith,
+      rw f at (count_range_add (is_char_boundary text) (start + 1) (i - start) 16),
+      count_begins text (i + 1) 16 room,
+    )
+    )
 
 pub ruleset column_steps = (is_char_boundary_yes, is_char_boundary_no, count_range_step)
 

@@ -108,7 +108,7 @@ count_split b (x ∷ xs) (suc i) h low high =
     sum_by-cons (λ s. cond (nat_le s b) 1 0) x xs ∙ rw (le-leb x b head) (omega (arith, rest))
 
 -- the test of equality is false of two numbers that differ
-ne-eqb : (a b : ℕ) → a ≢ b → eqb a b ≡ false
+pub ne-eqb : (a b : ℕ) → a ≢ b → eqb a b ≡ false
 ne-eqb a b n = elim (eqb_tells a b) [ inl p ↦ absurd (n p.1) | inr p ↦ p.0 ]
 
 -- a step over a newline

@@ -1,10 +1,12 @@
 //! A text's line starts and columns.
-ghost use Rattle.std.specs.Prelude.{◌≡◌, ◌≤◌, length};
-ghost use Rattle.codespan_core.specs.Lines.{line_starts_of, column_index_of};
+ghost use Rattle.std.specs.Prelude.{◌≡◌, ◌+◌, ◌≤◌, length, count_by};
+ghost use Rattle.std.specs.Simd.Lanes.{chunk};
+ghost use Rattle.codespan_core.specs.Lines.{line_starts_of, column_index_of, begins_char};
 ghost use Rattle.codespan_core.specs.LineStarts.{remaining_starts};
 
 use crate::files::LineStarts;
 use std::ops::Range;
+use std::simd::prelude::*;
 
 /// Returns an iterator over the byte indices at which the lines of a text start, in ascending
 /// order: 0, and for each newline the index after it.
@@ -57,12 +59,31 @@ pub fn column_index(source: &str, line_range: Range<usize>, byte_index: usize) -
     ensures value { result ≡ column_index_of source.now line_range.start line_range.end byte_index }
     ensures bound { result ≤ length source.now }
 {
-    let end = byte_index.min(line_range.end).min(source.len());
+    let bytes = source.as_bytes();
+    let end = byte_index.min(line_range.end).min(bytes.len());
     let mut count = 0;
-    for i in line_range.start..end {
+    let mut at = line_range.start;
+    let last_block = end.saturating_sub(17);
+    while at < last_block {
+        count += boundaries_in_block(bytes, at + 1);
+        at += 16;
+    }
+    for i in at..end {
         if source.is_char_boundary(i + 1) {
             count += 1;
         }
     }
     count
+}
+
+/// Returns how many characters begin in the block of 16 bytes that begins at `from`.
+fn boundaries_in_block(bytes: &[u8], from: usize) -> usize
+    requires { from + 16 ≤ length bytes.now }
+    ensures value { result ≡ count_by begins_char (chunk from 16 bytes.now) }
+    ensures few { result ≤ 16 }
+{
+    let block = u8x16::from_slice(&bytes[from..]);
+    let ascii = block.simd_lt(u8x16::splat(128)).to_bitmask();
+    let leading = block.simd_ge(u8x16::splat(192)).to_bitmask();
+    (ascii.count_ones() + leading.count_ones()) as usize
 }

@@ -1,9 +1,32 @@
-use Rattle.std.proofs.Common.{arith, sym, ◌∙◌}
+use Rattle.std.proofs.Common.{◌+◌, ◌≤◌, length, ap, arith, sym, ◌∙◌}
 use Rattle.std.proofs.lemmas.Bool.{false≢true}
 use Rattle.codespan_core.specs.Lines.{is_char_boundary}
-use Rattle.codespan_core.proofs.ColumnLemmas.{count_range_step, is_char_boundary_yes, is_char_boundary_no}
+use Rattle.codespan_core.proofs.ColumnLemmas.{count_block_step, count_range_step, is_char_boundary_yes, is_char_boundary_no}
 use Rattle.codespan_core.proofs.files.lines.column_index.Goals.{then-is_char_boundary, else-is_char_boundary}
 use Rattle.codespan_core.proofs.files.lines.column_index.Goals as goal
+
+-- the boundaries of the next 16 indices are counted
+pub loop-at-preserved : goal.loop-at-preserved
+loop-at-preserved c =
+    let text = c.args.source.now in
+    let i = c.loop-at.at in
+    let before = c.loop-at.invariant in
+    let long = ap length c.as_bytes-bytes.ensures.value in
+    let within : i + 1 + 16 ≤ length text = omega (arith, long) in
+    let step = count_block_step text c.args.line_range.start i before.low within in
+    let block = rw c.as_bytes-bytes.ensures.value at c.boundaries_in_block-count.ensures.value in
+    record {
+      low =
+          omega arith;
+      counted =
+          omega (arith, before.counted, step, block);
+      few =
+          omega arith;
+      high =
+          λ h. omega arith;
+      empty =
+          λ h. absurd (omega arith);
+    }
 
 -- the next boundary is counted, and no other index
 pub loop-i-preserved : goal.loop-i-preserved
@@ -27,6 +50,10 @@ loop-i-preserved c =
               at step,
         )
       ];
+      low =
+          omega arith;
+      high =
+          λ h. omega arith;
       few =
           elim c.if-is_char_boundary.branch
           [ then-is_char_boundary w ↦ omega arith | else-is_char_boundary w ↦ omega arith ];
