@@ -1,4 +1,5 @@
--- `count_digits`: the digits of a number, one division after another.
+-- The digits of a number: for `count_digits`, one division after another, and for the ghost field
+-- of `PaddingWidth`.
 use Rattle.std.proofs.Common.{◌≡◌, ℕ, ◌+◌, ◌/◌, ◌%◌, ◌^◌, ◌<◌, ◌≤◌, length, decimal, ap, ◌∙◌, arith}
 use Rattle.std.proofs.lemmas.Fmt.{decimal_digit, decimal_step, length-decimal-le}
 use Rattle.std.proofs.lemmas.List.{length_push}
@@ -11,5 +12,9 @@ digits_last n h = ap length (decimal_digit n h)
 
 pub digits_few : (n : ℕ) → n < 2 ^ 64 → length (decimal n) ≤ 20
 digits_few n h = length-decimal-le 20 n (omega arith) (omega arith) h
+
+-- a number below a power of ten has no more digits than the power's exponent
+pub few_digits : (k n : ℕ) → 0 < k → 10 ^ k < 2 ^ 64 → n < 10 ^ k → length (decimal n) ≤ k
+few_digits k n some small below = length-decimal-le k n some below (omega (arith, small, below))
 
 pub ruleset counting = (digits_step, digits_last, digits_few)

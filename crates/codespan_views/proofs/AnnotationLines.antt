@@ -10,12 +10,11 @@ use Rattle.std.proofs.Math.Bool.{and-false}
 use Rattle.codespan_core.specs.declared.term.config.Config.{Config}
 use Rattle.codespan_core.specs.FileModel.{FileModel, line_count}
 use Rattle.codespan_core.specs.Labels.{LaneMark, LabelModel, first_line, last_line, is_single, drawn_label, lane_mark_of, multi_line_labels, multi_label_on}
-use Rattle.codespan_views.specs.declared.label_annotations.LabelIndices.{LabelIndices}
 use Rattle.codespan_views.specs.Private.Annotations.{Annotation, Single, Multi, is_before, is_on_line, is_of_file, annotation_if_any, shows_line}
 use Rattle.codespan_views.specs.Private.LabelAnnotations.{line_annotations, annotations_of}
 use Rattle.codespan_picture.specs.Lines.{shows}
 use Rattle.codespan_views.specs.Private.FileIndices.{index_of_file}
-use Rattle.codespan_views.specs.Private.IndexedLabels.{indices_after, annotations_after}
+use Rattle.codespan_views.specs.Private.IndexedLabels.{annotations_of_next, annotations_after}
 use Rattle.codespan_picture.specs.Snippets.{LabelInFile}
 use Rattle.codespan_views.specs.Private.LabeledFiles.{num_multi_labels_of}
 use Rattle.codespan_views.specs.Private.SnippetLines.{single_labels_in}
@@ -54,16 +53,16 @@ module _ {Id : Type 0} {same : Id → Id → Bool} {file : Id → FileModel} {id
   annotations-below [] before = tt
   annotations-below (x ∷ xs) before =
       all-append (λ e. is_of_file f e ≡ true → e.line < line_count own_file)
-      (annotations_of config (file x.file_id) (indices_after same file ids before x) x.label) (annotations_after same file config ids (before ++ x ∷ []) xs)
+      (annotations_of_next same file config ids before x) (annotations_after same file config ids (before ++ x ∷ []) xs)
       (⊎_elim
       (λ (t : same id x.file_id ≡ true). all-weaker (λ e. e.line < line_count (file x.file_id)) (λ e. is_of_file f e ≡ true → e.line < line_count own_file)
       (λ e h _. subst (λ m. e.line < line_count m) (here.one_file x.file_id t) h)
-      (annotations_of config (file x.file_id) (indices_after same file ids before x) x.label)
-      (all-below config (file x.file_id) (indices_after same file ids before x) x.label))
+      (annotations_of_next same file config ids before x)
+      (all-below config (file x.file_id) (index_of_file same ids x.file_id) (length before) (num_multi_labels_of same file before x.file_id) x.label))
       (λ (t : same id x.file_id ≡ false). all-weaker (λ e. e.file_index ≡ index_of_file same ids x.file_id) (λ e. is_of_file f e ≡ true → e.line < line_count own_file)
       (λ e h k. absurd (other x t e h k))
-      (annotations_of config (file x.file_id) (indices_after same file ids before x) x.label)
-      (all-of_file config (file x.file_id) (indices_after same file ids before x) x.label))
+      (annotations_of_next same file config ids before x)
+      (all-of_file config (file x.file_id) (index_of_file same ids x.file_id) (length before) (num_multi_labels_of same file before x.file_id) x.label))
       (cases_Bool (same id x.file_id)))
       (annotations-below xs (before ++ x ∷ []))
     where
@@ -71,13 +70,17 @@ module _ {Id : Type 0} {same : Id → Id → Bool} {file : Id → FileModel} {id
       other x t e h k = let both = sym k ∙ ap (λ i. i == f) h ∙ here.index x.file_id ∙ t in cc
 
   module _ (l : ℕ) where
-    -- where a label of the file is after these
-    abbrev indices_at : List (LabelInFile Id) → LabelIndices
-    indices_at before = record { file_index = f; index = length before; lane = num_multi_labels_of same file before id }
+    -- the lane of a label of the file after these
+    abbrev lane_after : List (LabelInFile Id) → ℕ
+    lane_after before = num_multi_labels_of same file before id
+
+    -- its annotations on the line
+    abbrev own_annotations : List (LabelInFile Id) → LabelModel → List Annotation
+    own_annotations before x = line_annotations config own_file f (length before) (lane_after before) x l
 
     -- the annotations of a label on the line
     abbrev line_annotations_of : List (LabelInFile Id) → LabelInFile Id → List Annotation
-    line_annotations_of before x = cond (same id x.file_id && nat_lt l (line_count own_file)) (line_annotations config own_file (indices_at before) x.label l) []
+    line_annotations_of before x = cond (same id x.file_id && nat_lt l (line_count own_file)) (own_annotations before x.label) []
 
     -- the annotations of labels after these on the line
     abbrev pub line_annotations_after : List (LabelInFile Id) → List (LabelInFile Id) → List Annotation
@@ -86,31 +89,31 @@ module _ {Id : Type 0} {same : Id → Id → Bool} {file : Id → FileModel} {id
 
     -- a label's annotations of the line of the file
     one-line_annotations : (before : List (LabelInFile Id)) (x : LabelInFile Id)
-        → filter (is_on_line l) (filter (is_of_file f) (annotations_of config (file x.file_id) (indices_after same file ids before x) x.label)) ≡ line_annotations_of before x
+        → filter (is_on_line l) (filter (is_of_file f) (annotations_of_next same file config ids before x)) ≡ line_annotations_of before x
     one-line_annotations before x =
         ⊎_elim
         (λ (t : same id x.file_id ≡ true).
         let at : index_of_file same ids x.file_id ≡ f = eqb-true (index_of_file same ids x.file_id) f (here.index x.file_id ∙ t) in
         ap (filter (is_on_line l)) (filter-whole (is_of_file f) es (all-weaker (λ e. e.file_index ≡ index_of_file same ids x.file_id) (λ e. is_of_file f e ≡ true) (λ e h. eq-eqb e.file_index f (h ∙ at)) es of))
-        ∙ (λ i. filter (is_on_line l) (annotations_of config (here.one_file x.file_id t i) (record { file_index = at i; index = length before; lane = here.lanes before x.file_id t i }) x.label))
-        ∙ annotations-on_line config own_file (indices_at before) x.label l
-        ∙ sym (ap (λ b. cond (b && nat_lt l (line_count own_file)) (line_annotations config own_file (indices_at before) x.label l) []) t))
+        ∙ (λ i. filter (is_on_line l) (annotations_of config (here.one_file x.file_id t i) (at i) (length before) (here.lanes before x.file_id t i) x.label))
+        ∙ annotations-on_line config own_file f (length before) (lane_after before) x.label l
+        ∙ sym (ap (λ b. cond (b && nat_lt l (line_count own_file)) (own_annotations before x.label) []) t))
         (λ (t : same id x.file_id ≡ false).
         ap (filter (is_on_line l)) (filter-nothing (is_of_file f) es (all-weaker (λ e. e.file_index ≡ index_of_file same ids x.file_id) (λ e. is_of_file f e ≡ false) (λ e h. ap (λ i. i == f) h ∙ here.index x.file_id ∙ t) es of))
-        ∙ sym (ap (λ b. cond (b && nat_lt l (line_count own_file)) (line_annotations config own_file (indices_at before) x.label l) []) t))
+        ∙ sym (ap (λ b. cond (b && nat_lt l (line_count own_file)) (own_annotations before x.label) []) t))
         (cases_Bool (same id x.file_id))
       where
         es : List Annotation
-        es = annotations_of config (file x.file_id) (indices_after same file ids before x) x.label
+        es = annotations_of_next same file config ids before x
 
         of : AllByRecursion (λ e. e.file_index ≡ index_of_file same ids x.file_id) es
-        of = all-of_file config (file x.file_id) (indices_after same file ids before x) x.label
+        of = all-of_file config (file x.file_id) (index_of_file same ids x.file_id) (length before) (num_multi_labels_of same file before x.file_id) x.label
 
     -- all annotations of the line of the file
     pub all-line_annotations : (xs before : List (LabelInFile Id)) → filter (is_on_line l) (filter (is_of_file f) (annotations_after same file config ids before xs)) ≡ line_annotations_after before xs
     all-line_annotations [] before = refl
     all-line_annotations (x ∷ xs) before =
-        let es = annotations_of config (file x.file_id) (indices_after same file ids before x) x.label in
+        let es = annotations_of_next same file config ids before x in
         let rest = annotations_after same file config ids (before ++ x ∷ []) xs in
         ap (filter (is_on_line l)) (filter-append (is_of_file f) es rest)
         ∙ filter-append (is_on_line l) (filter (is_of_file f) es) (filter (is_of_file f) rest)
@@ -146,9 +149,9 @@ module _ {Id : Type 0} {same : Id → Id → Bool} {file : Id → FileModel} {id
     one-single before x = by_tests (same id x.file_id) (nat_lt l (line_count own_file)) refl
       where
         by_tests : (s t : Bool) → nat_lt l (line_count own_file) ≡ t
-            → filter (is_kind 1) (cond (s && t) (line_annotations config own_file (indices_at before) x.label l) []) ≡ cond (s && on x.label) (single_label_at (length before) x.label ∷ []) []
+            → filter (is_kind 1) (cond (s && t) (own_annotations before x.label) []) ≡ cond (s && on x.label) (single_label_at (length before) x.label ∷ []) []
         by_tests false t h = refl
-        by_tests true true h = single_labels-on_line config own_file (indices_at before) x.label l
+        by_tests true true h = single_labels-on_line config own_file f (length before) (lane_after before) x.label l
         by_tests true false h = sym (ap (λ b. cond b (single_label_at (length before) x.label ∷ []) []) (on-outside x.label h))
 
     -- the annotations of all of them
@@ -247,9 +250,9 @@ module _ {Id : Type 0} {same : Id → Id → Bool} {file : Id → FileModel} {id
         none false = refl
 
         by_tests : (s t : Bool) → nat_lt l (line_count own_file) ≡ t
-            → filter (is_kind 2) (cond (s && t) (line_annotations config own_file (indices_at before) x.label l) []) ≡ cond s (multi_annotations_if (is_single own_file x.label) (lane_mark_of lane x.label (multi_label_on own_file l x.label))) []
+            → filter (is_kind 2) (cond (s && t) (own_annotations before x.label) []) ≡ cond s (multi_annotations_if (is_single own_file x.label) (lane_mark_of lane x.label (multi_label_on own_file l x.label))) []
         by_tests false t h = refl
-        by_tests true true h = lane_marks-on_line config own_file (indices_at before) x.label l
+        by_tests true true h = lane_marks-on_line config own_file f (length before) (lane_after before) x.label l
         by_tests true false h = none (is_single own_file x.label) ∙ ap (λ o. multi_annotations_if (is_single own_file x.label) (lane_mark_of lane x.label o)) (sym (multi_label-outside x.label h))
 
     -- the lane marks of labels that come after these, in their lanes
@@ -292,8 +295,8 @@ module _ {Id : Type 0} {same : Id → Id → Bool} {file : Id → FileModel} {id
         shows_it : LabelModel → Bool
         shows_it y = shows config (first_line own_file y) (last_line own_file y) l
 
-        by_tests : (s t : Bool) → (list_any shows_line (cond (s && t) (line_annotations config own_file (indices_at before) x.label l) []) || (t && list_any shows_it (labels_in xs)))
+        by_tests : (s t : Bool) → (list_any shows_line (cond (s && t) (own_annotations before x.label) []) || (t && list_any shows_it (labels_in xs)))
             ≡ (t && list_any shows_it (map (λ (y : LabelInFile Id). y.label) (cond s (x ∷ own xs) (own xs))))
         by_tests false t = refl
         by_tests true false = refl
-        by_tests true true = ap (λ b. b || list_any shows_it (labels_in xs)) (shown-on_line config own_file (indices_at before) x.label l)
+        by_tests true true = ap (λ b. b || list_any shows_it (labels_in xs)) (shown-on_line config own_file f (length before) (lane_after before) x.label l)

@@ -1,5 +1,5 @@
--- The order of annotations, for the clauses `sorted` of `sort` and `lane_marks_end`, and that of
--- `are_in_order`.
+-- The order of annotations, for the clauses `sorted` of `put_in_order` and `lane_marks_end`, and
+-- that of `are_in_order`.
 use Rattle.std.proofs.Common.{◌≡◌, ℕ, ◌+◌, ◌-◌, ◌<◌, ◌≤◌, ◌==◌, Bool, cond, length, get_or, subst, true, false, List, ⊎_elim, refl, sym, ◌∙◌, ap, arith, true≢false, Ordering}
 use Rattle.std.specs.Cmp.{IsStrictWeakOrder}
 use Rattle.std.specs.Ordering.{is_lt, nat_cmp, ordering_then}

@@ -58,10 +58,10 @@ module _ {Id : Type 0} (x : LabelToCollect Id) (l : ℕ)
     (looked_up : is_looked_up x.config x.file x.label l ≡ true) where
   -- the annotations of a line that is looked up
   pub added-looked_up : {old new : List (RustAnnotation Id)} → AppendsLineAnnotations x old new l
-      → AppendsAnnotationsOf x.file old new (annotations_if_looked_up x.config x.file x.label x.indices l)
+      → AppendsAnnotationsOf x.file old new (annotations_if_looked_up x.config x.file x.label x.file_index x.index x.lane l)
   added-looked_up =
       AppendsAnnotations-as
-      (ap (λ (b : Bool). if b then line_annotations x.config x.file x.indices x.label l else [])
+      (ap (λ (b : Bool). if b then line_annotations x.config x.file x.file_index x.index x.lane x.label l else [])
       looked_up)
 
   -- its lookups

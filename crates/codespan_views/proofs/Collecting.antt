@@ -19,7 +19,6 @@ use Rattle.codespan_views.specs.Private.AnnotationViews.{AppendsAnnotations, IsL
 use Rattle.codespan_views.specs.Private.LabelSpans.{IsFarInside}
 use Rattle.codespan_views.specs.declared.annotation.AnnotationKind.TheVariants as rust
 use Rattle.codespan_views.specs.declared.annotation.MultiLabelKind.TheVariants as label_kind
-use Rattle.codespan_views.specs.declared.label_annotations.LabelIndices.{LabelIndices}
 use Rattle.codespan_picture.specs.Types.{Config, Label}
 use Rattle.codespan_picture.specs.OutputStreams.{label_of}
 use Rattle.std.proofs.lemmas.Bool.Decides.{nat_tests}
@@ -90,17 +89,17 @@ module _ {Id : Type 0} (x : LabelToCollect Id) where
   -- the drawn range of a label is its range from the start of its line
   by_kind : (b c : Bool) (rendered here : LabelModel) (shown : Option AnnotationKind)
       → (c ≡ true → rendered ≡ here)
-      → (if b && c then Some (Single x.indices.index rendered) else shown)
-      ≡ (if b && c then Some (Single x.indices.index here) else shown)
+      → (if b && c then Some (Single x.index rendered) else shown)
+      ≡ (if b && c then Some (Single x.index here) else shown)
   by_kind true true rendered here shown same =
-      ap (λ (d : LabelModel). Some (Single x.indices.index d)) (same refl)
+      ap (λ (d : LabelModel). Some (Single x.index d)) (same refl)
   by_kind true false rendered here shown same = refl
   by_kind false c rendered here shown same = refl
 
   -- the annotations of a label on a line of its file, by the indices of its lines
   kind_on-is : (line : LineInfo) → IsLineOf x.file line
-      → kind_on x.config x.file x.indices x.label line.index
-      ≡ kind_by_ends x.config x.indices (first_line x.file x.label) (last_line x.file x.label) line.index
+      → kind_on x.config x.file x.file_index x.index x.lane x.label line.index
+      ≡ kind_by_ends x.config x.index (first_line x.file x.label) (last_line x.file x.label) line.index
       line.start x.label
   kind_on-is line is =
       by_kind (first_line x.file x.label == last_line x.file x.label)
@@ -109,7 +108,7 @@ module _ {Id : Type 0} (x : LabelToCollect Id) where
       (λ t. ap (λ k. from_line_start (line_start x.file k) x.label)
       (eqb-true (first_line x.file x.label) line.index t))
       ∙ ap
-      (λ start. kind_by_ends x.config x.indices (first_line x.file x.label) (last_line x.file x.label)
+      (λ start. kind_by_ends x.config x.index (first_line x.file x.label) (last_line x.file x.label)
       line.index start x.label)
       (sym is.range_is.start_is)
 
@@ -117,31 +116,30 @@ module _ {Id : Type 0} (x : LabelToCollect Id) where
   pub annotation_if_any-line : {line : LineInfo} {first last : ℕ}
       {kind lane_mark : Option AnnotationKind}
       → first_line x.file x.label ≡ first → last_line x.file x.label ≡ last → IsLineOf x.file line
-      → kind ≡ kind_by_ends x.config x.indices first last line.index line.start x.label
-      → lane_mark ≡ multi_kind_by_ends x.indices first last line.index line.start x.label
-      → line_annotations x.config x.file x.indices x.label line.index ≡ annotation_if_any
-      x.indices.file_index line.index kind ++ annotation_if_any x.indices.file_index line.index lane_mark
+      → kind ≡ kind_by_ends x.config x.index first last line.index line.start x.label
+      → lane_mark ≡ multi_kind_by_ends x.lane first last line.index line.start x.label
+      → line_annotations x.config x.file x.file_index x.index x.lane x.label line.index ≡ annotation_if_any
+      x.file_index line.index kind ++ annotation_if_any x.file_index line.index lane_mark
   annotation_if_any-line {line} is_first is_last is kind_is multi_is =
       let l = line.index in
-      let f = x.indices.file_index in
+      let f = x.file_index in
       let by_kind = kind_on-is line is
-      ∙ (λ i. kind_by_ends x.config x.indices (is_first i) (is_last i) l line.start x.label)
+      ∙ (λ i. kind_by_ends x.config x.index (is_first i) (is_last i) l line.start x.label)
       ∙ sym kind_is in
       let by_lane_mark =
-      (λ i. multi_kind_by_ends x.indices (is_first i) (is_last i) l (sym is.range_is.start_is i)
+      (λ i. multi_kind_by_ends x.lane (is_first i) (is_last i) l (sym is.range_is.start_is i)
       x.label)
       ∙ sym multi_is in
       λ i. annotation_if_any f l (by_kind i) ++ annotation_if_any f l (by_lane_mark i)
 
 -- a label does not make a line shown that is far from its ends
-pub far-kind : (config : Config) (indices : LabelIndices) (s e l start : ℕ) (x : LabelModel)
-    → IsFarInside config s e l → None ≡ kind_by_ends config indices s e l start x
-far-kind config indices s e l start x far = grind (arith, nat_tests)
+pub far-kind : (config : Config) (index s e l start : ℕ) (x : LabelModel)
+    → IsFarInside config s e l → None ≡ kind_by_ends config index s e l start x
+far-kind config index s e l start x far = grind (arith, nat_tests)
 
 -- its lane mark on such a line
-pub far-multi_label : {Id : Type 0} (config : Config) (indices : LabelIndices) (s e l start : ℕ)
-    (label : Bor (Label Id))
+pub far-multi_label : {Id : Type 0} (config : Config) (lane s e l start : ℕ) (label : Bor (Label Id))
     → IsFarInside config s e l
-    → Some (kind_view start (rust.Multi label_kind.Left indices.lane label)) ≡ multi_kind_by_ends indices
-    s e l start (label_of label.now).label
-far-multi_label config indices s e l start label far = grind (arith, nat_tests)
+    → Some (kind_view start (rust.Multi label_kind.Left lane label)) ≡ multi_kind_by_ends lane s e l
+    start (label_of label.now).label
+far-multi_label config lane s e l start label far = grind (arith, nat_tests)

@@ -16,12 +16,13 @@ use Rattle.codespan_views.specs.Private.LabelsToCollect.{LabelToCollect, IsLooke
 use Rattle.codespan_views.specs.Private.SourceFiles.{line_failure_unless_past_end}
 use Rattle.codespan_views.specs.Private.Annotations.{Annotation}
 use Rattle.codespan_views.specs.Private.LabelAnnotations.{annotations_of, line_annotations, annotations_if_looked_up, lookups_if_looked_up}
-use Rattle.codespan_views.specs.declared.label_annotations.FoundAnnotations.{FoundAnnotations}
+use Rattle.codespan_views.specs.declared.annotation.Annotation.{Annotation as RustAnnotation}
 use Rattle.codespan_views.specs.Private.FileLookups.{failure_in}
 use Rattle.codespan_views.specs.Private.AnnotationViews.{AppendsAnnotationsOf}
 use Rattle.codespan_views.specs.Private.SpannedDigitCounts.{digit_count_if_spanned, label_digit_counts}
 use Rattle.codespan_picture.specs.Lookups.{looked_up_lines, lookups_of_file, ends_context_lines, first_error, is_around, is_looked_up, line_lookups, lookup_past_end}
 use Rattle.codespan_picture.specs.Padding.{count_digits, spans}
+use Rattle.codespan_picture.specs.declared.padding.PaddingWidth.{PaddingWidth}
 use Rattle.codespan_picture.proofs.Greatest.{greatest-append}
 use Rattle.codespan_views.proofs.Collecting.{AppendsAnnotations-as, AppendsAnnotations-both, AppendsAnnotations-none}
 use Rattle.codespan_views.proofs.FirstErrors.{first_error-none, first_error-some}
@@ -35,7 +36,7 @@ module _ {Id : Type 0} (x : LabelToCollect Id) where
 
   -- the annotations of the lines below this one
   abbrev annotations_below : ℕ → List Annotation
-  annotations_below n = flat_map (annotations_if_looked_up x.config x.file x.label x.indices) (range_with_len 0 n)
+  annotations_below n = flat_map (annotations_if_looked_up x.config x.file x.label x.file_index x.index x.lane) (range_with_len 0 n)
 
   -- their lookups
   abbrev lookups_below : ℕ → List Lookup
@@ -46,8 +47,8 @@ module _ {Id : Type 0} (x : LabelToCollect Id) where
   digits_below n = flat_map (digit_count_if_spanned x.file x.label) (range_with_len 0 n)
 
   -- there is no annotation of a line that is not looked up
-  no_annotations : (l : ℕ) → is_looked_up x.config x.file x.label l ≡ false → annotations_if_looked_up x.config x.file x.label x.indices l ≡ []
-  no_annotations l skipped = ap (λ (b : Bool). if b then line_annotations x.config x.file x.indices x.label l else []) skipped
+  no_annotations : (l : ℕ) → is_looked_up x.config x.file x.label l ≡ false → annotations_if_looked_up x.config x.file x.label x.file_index x.index x.lane l ≡ []
+  no_annotations l skipped = ap (λ (b : Bool). if b then line_annotations x.config x.file x.file_index x.index x.lane x.label l else []) skipped
 
   -- nor are there lookups of it
   no_lookups : (l : ℕ) → is_looked_up x.config x.file x.label l ≡ false → lookups_if_looked_up x.config x.file x.label l ≡ []
@@ -82,45 +83,46 @@ module _ {Id : Type 0} (x : LabelToCollect Id) where
 
   -- the lines below this one are done with: the file has them, their annotations are there, the
   -- padding fits those that the label spans, and no lookup failed
-  pub record CollectsLines (old new : FoundAnnotations Id) (n : ℕ) : Type 0 where
+  pub record CollectsLines (old new : List (RustAnnotation Id)) (width wider : PaddingWidth) (n : ℕ) : Type 0 where
     pub within : n ≤ line_count x.file
-    pub added : AppendsAnnotationsOf x.file old.annotations.items new.annotations.items (annotations_below n)
-    pub counted : new.spanned_padding.digit_count ≡ fold max old.spanned_padding.digit_count (digits_below n)
+    pub added : AppendsAnnotationsOf x.file old new (annotations_below n)
+    pub counted : wider.digit_count ≡ fold max width.digit_count (digits_below n)
     pub succeeded : failed (lookups_below n) ≡ None
 
   -- all lines are done with
-  pub record CollectsLabel (old new : FoundAnnotations Id) : Type 0 where
+  pub record CollectsLabel (old new : List (RustAnnotation Id)) (width wider : PaddingWidth) : Type 0 where
     pub added : FindsLabelAnnotations x old new
-    pub counted : WidensPadding x old new
+    pub counted : WidensPadding x width wider
     pub succeeded : lines_failure x ≡ None
 
 module _ {Id : Type 0} {x : LabelToCollect Id} where
   -- no line below the first context line is looked up
-  pub collected-start : {xs : FoundAnnotations Id} {n : ℕ} → HasEnds x
+  pub collected-start : {xs : List (RustAnnotation Id)} {width : PaddingWidth} {n : ℕ} → HasEnds x
       → n ≤ last_line x.file x.label → n ≤ first_line x.file x.label - x.config.before_label_lines
-      → CollectsLines x xs xs n
-  collected-start {xs} {n} there low far = record {
+      → CollectsLines x xs xs width width n
+  collected-start {width = width} {n} there low far = record {
     within = omega (arith, there.last);
-    added = AppendsAnnotations-as (flat_map_none (annotations_if_looked_up x.config x.file x.label x.indices) 0 n (λ l _ high. no_annotations x l (too_far l (omega arith)))) AppendsAnnotations-none;
-    counted = sym (ap (fold max xs.spanned_padding.digit_count) (flat_map_none (digit_count_if_spanned x.file x.label) 0 n (λ l _ high. no_digits x l (too_far l (omega arith)))));
+    added = AppendsAnnotations-as (flat_map_none (annotations_if_looked_up x.config x.file x.label x.file_index x.index x.lane) 0 n (λ l _ high. no_annotations x l (too_far l (omega arith)))) AppendsAnnotations-none;
+    counted = sym (ap (fold max width.digit_count) (flat_map_none (digit_count_if_spanned x.file x.label) 0 n (λ l _ high. no_digits x l (too_far l (omega arith)))));
     succeeded = ap (failed x) (flat_map_none (lookups_if_looked_up x.config x.file x.label) 0 n (λ l _ high. no_lookups x l (too_far l (omega arith))));
   }
     where
       too_far : (l : ℕ) → l < n → is_looked_up x.config x.file x.label l ≡ false
       too_far l below = below_both (first_line x.file x.label) (last_line x.file x.label) x.config.before_label_lines x.config.after_label_lines l (omega arith) (omega arith)
 
-  module _ {xs ys : FoundAnnotations Id} {n : ℕ} (g : CollectsLines x xs ys n) where
+  module _ {xs ys : List (RustAnnotation Id)} {width wider : PaddingWidth} {n : ℕ}
+      (g : CollectsLines x xs ys width wider n) where
     -- one more line
-    pub collected-line : {zs : FoundAnnotations Id} → HasEnds x
+    pub collected-line : {zs : List (RustAnnotation Id)} {widest : PaddingWidth} → HasEnds x
         → n ≤ max (last_line x.file x.label + x.config.after_label_lines) (first_line x.file x.label)
-        → HasLineIfLookedUp x n → FindsLineAnnotations x ys zs n → WidensPaddingForLine x ys zs n → failure_if_looked_up x n ≡ None
-        → CollectsLines x xs zs (n + 1)
+        → HasLineIfLookedUp x n → FindsLineAnnotations x ys zs n → WidensPaddingForLine x wider widest n → failure_if_looked_up x n ≡ None
+        → CollectsLines x xs zs width widest (n + 1)
     collected-line there near inside adds counts none = record {
       within = ⊎_elim (λ looked_up. let k = inside looked_up in omega arith) (λ skipped. further skipped) (cases_Bool (is_looked_up x.config x.file x.label n));
-      added = AppendsAnnotations-as (flat_map_more (annotations_if_looked_up x.config x.file x.label x.indices) n) (AppendsAnnotations-both g.added adds);
+      added = AppendsAnnotations-as (flat_map_more (annotations_if_looked_up x.config x.file x.label x.file_index x.index x.lane) n) (AppendsAnnotations-both g.added adds);
       counted = counts ∙ ap (λ k. fold max k (digit_count_if_spanned x.file x.label n)) g.counted
-          ∙ sym (greatest-append xs.spanned_padding.digit_count (digits_below x n) (digit_count_if_spanned x.file x.label n))
-          ∙ sym (ap (fold max xs.spanned_padding.digit_count) (flat_map_more (digit_count_if_spanned x.file x.label) n));
+          ∙ sym (greatest-append width.digit_count (digits_below x n) (digit_count_if_spanned x.file x.label n))
+          ∙ sym (ap (fold max width.digit_count) (flat_map_more (digit_count_if_spanned x.file x.label) n));
       succeeded = ap (failed x) (flat_map_more (lookups_if_looked_up x.config x.file x.label) n) ∙ succeeded_then x (lookups_below x n) (lookups_if_looked_up x.config x.file x.label n) g.succeeded ∙ none;
     }
       where
@@ -136,31 +138,31 @@ module _ {Id : Type 0} {x : LabelToCollect Id} where
 
     -- all annotations of the label
     all_collected : ((l : ℕ) → n ≤ l → l < line_count x.file → is_looked_up x.config x.file x.label l ≡ false)
-        → (annotations_of x.config x.file x.indices x.label ≡ annotations_below x n)
+        → (annotations_of x.config x.file x.file_index x.index x.lane x.label ≡ annotations_below x n)
         × (flat_map line_lookups (looked_up_lines x.config x.file x.label) ≡ lookups_below x n)
         × (label_digit_counts x.file x.label ≡ digits_below x n)
     all_collected skipped = (
-      flat_map_filtered (line_annotations x.config x.file x.indices x.label) (is_looked_up x.config x.file x.label) (range_with_len 0 (line_count x.file))
-          ∙ flat_map_same (annotations_if_looked_up x.config x.file x.label x.indices) n (line_count x.file) g.within (λ l low high. no_annotations x l (skipped l low high)),
+      flat_map_filtered (line_annotations x.config x.file x.file_index x.index x.lane x.label) (is_looked_up x.config x.file x.label) (range_with_len 0 (line_count x.file))
+          ∙ flat_map_same (annotations_if_looked_up x.config x.file x.label x.file_index x.index x.lane) n (line_count x.file) g.within (λ l low high. no_annotations x l (skipped l low high)),
       flat_map_filtered line_lookups (is_looked_up x.config x.file x.label) (range_with_len 0 (line_count x.file))
           ∙ flat_map_same (lookups_if_looked_up x.config x.file x.label) n (line_count x.file) g.within (λ l low high. no_lookups x l (skipped l low high)),
       flat_map_same (digit_count_if_spanned x.file x.label) n (line_count x.file) g.within (λ l low high. no_digits x l (skipped l low high)),
     )
 
     -- the lines that are done with are all
-    collected-up : annotations_of x.config x.file x.indices x.label ≡ annotations_below x n
+    collected-up : annotations_of x.config x.file x.file_index x.index x.lane x.label ≡ annotations_below x n
         → flat_map line_lookups (looked_up_lines x.config x.file x.label) ≡ lookups_below x n
         → label_digit_counts x.file x.label ≡ digits_below x n
-        → lookup_past_end x.config x.file (x.failure x.file_id) x.label ≡ [] → CollectsLabel x xs ys
+        → lookup_past_end x.config x.file (x.failure x.file_id) x.label ≡ [] → CollectsLabel x xs ys width wider
     collected-up annotations_are looked_up digits no_lookup_past_end = record {
       added = AppendsAnnotations-as annotations_are g.added;
-      counted = g.counted ∙ sym (ap (fold max xs.spanned_padding.digit_count) digits);
+      counted = g.counted ∙ sym (ap (fold max width.digit_count) digits);
       succeeded = ap (failed x) (ap (λ (ls : List Lookup). flat_map line_lookups (looked_up_lines x.config x.file x.label) ++ ls) no_lookup_past_end ∙ append-nil _ ∙ looked_up) ∙ g.succeeded;
     }
 
     -- the end of the context lines
     collected-end : first_line x.file x.label < n → last_line x.file x.label + x.config.after_label_lines < n
-        → CollectsLabel x xs ys
+        → CollectsLabel x xs ys width wider
     collected-end first far =
         let all = all_collected (λ l low high.
         above_both (first_line x.file x.label) (last_line x.file x.label)
@@ -172,7 +174,7 @@ module _ {Id : Type 0} {x : LabelToCollect Id} where
 
     -- the end of the file
     pub collected-context : line_count x.file ≤ n → ends_context_lines (x.failure x.file_id (LineRange n)) ≡ true
-        → CollectsLabel x xs ys
+        → CollectsLabel x xs ys width wider
     collected-context past ends =
         let here : n ≡ line_count x.file = omega (arith, g.within) in
         let all = all_collected (λ l low high. absurd (omega arith)) in
@@ -188,7 +190,7 @@ module _ {Id : Type 0} {x : LabelToCollect Id} where
 
     -- the end of all indices
     collected-whole : n ≡ 2 ^ 64 → IsLawful x.file → FailsPastLastLine x.file n (x.failure x.file_id (LineRange n))
-        → CollectsLabel x xs ys
+        → CollectsLabel x xs ys width wider
     collected-whole all law past_last_line =
         let past : line_count x.file ≤ n = omega (arith, all, lines_have_indices x.file law) in
         collected-context past (too_large (x.failure x.file_id (LineRange n)) ((past_last_line (is_existing x.file.exists refl)).1 past))
@@ -214,7 +216,7 @@ module _ {Id : Type 0} {x : LabelToCollect Id} where
     -- the end of the context, or of all indices
     pub collected-reach : first_line x.file x.label < n
         → min (last_line x.file x.label + x.config.after_label_lines + 1) (2 ^ 64) ≤ n → n ≤ 2 ^ 64
-        → IsLawful x.file → FailsPastLastLine x.file n (x.failure x.file_id (LineRange n)) → CollectsLabel x xs ys
+        → IsLawful x.file → FailsPastLastLine x.file n (x.failure x.file_id (LineRange n)) → CollectsLabel x xs ys width wider
     collected-reach first far below law past_last_line =
         ⊎_elim (λ (h : last_line x.file x.label + x.config.after_label_lines < n). collected-end first h)
         (λ (h : n ≤ last_line x.file x.label + x.config.after_label_lines). collected-whole (omega (arith, h, far, below)) law past_last_line)

@@ -1,13 +1,11 @@
 -- Emitting an output as text, for the clauses of `emit_into_string` and `emit_to_io_write`.
-use Rattle.std.proofs.Common.{◌≡◌, ℕ, Bool, true, false, if◌then◌else◌, List, [], ◌∷◌, Option, Some, Ok, Err, Result, ⊎_elim, inl, inr, refl, sym, subst, ap, ◌∙◌}
-use Rattle.std.proofs.lemmas.Bool.{true≢false}
+use Rattle.std.proofs.Common.{◌≡◌, ℕ, true, List, [], ◌∷◌, Option, Some, Ok, Err, Result, ⊎_elim, inl, inr, refl, sym, subst, ap, ◌∙◌}
 use Rattle.std.specs.Borrow.{GName}
 use Rattle.codespan_core.specs.declared.term.config.DisplayStyle.{DisplayStyle}
 use Rattle.codespan_core.specs.declared.term.config.DisplayStyle.TheVariants.{Rich, Medium, Short}
 use Rattle.codespan_core.specs.declared.term.config.Config.{Config}
 use Rattle.codespan_core.specs.declared.diagnostic.Diagnostic.{Diagnostic}
 use Rattle.codespan_core.specs.declared.files.Error.{Error}
-use Rattle.codespan_core.specs.declared.files.Error.TheVariants.{OutOfMemory}
 use Rattle.std.specs.Str.{IsUtf8}
 use Rattle.codespan_core.specs.FileModel.{FileDatabase}
 use Rattle.codespan_core.specs.LawfulFiles.{IsLawful}
@@ -19,7 +17,7 @@ use Rattle.codespan_picture.specs.Rows.{Locus}
 use Rattle.codespan_picture.specs.Utf8Laws.{CharsAreScalars}
 use Rattle.codespan_picture.proofs.PictureTexts.{text-output}
 use Rattle.codespan_views.specs.EmitErrors.{FailsAtLabel, WrittenBefore}
-use Rattle.codespan_views.specs.Output.{IsEmitError, IsRendered}
+use Rattle.codespan_views.specs.Output.{IsRendered}
 use Rattle.codespan_views.specs.WriteCalls.{WritesStyled, WritesText}
 
 -- a plain writer that was empty and received a stream has its text
@@ -112,16 +110,6 @@ module _ {Id : Type 0} {config : Config} {files : FileDatabase Id} {d : Diagnost
       subst IsUtf8 (sym (written_text _ fresh contents rendered.writes.received))
       (text-output files d lawful config.display_style config config characters
       rendered.writes.loci rendered.writes.on_end.1.names_are_utf8).utf8
-
-  -- the error of a string call: an allocation failed, or the writer has not failed
-  pub string_failed : (has_failed : Bool) {old new : Sink} {e : Error}
-      → WritesStyled config.display_style config config files d old (Err e) new
-      → has_failed ≡ new.frame.failed
-      → IsEmitError config files d (if has_failed then OutOfMemory else e)
-  string_failed true rendered is = inl refl
-  string_failed false {old} {new} rendered is =
-      ⊎_elim (λ w. absurd (true≢false (sym (ap (λ (f : Frame). f.failed) w.1) ∙ sym is)))
-      (λ w. inr w.1) rendered.writes.on_end.error_is
 
   -- a call writes through the references that it wrote through
   references_of : {old : Sink} (r : Result (Unit {0}) Error) {new : Sink}

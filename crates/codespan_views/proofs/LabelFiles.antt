@@ -14,7 +14,7 @@ use Rattle.codespan_views.specs.Private.LabelAnnotations.{annotations_of}
 use Rattle.codespan_views.specs.Private.AnnotationViews.{AppendsAnnotations, IsOfFiles, annotation_view}
 use Rattle.codespan_views.specs.Private.LabeledFiles.{num_multi_labels_of, with_file}
 use Rattle.codespan_views.specs.Private.FileIndices.{IsIdAt, index_of_file}
-use Rattle.codespan_views.specs.Private.IndexedLabels.{annotations_after, indices_after}
+use Rattle.codespan_views.specs.Private.IndexedLabels.{annotations_after}
 use Rattle.codespan_views.proofs.FileOrder.{file_ids-has, file_ids-more, has, none-of_file}
 use Rattle.codespan_views.proofs.FileIndices.{at-stays, index-stays, has-index}
 use Rattle.codespan_views.proofs.LabelAnnotations.{all-of_file}
@@ -66,12 +66,9 @@ module _ {Id : Type 0} {same : Id → Id → Bool} (o : IsEquivalence same) (xs 
         → annotations_after same file config are before ys ≡ annotations_after same file config were
         before ys
     annotations-stay before [] there = refl
-    annotations-stay before (y ∷ ys) there = λ i. annotations_of config (file y.file_id) (record {
-      file_index = stays y.file_id there.0 i;
-      index = length before;
-      lane =
-          num_multi_labels_of same file before y.file_id;
-    }) y.label
+    annotations-stay before (y ∷ ys) there = λ i. annotations_of config (file y.file_id)
+        (stays y.file_id there.0 i) (length before) (num_multi_labels_of same file before y.file_id)
+        y.label
         ++ annotations-stay (before ++ y ∷ []) ys there.1 i
 
     -- the annotations are of these files
@@ -85,7 +82,8 @@ module _ {Id : Type 0} {same : Id → Id → Bool} (o : IsEquivalence same) (xs 
         (all-weaker (λ (e : Annotation). e.file_index ≡ index_of_file same were y.file_id)
         (λ e. e.file_index < length were)
         (λ e is. omega (arith, is, has-index same o were y.file_id there.0)) _
-        (all-of_file config (file y.file_id) (indices_after same file were before y) y.label))
+        (all-of_file config (file y.file_id) (index_of_file same were y.file_id) (length before)
+        (num_multi_labels_of same file before y.file_id) y.label))
         (annotations-inside (before ++ y ∷ []) ys there.1)
 
     -- the annotations of the labels were added, and their lines are those of their files

@@ -14,10 +14,9 @@ use Rattle.codespan_core.specs.LawfulFiles.{IsLawful}
 use Rattle.codespan_core.specs.Labels.{LabelModel, first_line, is_single, last_line, multi_line_labels}
 use Rattle.codespan_views.specs.declared.label_span.LabelSpan.{LabelSpan}
 use Rattle.codespan_views.specs.Private.Annotations.{Annotation}
-use Rattle.codespan_views.specs.Private.LabelAnnotations.{annotations_of}
 use Rattle.codespan_views.specs.Private.LabeledFiles.{lanes_of_span, num_multi_labels_of}
 use Rattle.codespan_views.specs.Private.FileIndices.{index_of_file}
-use Rattle.codespan_views.specs.Private.IndexedLabels.{indices_after, annotations_after}
+use Rattle.codespan_views.specs.Private.IndexedLabels.{annotations_of_next, annotations_after}
 use Rattle.codespan_picture.specs.Snippets.{LabelInFile, num_multi_labels}
 use Rattle.codespan_picture.proofs.ListElements.{filter-nothing}
 use Rattle.codespan_views.proofs.FileOrder.{has}
@@ -175,21 +174,17 @@ module _ {Id : Type 0} (same : Id → Id → Bool) (file : Id → FileModel) whe
       (x : LabelInFile Id)
       → annotations_after same file config ids before (xs ++ x ∷ [])
       ≡ annotations_after same file config ids before xs
-      ++ annotations_of config (file x.file_id) (indices_after same file ids (before ++ xs) x)
-      x.label
+      ++ annotations_of_next same file config ids (before ++ xs) x
   annotations_after-more config ids before [] x =
       append-nil _
       ∙ ap
-      (λ (ys : List (LabelInFile Id)). annotations_of config (file x.file_id)
-      (indices_after same file ids ys x) x.label)
+      (λ (ys : List (LabelInFile Id)). annotations_of_next same file config ids ys x)
       (sym (append-nil before))
   annotations_after-more config ids before (y ∷ ys) x =
-      ap (λ (es : List Annotation). annotations_of config (file y.file_id) (indices_after same file ids before y) y.label ++ es) (annotations_after-more config ids (before ++ y ∷ []) ys x)
+      ap (λ (es : List Annotation). annotations_of_next same file config ids before y ++ es) (annotations_after-more config ids (before ++ y ∷ []) ys x)
       ∙ sym
-      (append_assoc (annotations_of config (file y.file_id) (indices_after same file ids before y)
-      y.label) (annotations_after same file config ids (before ++ y ∷ []) ys)
-      (annotations_of config (file x.file_id)
-      (indices_after same file ids ((before ++ y ∷ []) ++ ys) x) x.label))
+      (append_assoc (annotations_of_next same file config ids before y) (annotations_after same file config ids (before ++ y ∷ []) ys)
+      (annotations_of_next same file config ids ((before ++ y ∷ []) ++ ys) x))
       ∙ ap (λ (zs : List (LabelInFile Id)). annotations_after same file config ids before (y ∷ ys)
-      ++ annotations_of config (file x.file_id) (indices_after same file ids zs x) x.label)
+      ++ annotations_of_next same file config ids zs x)
       (append_assoc before (y ∷ []) ys)

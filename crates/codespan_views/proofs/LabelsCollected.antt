@@ -1,33 +1,34 @@
 -- The annotations of the labels of a diagnostic, collected one label after another, for the clauses
 -- `collected` and `failed` of `collect_unsorted`.
-use Rattle.std.proofs.Common.{◌≡◌, ℕ, ◌+◌, ◌<◌, ◌≤◌, Bool, true, List, [], ◌∷◌, ◌++◌, length, take, drop, get_or, set, map, Some, None, refl, sym, ap, ◌∙◌, subst, subst₂, ◌^◌, arith}
+use Rattle.std.proofs.Common.{◌≡◌, ℕ, ◌+◌, ◌<◌, ◌≤◌, Bool, true, List, [], ◌∷◌, ◌++◌, length, take, drop, get_or, set, map, Option, Some, None, refl, sym, ap, ◌∙◌, subst, subst₂, ◌^◌, arith}
 use Rattle.std.specs.Prelude.{flat_map, fold, max, if◌then◌else◌}
 use Rattle.std.specs.Cmp.{IsEquivalence}
 use Rattle.std.specs.List.{AllByRecursion}
 use Rattle.std.proofs.lemmas.Bool.{eq-eqb}
 use Rattle.std.proofs.lemmas.Grind.{flat_map-append}
-use Rattle.std.proofs.lemmas.List.{append-nil, length-map, length-take-le, map-append, take-append-drop, take_all}
+use Rattle.std.proofs.lemmas.List.{append-nil, length-map, length-take-le, map-append, set-get_or, take-append-drop, take_all}
 use Rattle.codespan_core.specs.declared.term.config.Config.{Config}
 use Rattle.codespan_core.specs.declared.diagnostic.Label.{Label}
 use Rattle.codespan_core.specs.declared.files.Error.{Error}
-use Rattle.codespan_core.specs.FileModel.{FileDatabase, FileModel}
+use Rattle.codespan_core.specs.FileModel.{FileDatabase, FileModel, or_failure}
+use Rattle.codespan_core.specs.FileModel.Lookup.{LineIndex}
 use Rattle.codespan_views.specs.declared.annotation.Annotation.{Annotation as RustAnnotation}
 use Rattle.codespan_views.specs.declared.labeled_files.LabeledFile.{LabeledFile as RustFile}
-use Rattle.codespan_views.specs.declared.label_annotations.FoundAnnotations.{FoundAnnotations}
 use Rattle.codespan_views.specs.declared.least_starts.LeastStarts.{LeastStarts}
-use Rattle.codespan_views.specs.declared.label_annotations.LabelIndices.{LabelIndices}
-use Rattle.codespan_views.specs.Private.LabelsToCollect.{FindsLabelAnnotations, WidensPadding, label_to_collect, label_failure, labels_failure, lookups_of_label}
+use Rattle.codespan_views.specs.Private.LabelsToCollect.{FindsLabelAnnotations, LabelToCollect, WidensPadding, labels_failure, lines_failure, lookups_of_label}
 use Rattle.codespan_views.specs.Private.Annotations.{Annotation}
+use Rattle.codespan_views.specs.Private.LabelSpans.{ends_failure}
 use Rattle.codespan_views.specs.Private.LabelAnnotations.{annotations_of}
 use Rattle.codespan_views.specs.Private.AnnotationViews.{AppendsAnnotations, AppendsAnnotationsOf, IsLineOf, IsOfFiles, annotation_view}
 use Rattle.codespan_views.specs.Private.LabeledFiles.{HasLabels, ids_view, lane_counts, num_multi_labels_of, lane_counts_with, all_least_starts_with, all_least_starts, with_file}
-use Rattle.codespan_views.specs.Private.LocusBytes.{file_least_starts, no_starts}
+use Rattle.codespan_views.specs.Private.LocusBytes.{file_least_starts, least_starts_with, no_starts}
 use Rattle.codespan_picture.specs.Lookups.{lookups_of_file, first_error, label_lookups, label_line_lookups}
 use Rattle.codespan_picture.specs.OutputStreams.{label_of}
 use Rattle.codespan_views.specs.Private.FileIndices.{IsIdAt, index_of_file}
-use Rattle.codespan_views.specs.Private.IndexedLabels.{annotations_after, indices_after}
+use Rattle.codespan_views.specs.Private.IndexedLabels.{annotations_after, annotations_of_next}
 use Rattle.codespan_views.specs.Private.SpannedDigitCounts.{all_digit_counts, label_digit_counts}
 use Rattle.codespan_picture.specs.Snippets.{LabelInFile, file_ids}
+use Rattle.codespan_picture.specs.declared.padding.PaddingWidth.{PaddingWidth}
 use Rattle.codespan_picture.proofs.Greatest.{greatest-append}
 use Rattle.codespan_picture.proofs.ListElements.{all-both, all-mapped, all-weaker}
 use Rattle.codespan_views.proofs.FileOrder.{file_ids-more}
@@ -35,7 +36,7 @@ use Rattle.codespan_views.proofs.FileIndices.{index_of_file-at}
 use Rattle.codespan_views.proofs.Collecting.{AppendsAnnotations-as, AppendsAnnotations-both}
 use Rattle.codespan_views.proofs.LabelAnnotations.{all-of_file}
 use Rattle.codespan_views.proofs.LabelIndexing.{AreFiles, IsChanged, annotations_after-more, unchanged-at, label_lanes, num_multi_labels_of-equal, num_multi_labels_of-more, num_multi_labels_of-none, lanes-within, set-at}
-use Rattle.codespan_views.proofs.IndexedElements.{IsElementAt}
+use Rattle.codespan_views.proofs.IndexedElements.{IsElementAt, map-changed}
 use Rattle.codespan_views.proofs.LabelFiles.{added-with_file, known-more}
 use Rattle.codespan_views.proofs.LocusBytes.{start-unknown, starts-set}
 use Rattle.codespan_views.proofs.LabelsBefore.{before, before-more, file-inside, has-file, ids-differ}
@@ -43,26 +44,94 @@ use Rattle.codespan_views.proofs.FirstErrors.{first_error-none, first_error-some
 
 -- these labels are done with: each file has what they add, their annotations are there, the padding
 -- fits the lines that they span, and no lookup failed
-pub record AreCollected {Id : Type 0} (database : FileDatabase Id) (config : Config) (ids : List Id) (done : List (LabelInFile Id)) (files : List (RustFile Id)) (found : FoundAnnotations Id) : Type 0 where
+pub record AreCollected {Id : Type 0} (database : FileDatabase Id) (config : Config) (ids : List Id) (done : List (LabelInFile Id)) (files : List (RustFile Id)) (annotations : List (RustAnnotation Id)) (padding : PaddingWidth) : Type 0 where
   pub ids_are : ids_view files ≡ ids
   pub starts_are : all_least_starts files ≡ map (file_least_starts database.same done) ids
   pub lanes_are : lane_counts files ≡ map (num_multi_labels_of database.same database.file done) ids
-  pub added : AppendsAnnotations (IsOfFiles database.file ids) [] found.annotations.items (annotations_after database.same database.file config ids [] done)
-  pub counted : found.spanned_padding.digit_count ≡ fold max 0 (all_digit_counts database.file done)
+  pub added : AppendsAnnotations (IsOfFiles database.file ids) [] annotations (annotations_after database.same database.file config ids [] done)
+  pub counted : padding.digit_count ≡ fold max 0 (all_digit_counts database.file done)
   pub succeeded : labels_failure config database done ≡ None
+
+-- a label of the files of a database, by the index of its file, its own index, and its lane
+abbrev pub label_to_collect : {Id : Type 0} → FileDatabase Id → Config → ℕ → ℕ → ℕ → Label Id
+    → LabelToCollect Id
+label_to_collect database config file_index index lane label = record {
+  file_id = label.file_id;
+  file = database.file label.file_id;
+  failure = database.failure;
+  config = config;
+  file_index = file_index;
+  index = index;
+  lane = lane;
+  label = (label_of label).label;
+}
+
+-- what the lookups of a label fail with
+abbrev label_failure : {Id : Type 0} → FileDatabase Id → Config → Label Id → Option Error
+label_failure database config label = first_error database.failure (lookups_of_label config database (label_of label))
 
 -- the annotations of a label were added, the padding fits the lines that it spans, and no lookup of
 -- it failed
-pub record IsCollectedLabel {Id : Type 0} (database : FileDatabase Id) (config : Config) (at : LabelIndices) (label : Label Id) (found more : FoundAnnotations Id) : Type 0 where
-  pub added : FindsLabelAnnotations (label_to_collect database config at label) found more
-  pub counted : WidensPadding (label_to_collect database config at label) found more
-  pub succeeded : label_failure (label_to_collect database config at label) ≡ None
+pub record IsCollectedLabel {Id : Type 0} (database : FileDatabase Id) (config : Config) (file_index index lane : ℕ) (label : Label Id) (old new : List (RustAnnotation Id)) (width wider : PaddingWidth) : Type 0 where
+  pub added : FindsLabelAnnotations (label_to_collect database config file_index index lane label) old new
+  pub counted : WidensPadding (label_to_collect database config file_index index lane label) width wider
+  pub succeeded : label_failure database config label ≡ None
 
 -- a label was added to the file at this index
 pub record IsAddedLabel {Id : Type 0} (file : Id → FileModel) (at : ℕ) (label : Label Id) (files next : List (RustFile Id)) : Type 0 where
   pub ids : ids_view next ≡ ids_view files
   pub starts : all_least_starts next ≡ all_least_starts_with (all_least_starts files) at (label_of label).label
   pub lanes : lane_counts next ≡ lane_counts_with (lane_counts files) at (label_lanes (file label.file_id) (label_of label).label)
+
+-- the file at this index is changed so
+pub added-at : {Id : Type 0} (file : Id → FileModel) (label : Label Id) {files : List (RustFile Id)} {at : ℕ} {f : RustFile Id}
+    → IsElementAt files at f → (new : RustFile Id) → new.file_id ≡ f.file_id
+    → new.least_starts ≡ least_starts_with f.least_starts (label_of label).label
+    → new.num_multi_labels ≡ f.num_multi_labels + label_lanes (file label.file_id) (label_of label).label
+    → IsAddedLabel file at label files (set files at new)
+added-at {Id} file label {files} {at} {f} there new id starts lanes =
+    let name : RustFile Id → Id = λ f. f.file_id in
+    let start : RustFile Id → LeastStarts = λ f. f.least_starts in
+    let count : RustFile Id → ℕ = λ f. f.num_multi_labels in
+    record {
+      ids = map-changed name (name f) (λ i. i) there new id ∙ set-get_or (ids_view files) at (name f);
+      starts = map-changed start no_starts (λ s. least_starts_with s (label_of label).label) there new starts;
+      lanes = map-changed count 0 (λ n. n + label_lanes (file label.file_id) (label_of label).label) there new lanes;
+    }
+
+-- the lookups of a label are those of the lines of its ends, and then those of its lines
+module _ {Id : Type 0} (database : FileDatabase Id) (config : Config) (label : Label Id) where
+  -- what the lookups of the line of its start fail with, and of that of its end
+  abbrev start_failure : Option Error
+  start_failure = database.failure label.file_id (LineIndex label.range.start)
+
+  abbrev end_failure : Option Error
+  end_failure = database.failure label.file_id (LineIndex label.range.end)
+
+  -- it fails with what those of the ends fail with
+  pub failure-ends : {e : Error} → ends_failure database.failure label ≡ Some e
+      → label_failure database config label ≡ Some e
+  failure-ends = before_others start_failure end_failure _
+    where
+      before_others : (a b o : Option Error) {e : Error} → or_failure a (or_failure b None) ≡ Some e
+          → or_failure a (or_failure b o) ≡ Some e
+      before_others (Some x) b o some = some
+      before_others None (Some x) o some = some
+      before_others None None o some = cc
+
+  -- where those succeed, it fails with what those of its lines fail with
+  pub failure-lines : (file_index index lane : ℕ) → ends_failure database.failure label ≡ None
+      → label_failure database config label
+      ≡ lines_failure (label_to_collect database config file_index index lane label)
+  failure-lines file_index index lane =
+      after start_failure end_failure
+      (lines_failure (label_to_collect database config file_index index lane label))
+    where
+      after : (a b o : Option Error) → or_failure a (or_failure b None) ≡ None
+          → or_failure a (or_failure b o) ≡ o
+      after None None o none = refl
+      after None (Some e) o none = cc
+      after (Some e) b o none = cc
 
 -- a file of this id was found: it is one of the files, or comes after them
 pub record IsIndexedFile {Id : Type 0} (same : Id → Id → Bool) (id : Id) (files now : List (RustFile Id)) : Type 0 where
@@ -97,13 +166,17 @@ module _ {Id : Type 0} {database : FileDatabase Id} (lawful : AreFiles database)
       sym (index_of_file-at same o (before labels (index + 1)) _ id (subst (λ k. IsIdAt ids k id) own there) label.file_id) ∙ eq-eqb _ _ refl in
       subst (λ (f : FileModel). IsLineOf f e.line) (sym (lawful.one_file id label.file_id equal)) is_line
 
-  -- where the label is
-  abbrev here : LabelIndices
-  here = record { file_index = index_of_file same ids label.file_id; index = index; lane = num_multi_labels_of same file (before labels index) label.file_id }
+  -- the number of lanes of its file before it
+  abbrev lane : ℕ
+  lane = num_multi_labels_of same file (before labels index) label.file_id
 
-  -- that is what comes after the labels before it
-  here-is : here ≡ indices_after same file ids (before labels index) (label_of label)
-  here-is = λ i. record { file_index = index_of_file same ids label.file_id; index = sym before-length i; lane = num_multi_labels_of same file (before labels index) label.file_id }
+  -- its annotations
+  abbrev own_annotations : Config → List Annotation
+  own_annotations config = annotations_of config (file label.file_id) (index_of_file same ids label.file_id) index lane (label_of label).label
+
+  -- they are those that come after the labels before it
+  own-next : (config : Config) → annotations_of_next same file config ids (before labels index) (label_of label) ≡ own_annotations config
+  own-next config = ap (λ k. annotations_of config (file label.file_id) (index_of_file same ids label.file_id) k lane (label_of label).label) before-length
 
   -- the label's lane is one of its file's, and of no other file's
   lanes-changed : IsChanged same label.file_id (num_multi_labels_of same file (before labels index)) (num_multi_labels_of same file (before labels (index + 1)))
@@ -126,9 +199,9 @@ module _ {Id : Type 0} {database : FileDatabase Id} (lawful : AreFiles database)
 
   -- ---- the labels before it are done with, and its file is there too
 
-  module _ {config : Config} {files : List (RustFile Id)} {found : FoundAnnotations Id}
+  module _ {config : Config} {files : List (RustFile Id)} {annotations : List (RustAnnotation Id)} {padding : PaddingWidth}
       (g : AreCollected database config (file_ids same (before labels (index + 1)))
-      (before labels index) files found) where
+      (before labels index) files annotations padding) where
     -- the lanes that are kept at its file's index are those of its file
     lanes-unchanged : get_or (lane_counts files) (index_of_file same ids label.file_id) 0 ≡ num_multi_labels_of same file (before labels index) label.file_id
     lanes-unchanged =
@@ -136,15 +209,15 @@ module _ {Id : Type 0} {database : FileDatabase Id} (lawful : AreFiles database)
         ∙ unchanged-at o (num_multi_labels_of same file (before labels index)) (num_multi_labels_of-equal lawful (before labels index)) ids label.file_id 0 (has-file turn o)
 
     -- the label's annotations were added
-    added-more : (more : FoundAnnotations Id) → AppendsAnnotationsOf (file label.file_id) found.annotations.items more.annotations.items (annotations_of config (file label.file_id) here (label_of label).label)
-        → AppendsAnnotations (IsOfFiles file ids) [] more.annotations.items (annotations_after same file config ids [] (before labels (index + 1)))
+    added-more : (more : List (RustAnnotation Id)) → AppendsAnnotationsOf (file label.file_id) annotations more (own_annotations config)
+        → AppendsAnnotations (IsOfFiles file ids) [] more (annotations_after same file config ids [] (before labels (index + 1)))
     added-more more adds =
         let f = file label.file_id in
         let x = (label_of label).label in
         let own : AllByRecursion (λ (e : RustAnnotation Id). e.file_index ≡ index_of_file same ids label.file_id) adds.more =
         all-mapped annotation_view (λ (e : Annotation). e.file_index ≡ index_of_file same ids label.file_id) adds.more
-        (subst (λ (es : List Annotation). AllByRecursion (λ (e : Annotation). e.file_index ≡ index_of_file same ids label.file_id) es) (sym adds.are) (all-of_file config f here x)) in
-        let widened : AppendsAnnotations (IsOfFiles file ids) found.annotations.items more.annotations.items (annotations_of config f here x) = record {
+        (subst (λ (es : List Annotation). AllByRecursion (λ (e : Annotation). e.file_index ≡ index_of_file same ids label.file_id) es) (sym adds.are) (all-of_file config f (index_of_file same ids label.file_id) index lane x)) in
+        let widened : AppendsAnnotations (IsOfFiles file ids) annotations more (own_annotations config) = record {
           more = adds.more;
           whole = adds.whole;
           are = adds.are;
@@ -155,15 +228,15 @@ module _ {Id : Type 0} {database : FileDatabase Id} (lawful : AreFiles database)
         AppendsAnnotations-as
         (ap (annotations_after same file config ids []) (before-more turn)
         ∙ annotations_after-more same file config ids [] (before labels index) (label_of label)
-        ∙ ap (λ (at : LabelIndices). annotations_after same file config ids [] (before labels index) ++ annotations_of config f at x) (sym here-is))
+        ∙ ap (λ (es : List Annotation). annotations_after same file config ids [] (before labels index) ++ es) (own-next config))
         (AppendsAnnotations-both g.added widened)
 
     -- the padding fits the lines that it spans
-    counted-more : (more : FoundAnnotations Id)
-        → more.spanned_padding.digit_count ≡ fold max found.spanned_padding.digit_count
+    counted-more : (wider : PaddingWidth)
+        → wider.digit_count ≡ fold max padding.digit_count
         (label_digit_counts (file label.file_id) (label_of label).label)
-        → more.spanned_padding.digit_count ≡ fold max 0 (all_digit_counts file (before labels (index + 1)))
-    counted-more more counts =
+        → wider.digit_count ≡ fold max 0 (all_digit_counts file (before labels (index + 1)))
+    counted-more wider counts =
         let digits : LabelInFile Id → List ℕ = λ x. label_digit_counts (file x.file_id) x.label in
         counts ∙ ap (λ n. fold max n (digits (label_of label))) g.counted
         ∙ sym (greatest-append 0 (all_digit_counts file (before labels index)) (digits (label_of label)))
@@ -205,20 +278,18 @@ module _ {Id : Type 0} {database : FileDatabase Id} (lawful : AreFiles database)
           omega (arith, low, index-found, long)
 
       -- one more label, whose file is at this index
-      pub collected-more : {next : List (RustFile Id)} {more : FoundAnnotations Id}
-          → IsCollectedLabel database config
-          (record { file_index = at; index = index; lane = get_or (lane_counts files) at 0 }) label found
-          more → IsAddedLabel file at label files next
-          → AreCollected database config (file_ids same (before labels (index + 1))) (before labels (index + 1)) next more
-      collected-more {next} {more} own known = record {
+      pub collected-more : {next : List (RustFile Id)} {more : List (RustAnnotation Id)} {wider : PaddingWidth}
+          → IsCollectedLabel database config at index (get_or (lane_counts files) at 0) label
+          annotations more padding wider → IsAddedLabel file at label files next
+          → AreCollected database config (file_ids same (before labels (index + 1))) (before labels (index + 1)) next more wider
+      collected-more {next} {more} {wider} own known = record {
         ids_are = known.ids ∙ g.ids_are;
         starts_are = starts-set turn o g.starts_are (known.starts ∙ ap (λ k. all_least_starts_with (all_least_starts files) k (label_of label).label) index-found);
         lanes_are = lanes-next next (known.lanes ∙ ap (λ k. lane_counts_with (lane_counts files) k (label_lanes (file label.file_id) (label_of label).label)) index-found);
-        added = added-more more (subst₂ (λ k n. AppendsAnnotationsOf (file label.file_id) found.annotations.items
-            more.annotations.items (annotations_of config (file label.file_id)
-            (record { file_index = k; index = index; lane = n }) (label_of label).label)) index-found
+        added = added-more more (subst₂ (λ k n. AppendsAnnotationsOf (file label.file_id) annotations more
+            (annotations_of config (file label.file_id) k index n (label_of label).label)) index-found
             lane-found own.added);
-        counted = counted-more more own.counted;
+        counted = counted-more wider own.counted;
         succeeded =
             ap (λ xs. first_error database.failure (label_lookups config database xs)) (before-more turn)
             ∙ ap (first_error database.failure) (flat_map-append (lookups_of_label config database) (before labels index) (label_of label ∷ []))
@@ -228,15 +299,15 @@ module _ {Id : Type 0} {database : FileDatabase Id} (lawful : AreFiles database)
 
   -- ---- the labels before it are done with
 
-  module _ {config : Config} {files : List (RustFile Id)} {found : FoundAnnotations Id} (g : AreCollected database config (file_ids same (before labels index)) (before labels index) files found) where
+  module _ {config : Config} {files : List (RustFile Id)} {annotations : List (RustAnnotation Id)} {padding : PaddingWidth} (g : AreCollected database config (file_ids same (before labels index)) (before labels index) files annotations padding) where
     -- its file was found: it is one of those of the labels before, or after them
     pub file-indexed : {now : List (RustFile Id)} → IsIndexedFile same label.file_id files now
         → AreCollected database config (file_ids same (before labels (index + 1)))
-        (before labels index) now found
+        (before labels index) now annotations padding
     file-indexed {now} indexed =
         let xs = before labels index in
         let x = label_of label in
-        subst (λ ys. AreCollected database config (file_ids same ys) xs now found) (sym (before-more turn)) (record {
+        subst (λ ys. AreCollected database config (file_ids same ys) xs now annotations padding) (sym (before-more turn)) (record {
           ids_are = indexed.ids ∙ ap (λ (js : List Id). with_file same js label.file_id js label.file_id) g.ids_are ∙ sym (file_ids-more same o xs x);
           starts_are = known-more o xs x (file_least_starts same xs) (start-unknown same xs label.file_id) g.starts_are
               (indexed.starts ∙ ap (λ (js : List Id). with_file same js label.file_id (all_least_starts files) no_starts) g.ids_are);
@@ -267,11 +338,11 @@ module _ {Id : Type 0} {database : FileDatabase Id} (lawful : AreFiles database)
         ∙ ap (first_error database.failure) (append-nil (lookups_of_label config database (label_of label))) ∙ some)
 
 -- all labels are done with after the last one
-pub collected-all : {Id : Type 0} {database : FileDatabase Id} {config : Config} {files : List (RustFile Id)} {found : FoundAnnotations Id} (labels : List (Label Id)) (index : ℕ)
-    → length labels ≤ index → AreCollected database config (file_ids database.same (before labels index)) (before labels index) files found
-    → AreCollected database config (file_ids database.same (map label_of labels)) (map label_of labels) files found
-collected-all {Id} {database} {config} {files} {found} labels index past g =
-    subst (λ (ls : List (Label Id)). AreCollected database config (file_ids database.same (map label_of ls)) (map label_of ls) files found) (take_all index labels past) g
+pub collected-all : {Id : Type 0} {database : FileDatabase Id} {config : Config} {files : List (RustFile Id)} {annotations : List (RustAnnotation Id)} {padding : PaddingWidth} (labels : List (Label Id)) (index : ℕ)
+    → length labels ≤ index → AreCollected database config (file_ids database.same (before labels index)) (before labels index) files annotations padding
+    → AreCollected database config (file_ids database.same (map label_of labels)) (map label_of labels) files annotations padding
+collected-all {Id} {database} {config} {files} {annotations} {padding} labels index past g =
+    subst (λ (ls : List (Label Id)). AreCollected database config (file_ids database.same (map label_of ls)) (map label_of ls) files annotations padding) (take_all index labels past) g
 
 -- each file has what the labels add to it
 pub each-labels : {Id : Type 0} (same : Id → Id → Bool) (file : Id → FileModel) (xs : List (LabelInFile Id)) (files : List (RustFile Id))

@@ -8,7 +8,6 @@ pub mod FileLengths
 pub mod KeptElements
 pub mod Utf8Loci
 -- what is collected, planned and rendered
-pub mod FewDigits
 pub mod FirstErrors
 pub mod LabelIndexing
 pub mod LabelsBefore

@@ -235,7 +235,7 @@ module _ {Id : Type 0} {database : FileDatabase Id} (lawful : AreFiles database)
       file_plans = plans-from 0 collected.files.items snippet_plans snippet_lines ids_at all.files.labels_are found
 
       -- in the classic layout the labels determine the padding width
-      spanned-padding : config.layout ≡ Classic → {padding : ℕ} → padding ≡ collected.spanned_padding
+      spanned-padding : config.layout ≡ Classic → {padding : ℕ} → padding ≡ collected.padding.digit_count
           → padding ≡ padding_of config (labeled_file_models same file xs)
       spanned-padding classic is = is ∙ all.files.padding_is ∙ spanned-padding_width same file lawful.equivalence lawful.one_file config xs classic
 
@@ -250,12 +250,12 @@ module _ {Id : Type 0} {database : FileDatabase Id} (lawful : AreFiles database)
 
       -- so the width that is chosen by the layout fits
       pub chosen-padding : {padding : ℕ}
-          → padding ≡ padding_width config.layout collected.spanned_padding snippet_lines
+          → padding ≡ padding_width config.layout collected.padding.digit_count snippet_lines
           → padding ≡ padding_of config (labeled_file_models same file xs)
       chosen-padding {padding} = by_layout config.layout refl
         where
           by_layout : (layout : Layout) → config.layout ≡ layout
-              → padding ≡ padding_width layout collected.spanned_padding snippet_lines
+              → padding ≡ padding_width layout collected.padding.digit_count snippet_lines
               → padding ≡ padding_of config (labeled_file_models same file xs)
           by_layout Classic classic is = spanned-padding classic is
           by_layout Unbroken unbroken is = rendered-padding unbroken is

@@ -8,13 +8,14 @@ ghost use Rattle.codespan_views.specs.Private.Collections.{IsCollected, IsCollec
 
 use crate::annotation::Annotation;
 use crate::annotation::order::put_in_order;
-use crate::label_annotations::{FoundAnnotations, LabelIndices, collect_label};
-use crate::label_span::LabelSpan;
-use crate::labeled_files::{LabeledFile, add_label, get_or_insert_file};
-use crate::spanned_padding::PaddingWidth;
+use crate::label_annotations::LabelCollector;
+use crate::label_span::{LabelSpan, label_span};
+use crate::labeled_files::{LabeledFile, get_or_insert_file};
+use crate::source_file::SourceFile;
 use codespan_core::diagnostic::Label;
 use codespan_core::files::{Error, Files};
 use codespan_core::term::Config;
+use codespan_picture::padding::PaddingWidth;
 use std::alloc::Global;
 
 /// What was collected of the labels of a diagnostic.
@@ -28,7 +29,7 @@ pub struct Collected<'d, FileId> {
     pub annotations: Vec<Annotation<'d, FileId>>,
     /// The padding width in the classic layout: the number of digits of the longest number of a
     /// line that a label spans; 0 without such a line.
-    pub spanned_padding: usize,
+    pub padding: PaddingWidth,
     /// Of the labels of the first file, the least line on which one starts and the greatest on
     /// which one ends, 0-based; `usize::MAX` and 0 without labels.
     pub first_file_span: LabelSpan,
@@ -77,10 +78,8 @@ fn collect_unsorted<'files, 'd, F: Files<'files>>(
         (map label_of labels.now)) result }
 {
     let mut labeled_files = Vec::new(alloc);
-    let mut found = FoundAnnotations {
-        annotations: Vec::with_capacity(alloc, labels.len())?,
-        spanned_padding: PaddingWidth::with_digit_count(0),
-    };
+    let mut annotations = Vec::with_capacity(alloc, labels.len())?;
+    let mut padding = PaddingWidth::with_digit_count(0);
     let mut previous = 0;
     let mut joined_span = LabelSpan {
         first: usize::MAX,
@@ -88,14 +87,22 @@ fn collect_unsorted<'files, 'd, F: Files<'files>>(
     };
     for (index, label) in labels.iter().enumerate() {
         let file_index = get_or_insert_file(&mut labeled_files, previous, label.file_id)?;
-        let lane = labeled_files[file_index].num_multi_labels;
-        let indices = LabelIndices {
+        let span = label_span(files, label)?;
+        annotations.reserve(span.annotation_capacity(config))?;
+        let collector = LabelCollector {
+            label,
+            file: SourceFile {
+                files,
+                file_id: label.file_id,
+            },
+            config,
             file_index,
             index,
-            lane,
+            lane: labeled_files[file_index].num_multi_labels,
+            span,
         };
-        let span = collect_label(files, config, indices, label, &mut found)?;
-        add_label(&mut labeled_files, file_index, label, span);
+        collector.collect_lines(&mut annotations, &mut padding)?;
+        labeled_files[file_index].add(label, span);
         previous = file_index;
         if file_index == 0 {
             joined_span = joined_span.join(span);
@@ -104,8 +111,8 @@ fn collect_unsorted<'files, 'd, F: Files<'files>>(
     Ok(Collected {
         labels,
         files: labeled_files,
-        annotations: found.annotations,
-        spanned_padding: found.spanned_padding.digit_count,
+        annotations,
+        padding,
         first_file_span: joined_span,
     })
 }

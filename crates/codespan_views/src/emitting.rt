@@ -1,7 +1,6 @@
 //! The five calls that emit a diagnostic.
 
-ghost use Rattle.std.specs.Prelude.{◌≡◌, if◌then◌else◌, string_bytes};
-ghost use Rattle.codespan_core.specs.declared.files.Error.TheVariants.{OutOfMemory};
+ghost use Rattle.std.specs.Prelude.{string_bytes};
 ghost use Rattle.codespan_views.specs.Output.{Appends, Emits};
 ghost use Rattle.codespan_views.specs.WriteCalls.{WritesStyled, WritesText};
 
@@ -75,20 +74,9 @@ pub fn emit_into_string<'files, F: Files<'files>>(
         // UTF-8, and a line is cut at character boundaries only. The condition of the call is
         // proved from `OutputIsUtf8`, the law that `codespan_laws::laws::outputs_are_utf8` states.
         Ok(()) => Ok(unsafe { String::from_utf8_unchecked(plain.into_inner()) }),
-        Err(error) => Err(string_error(plain.has_failed(), error)),
-    }
-}
-
-/// Returns the error of a call whose output goes into a string: `OutOfMemory` if the writer has
-/// failed, since it fails only where an allocation does, else `error`.
-#[inline(always)]
-fn string_error(has_failed: bool, error: Error) -> Error
-    ensures { result ≡ if has_failed then OutOfMemory else error }
-{
-    if has_failed {
-        Error::OutOfMemory
-    } else {
-        error
+        // A writer into memory fails only where an allocation does.
+        Err(_) if plain.has_failed() => Err(Error::OutOfMemory),
+        Err(error) => Err(error),
     }
 }
 

@@ -1,54 +1,38 @@
 //! The annotations of one label.
 
-ghost use Rattle.std.specs.Prelude.{◌≡◌, ◌≢◌, true, None, IfErr, IfOk, OnOk, OnErr, IsErrOf};
+ghost use Rattle.std.specs.Prelude.{◌≡◌, ◌≢◌, true, None, IfErr, OnOk, OnErr, IsErrOf};
 ghost use Rattle.std.specs.Option.{option_map};
 ghost use Rattle.codespan_core.specs.LawfulFiles.{FailsBy};
-ghost use Rattle.codespan_views.specs.Private.LabelsToCollect.{AppendsLineAnnotations, FindsLineAnnotations, FindsLabelAnnotations, HasLineIfLookedUp, IfEnded, IfContinues, WidensPadding, WidensPaddingForLine, FailsAtLine, HasLabelLines, label_of_collector, label_to_collect, label_failure, lines_failure, failure_if_looked_up, multi_kind_by_collector, kind_by_collector};
+ghost use Rattle.codespan_views.specs.Private.LabelsToCollect.{AppendsLineAnnotations, FindsLineAnnotations, FindsLabelAnnotations, HasLineIfLookedUp, IfEnded, IfContinues, WidensPadding, WidensPaddingForLine, FailsAtLine, HasLabelLines, label_of_collector, lines_failure, failure_if_looked_up, multi_kind_by_collector, kind_by_collector};
 ghost use Rattle.codespan_views.specs.Private.SourceFiles.{EndsBefore, model_of};
 ghost use Rattle.codespan_views.specs.Private.AnnotationViews.{IsLineOf, kind_view};
-ghost use Rattle.codespan_views.specs.Private.LabelSpans.{IsFarInside, line_of_end, line_of_start};
+ghost use Rattle.codespan_views.specs.Private.LabelSpans.{IsFarInside};
 
 use crate::annotation::{Annotation, AnnotationKind, LineInfo, MultiLabelKind, push_annotation};
-use crate::label_span::{LabelSpan, label_span};
+use crate::label_span::LabelSpan;
 use crate::source_file::SourceFile;
-use crate::spanned_padding::PaddingWidth;
 use codespan_core::diagnostic::Label;
 use codespan_core::files::{Error, Files};
 use codespan_core::term::Config;
-
-/// The indices of a label, 0-based.
-#[derive(Clone, Copy)]
-pub struct LabelIndices {
-    /// The index of its file among those of the output.
-    pub file_index: usize,
-    /// Its index in the diagnostic's list of labels.
-    pub index: usize,
-    /// The number of the file's multi-line labels before it: its lane, if it is one.
-    pub lane: usize,
-}
-
-/// The annotations that were found, and what the padding depends on.
-#[derive(Drop)]
-pub struct FoundAnnotations<'d, FileId> {
-    /// The annotations.
-    pub annotations: Vec<Annotation<'d, FileId>>,
-    /// The width for the numbers of the lines that labels span.
-    pub spanned_padding: PaddingWidth,
-}
+use codespan_picture::padding::PaddingWidth;
 
 /// Looks up the lines of a label and makes its annotations.
 #[derive(Drop)]
-struct LabelCollector<'a, 'c, 'd, 'files, F: Files<'files>> {
+pub struct LabelCollector<'a, 'c, 'd, 'files, F: Files<'files>> {
     /// The label.
-    label: &'d Label<F::FileId>,
+    pub label: &'d Label<F::FileId>,
     /// Its file.
-    file: SourceFile<'files, F>,
+    pub file: SourceFile<'files, F>,
     /// The configuration, which has the numbers of context lines.
-    config: &'a Config<'c>,
-    /// The label's indices.
-    indices: LabelIndices,
+    pub config: &'a Config<'c>,
+    /// The index of its file among those of the output, 0-based.
+    pub file_index: usize,
+    /// Its index in the diagnostic's list of labels, 0-based.
+    pub index: usize,
+    /// The number of the file's multi-line labels before it: its lane, 0-based, if it is one.
+    pub lane: usize,
     /// The lines on which it starts and ends.
-    span: LabelSpan,
+    pub span: LabelSpan,
 }
 
 impl<'a, 'c, 'd, 'files, F: Files<'files>> LabelCollector<'a, 'c, 'd, 'files, F> {
@@ -59,7 +43,7 @@ impl<'a, 'c, 'd, 'files, F: Files<'files>> LabelCollector<'a, 'c, 'd, 'files, F>
     {
         if self.span.is_single() && self.span.first == line.index {
             Some(AnnotationKind::Single {
-                index: self.indices.index,
+                index: self.index,
                 label: self.label,
             })
         } else if self.span.shows(self.config, line.index) {
@@ -77,7 +61,7 @@ impl<'a, 'c, 'd, 'files, F: Files<'files>> LabelCollector<'a, 'c, 'd, 'files, F>
             None => None,
             Some(kind) => Some(AnnotationKind::Multi {
                 kind,
-                lane: self.indices.lane,
+                lane: self.lane,
                 label: self.label,
             }),
         }
@@ -109,10 +93,10 @@ impl<'a, 'c, 'd, 'files, F: Files<'files>> LabelCollector<'a, 'c, 'd, 'files, F>
     {
         let kind = AnnotationKind::Multi {
             kind: MultiLabelKind::Left,
-            lane: self.indices.lane,
+            lane: self.lane,
             label: self.label,
         };
-        push_annotation(self.indices.file_index, line, Some(kind), annotations)?;
+        push_annotation(self.file_index, line, Some(kind), annotations)?;
         Ok(())
     }
 
@@ -144,16 +128,20 @@ impl<'a, 'c, 'd, 'files, F: Files<'files>> LabelCollector<'a, 'c, 'd, 'files, F>
         if is_far {
             return self.push_far_line(line, annotations);
         }
-        let file_index = self.indices.file_index;
-        push_annotation(file_index, line, self.kind_on_line(line), annotations)?;
-        push_annotation(file_index, line, self.multi_kind_on_line(line), annotations)?;
+        push_annotation(self.file_index, line, self.kind_on_line(line), annotations)?;
+        push_annotation(
+            self.file_index,
+            line,
+            self.multi_kind_on_line(line),
+            annotations,
+        )?;
         Ok(())
     }
 
     /// Looks up the line at this 0-based index and appends the label's annotations of it, where the
-    /// label spans the line or it is one of the context lines around the label. Returns `false`
-    /// where the file has ended, and so the context lines do. `is_far` is whether the line is known
-    /// to be far from the label's ends.
+    /// label spans the line or it is one of the context lines around the label. If the label spans
+    /// it, the padding is widened to its number. Returns `false` where the file has ended, and so
+    /// the context lines do. `is_far` is whether the line is known to be far from the label's ends.
     ///
     /// # Errors
     ///
@@ -168,7 +156,8 @@ impl<'a, 'c, 'd, 'files, F: Files<'files>> LabelCollector<'a, 'c, 'd, 'files, F>
         &self,
         index: usize,
         is_far: bool,
-        found: &mut FoundAnnotations<'d, F::FileId>,
+        annotations: &mut Vec<Annotation<'d, F::FileId>>,
+        padding: &mut PaddingWidth,
     ) -> Result<bool, Error>
         requires far { is_far ≡ true → IsFarInside self.now.config.now self.now.span.first
             self.now.span.last index }
@@ -176,13 +165,15 @@ impl<'a, 'c, 'd, 'files, F: Files<'files>> LabelCollector<'a, 'c, 'd, 'files, F>
         ensures inside { IfContinues result
             (HasLineIfLookedUp (label_of_collector F.database self.now) index) }
         ensures added { IfContinues result (FindsLineAnnotations
-            (label_of_collector F.database self.now) found.old found.new index) }
+            (label_of_collector F.database self.now) annotations.old.items annotations.new.items
+            index) }
         ensures padding { IfContinues result (WidensPaddingForLine
-            (label_of_collector F.database self.now) found.old found.new index) }
+            (label_of_collector F.database self.now) padding.old padding.new index) }
         ensures succeeded { IfContinues result
             (failure_if_looked_up (label_of_collector F.database self.now) index ≡ None) }
-        ensures ended { IfEnded result ((found.new ≡ found.old)
-            × EndsBefore F.database self.now.file index) }
+        ensures ended { IfEnded result (EndsBefore F.database self.now.file index) }
+        ensures ended_annotations { IfEnded result (annotations.new ≡ annotations.old) }
+        ensures ended_padding { IfEnded result (padding.new ≡ padding.old) }
         ensures failed { IfErr result (λ e. e ≢ Error.OutOfMemory
             → FailsAtLine F.database self.now index e) }
     {
@@ -194,13 +185,14 @@ impl<'a, 'c, 'd, 'files, F: Files<'files>> LabelCollector<'a, 'c, 'd, 'files, F>
             return Ok(false);
         };
         if is_spanned {
-            found.spanned_padding.fit(line.number);
+            padding.fit(line.number);
         }
-        self.push_line(line, is_far, &mut found.annotations)?;
+        self.push_line(line, is_far, annotations)?;
         Ok(true)
     }
 
-    /// Looks up the lines of the label in their order, and appends its annotations.
+    /// Looks up the lines of the label in their order, appends its annotations, and widens the
+    /// padding to the numbers of the lines that it spans.
     ///
     /// # Errors
     ///
@@ -210,12 +202,17 @@ impl<'a, 'c, 'd, 'files, F: Files<'files>> LabelCollector<'a, 'c, 'd, 'files, F>
     /// # Requires
     ///
     /// The label starts and ends on the lines of this collector.
-    fn collect_lines(&self, found: &mut FoundAnnotations<'d, F::FileId>) -> Result<(), Error>
+    pub fn collect_lines(
+        &self,
+        annotations: &mut Vec<Annotation<'d, F::FileId>>,
+        padding: &mut PaddingWidth,
+    ) -> Result<(), Error>
         requires { HasLabelLines F.database self.now }
-        ensures added { OnOk result
-            (FindsLabelAnnotations (label_of_collector F.database self.now) found.old found.new) }
-        ensures padding { OnOk result
-            (WidensPadding (label_of_collector F.database self.now) found.old found.new) }
+        ensures added { OnOk result (FindsLabelAnnotations
+            (label_of_collector F.database self.now) annotations.old.items
+            annotations.new.items) }
+        ensures padding { OnOk result (WidensPadding
+            (label_of_collector F.database self.now) padding.old padding.new) }
         ensures failed { FailsBy (lines_failure (label_of_collector F.database self.now)) result }
     {
         let span = self.span;
@@ -223,53 +220,10 @@ impl<'a, 'c, 'd, 'files, F: Files<'files>> LabelCollector<'a, 'c, 'd, 'files, F>
         let last = span.last.saturating_add(self.config.after_label_lines);
         let far = span.far_lines(self.config);
         for index in first.min(span.last)..=last.max(span.first) {
-            if !self.collect_line(index, far.contains(&index), found)? {
+            if !self.collect_line(index, far.contains(&index), annotations, padding)? {
                 return Ok(());
             }
         }
         Ok(())
     }
-}
-
-/// Looks up the lines of a label and appends its annotations. Returns the lines on which it starts
-/// and ends.
-///
-/// # Errors
-///
-/// - `OutOfMemory`: an allocation fails, or a lookup fails with it.
-/// - Any other error: that of the first lookup that fails.
-pub fn collect_label<'files, 'd, F: Files<'files>>(
-    files: &'files F,
-    config: &Config<'_>,
-    indices: LabelIndices,
-    label: &'d Label<F::FileId>,
-    found: &mut FoundAnnotations<'d, F::FileId>,
-) -> Result<LabelSpan, Error>
-    ensures first { IfOk result (λ span. span.first
-        ≡ line_of_start (F.database files.now).file label.now) }
-    ensures last { IfOk result (λ span. span.last
-        ≡ line_of_end (F.database files.now).file label.now) }
-    ensures added { OnOk result (FindsLabelAnnotations
-        (label_to_collect (F.database files.now) config.now indices label.now)
-        found.old found.new) }
-    ensures padding { OnOk result (WidensPadding
-        (label_to_collect (F.database files.now) config.now indices label.now)
-        found.old found.new) }
-    ensures failed { FailsBy (label_failure
-        (label_to_collect (F.database files.now) config.now indices label.now)) result }
-{
-    let span = label_span(files, label)?;
-    found.annotations.reserve(span.annotation_capacity(config))?;
-    let collector = LabelCollector {
-        label,
-        file: SourceFile {
-            files,
-            file_id: label.file_id,
-        },
-        config,
-        indices,
-        span,
-    };
-    collector.collect_lines(found)?;
-    Ok(span)
 }

@@ -29,7 +29,7 @@ impl<FileId> LabeledFile<FileId> {
     /// # Requires
     ///
     /// One more lane can be counted.
-    fn add(&mut self, label: &Label<FileId>, span: LabelSpan)
+    pub fn add(&mut self, label: &Label<FileId>, span: LabelSpan)
         requires { self.old.num_multi_labels + 1 < 2 ^ 64 }
         ensures id { self.new.file_id ≡ self.old.file_id }
         ensures least_starts { self.new.least_starts
@@ -41,30 +41,6 @@ impl<FileId> LabeledFile<FileId> {
             self.num_multi_labels += 1;
         }
     }
-}
-
-/// Adds a label to the file at this 0-based index. `span` has the lines on which the label starts
-/// and ends.
-///
-/// # Requires
-///
-/// There is a file at this index, and one more lane of it can be counted.
-pub fn add_label<FileId>(
-    files: &mut Vec<LabeledFile<FileId>>,
-    index: usize,
-    label: &Label<FileId>,
-    span: LabelSpan,
-)
-    requires index { index < length files.old.items }
-    requires bound { slice_index_or (lane_counts files.old.items) index 0 + 1 < 2 ^ 64 }
-    ensures ids { ids_view files.new.items ≡ ids_view files.old.items }
-    ensures starts { all_least_starts files.new.items
-        ≡ all_least_starts_with (all_least_starts files.old.items) index
-        (label_of label.now).label }
-    ensures lanes { lane_counts files.new.items
-        ≡ lane_counts_with (lane_counts files.old.items) index (lanes_of_span span) }
-{
-    files[index].add(label, span);
 }
 
 /// Returns the 0-based index of the file with this id, which is appended without labels if there is

@@ -19,4 +19,3 @@ pub mod rich;
 pub mod short;
 mod snippet;
 mod source_file;
-mod spanned_padding;

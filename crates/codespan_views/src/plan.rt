@@ -65,7 +65,7 @@ pub fn plan_output<'files, 'collected, 'd, F: Files<'files>>(
 {
     let mut snippet_lines = Vec::with_capacity(alloc, line_capacity(collected))?;
     let snippet_plans = plan_snippets(alloc, files, config.layout, collected, &mut snippet_lines)?;
-    let padding = padding_width(config.layout, collected.spanned_padding, &snippet_lines);
+    let padding = padding_width(config.layout, collected.padding.digit_count, &snippet_lines);
     Ok(OutputPlan {
         snippet_plans,
         snippet_lines,

@@ -1,9 +1,8 @@
 //! Rich style: a diagnostic over the lines that its labels show.
 
-ghost use Rattle.std.specs.Prelude.{◌≡◌, ◌+◌, ◌<◌, ◌≤◌, drop, length, take};
+ghost use Rattle.std.specs.Prelude.{◌≡◌, ◌<◌, length};
 ghost use Rattle.codespan_core.specs.declared.term.config.DisplayStyle.TheVariants.{Rich};
-ghost use Rattle.codespan_picture.specs.OutputStreams.{labels_of, notes_of};
-ghost use Rattle.codespan_picture.specs.Snippets.{has_any};
+ghost use Rattle.codespan_picture.specs.OutputStreams.{labels_of};
 ghost use Rattle.codespan_renderer.specs.Renderers.{writer_of, config_of, Renders, SameRenderer};
 ghost use Rattle.codespan_views.specs.WriteCalls.{WritesStyled};
 ghost use Rattle.codespan_views.specs.Private.OutputPlans.{IsOutputPlan};
@@ -12,8 +11,6 @@ ghost use Rattle.codespan_views.specs.Private.ViewRendering.{RendersSnippets, Re
 
 use crate::collected::collect;
 use crate::parts::{render_diagnostic_header, render_notes};
-use crate::plan::snippet_lines::SnippetLine;
-use crate::plan::snippet_plans::SnippetPlan;
 use crate::plan::{OutputPlan, plan_output};
 use crate::snippet::line_buffers::LineBuffers;
 use crate::snippet::lines::SnippetContext;
@@ -171,11 +168,12 @@ impl<'diagnostic, 'config, FileId: Copy + Eq> RichDiagnostic<'diagnostic, 'confi
             severity: diagnostic.severity,
         };
         let mut buffers = LineBuffers::new(*diagnostic.labels.allocator());
-        let notes_follow = has_notes(diagnostic);
+        let notes_follow = !diagnostic.notes.is_empty();
         let mut start = 0;
         for (index, snippet_plan) in output_plan.snippet_plans.iter().enumerate() {
-            let snippet_lines = lines_of_file(output_plan, snippet_plan, start);
-            start += snippet_plan.snippet_line_count;
+            let end = start + snippet_plan.snippet_line_count;
+            let snippet_lines = &output_plan.snippet_lines[start..end];
+            start = end;
             let is_followed = notes_follow || index + 1 < output_plan.snippet_plans.len();
             render_snippet(
                 &context,
@@ -188,34 +186,6 @@ impl<'diagnostic, 'config, FileId: Copy + Eq> RichDiagnostic<'diagnostic, 'confi
         }
         Ok(())
     }
-}
-
-/// Returns the lines of a file's snippet, which start at this 0-based index among those of the
-/// plan.
-///
-/// # Requires
-///
-/// From this index on, the output plan has at least as many lines as the snippet.
-#[inline(always)]
-fn lines_of_file<'p, 'collected, 'd, FileId>(
-    output_plan: &'p OutputPlan<'collected, 'd, FileId>,
-    snippet_plan: &SnippetPlan<'_, FileId>,
-    start: usize,
-) -> &'p [SnippetLine<'collected, 'd, FileId>]
-    requires { start + snippet_plan.now.snippet_line_count
-        ≤ length output_plan.now.snippet_lines.items }
-    ensures { result.now
-        ≡ take snippet_plan.now.snippet_line_count
-        (drop start output_plan.now.snippet_lines.items) }
-{
-    &output_plan.snippet_lines[start..start + snippet_plan.snippet_line_count]
-}
-
-/// Returns whether the diagnostic has a note.
-fn has_notes<FileId>(diagnostic: &Diagnostic<FileId>) -> bool
-    ensures { result ≡ has_any (notes_of diagnostic.now) }
-{
-    !diagnostic.notes.is_empty()
 }
 
 /// Renders the notes, with this padding width, in characters, and the empty line at the end.

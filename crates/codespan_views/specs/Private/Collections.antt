@@ -18,7 +18,7 @@ module _ {Id : Type 0} (database : FileDatabase Id) where
       : Type 0 where
     pub ids_are : ids_view collected.files.items ≡ file_ids database.same xs
     pub labels_are : AllByRecursion (HasLabels database.same database.file xs) collected.files.items
-    pub padding_is : collected.spanned_padding ≡ fold max 0 (all_digit_counts database.file xs)
+    pub padding_is : collected.padding.digit_count ≡ fold max 0 (all_digit_counts database.file xs)
 
   -- this was collected of these labels, one after another
   pub record IsCollectedUnsorted (config : Config) (xs : List (LabelInFile Id))

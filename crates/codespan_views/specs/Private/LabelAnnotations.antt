@@ -6,26 +6,27 @@ use Rattle.codespan_core.specs.FileModel.{FileModel, Lookup}
 use Rattle.codespan_core.specs.Labels.{LabelModel, first_line, last_line, is_single, drawn_label, lane_mark_of, multi_label_on, from_line_start, multi_label_at}
 use Rattle.codespan_picture.specs.Lines.{shows}
 use Rattle.codespan_picture.specs.Lookups.{looked_up_lines, is_looked_up, line_lookups}
-use Rattle.codespan_views.specs.declared.label_annotations.LabelIndices.{LabelIndices}
 use Rattle.codespan_views.specs.Private.Annotations.{Annotation, AnnotationKind, Shown, Single, Multi, annotation_if_any}
 
-module _ (config : Config) (f : FileModel) (indices : LabelIndices) (x : LabelModel) where
+-- of a label of the file at this index, which has this index itself, and this lane if it is a
+-- multi-line label
+module _ (config : Config) (f : FileModel) (file_index index lane : ℕ) (x : LabelModel) where
   -- what it does on a line, its lane mark aside
   abbrev pub kind_on : ℕ → Option AnnotationKind
   kind_on l =
-      if is_single f x && (first_line f x == l) then Some (Single indices.index (drawn_label f x))
+      if is_single f x && (first_line f x == l) then Some (Single index (drawn_label f x))
       else if shows config (first_line f x) (last_line f x) l then Some Shown else None
 
   -- what it does on a line as a multi-line label, where it has a lane mark there
   abbrev pub multi_kind_on : ℕ → Option AnnotationKind
   multi_kind_on l =
       if is_single f x then None
-      else option_map Multi (lane_mark_of indices.lane x (multi_label_on f l x))
+      else option_map Multi (lane_mark_of lane x (multi_label_on f l x))
 
   -- its annotations of a line
   abbrev pub line_annotations : ℕ → List Annotation
-  line_annotations l = annotation_if_any indices.file_index l (kind_on l)
-      ++ annotation_if_any indices.file_index l (multi_kind_on l)
+  line_annotations l = annotation_if_any file_index l (kind_on l)
+      ++ annotation_if_any file_index l (multi_kind_on l)
 
   -- its annotations of all lines that are looked up for it
   abbrev pub annotations_of : List Annotation
@@ -33,17 +34,17 @@ module _ (config : Config) (f : FileModel) (indices : LabelIndices) (x : LabelMo
 
 -- ---- by the lines of its ends
 
--- what a label from line `first` to line `last` does on line `l`, which starts at this byte index
-abbrev pub kind_by_ends : Config → LabelIndices → ℕ → ℕ → ℕ → ℕ → LabelModel → Option AnnotationKind
-kind_by_ends config indices first last l start x =
-    if (first == last) && (first == l) then Some (Single indices.index (from_line_start start x))
+-- what a label from line `first` to line `last` does on line `l`, which starts at byte `start`
+abbrev pub kind_by_ends : Config → ℕ → ℕ → ℕ → ℕ → ℕ → LabelModel → Option AnnotationKind
+kind_by_ends config index first last l start x =
+    if (first == last) && (first == l) then Some (Single index (from_line_start start x))
     else if shows config first last l then Some Shown else None
 
 -- what it does there as a multi-line label, if it has a lane mark there
-abbrev pub multi_kind_by_ends : LabelIndices → ℕ → ℕ → ℕ → ℕ → LabelModel → Option AnnotationKind
-multi_kind_by_ends indices first last l start x =
+abbrev pub multi_kind_by_ends : ℕ → ℕ → ℕ → ℕ → ℕ → LabelModel → Option AnnotationKind
+multi_kind_by_ends lane first last l start x =
     if first == last then None
-    else option_map Multi (lane_mark_of indices.lane x (multi_label_at first last l start x))
+    else option_map Multi (lane_mark_of lane x (multi_label_at first last l start x))
 
 -- ---- the lines that are looked up for it
 
@@ -53,6 +54,7 @@ module _ (config : Config) (f : FileModel) (x : LabelModel) where
   lookups_if_looked_up l = if is_looked_up config f x l then line_lookups l else []
 
   -- the annotations of such a line
-  abbrev pub annotations_if_looked_up : LabelIndices → ℕ → List Annotation
-  annotations_if_looked_up indices l =
-      if is_looked_up config f x l then line_annotations config f indices x l else []
+  abbrev pub annotations_if_looked_up : ℕ → ℕ → ℕ → ℕ → List Annotation
+  annotations_if_looked_up file_index index lane l =
+      if is_looked_up config f x l then line_annotations config f file_index index lane x l
+      else []

@@ -1,16 +1,15 @@
 -- Labels whose lines are looked up, one after another.
 use Rattle.std.specs.Prelude.{◌≡◌, ℕ, ◌<◌, Bool, true, false, List, ◌++◌, flat_map, fold, max, Option, Some, IfOk, Result}
-use Rattle.codespan_picture.specs.Types.{Label, Error, Config}
+use Rattle.codespan_picture.specs.Types.{Error, Config}
 use Rattle.codespan_core.specs.FileModel.{FileDatabase, FileModel, line_count, Lookup}
 use Rattle.codespan_core.specs.Labels.{LabelModel, first_line, last_line}
 use Rattle.codespan_picture.specs.Lookups.{Failures, looked_up_lines, lookups_of_file, first_error, is_looked_up, label_lookups, label_line_lookups, line_lookups, lookup_past_end}
 use Rattle.codespan_picture.specs.OutputStreams.{label_of}
 use Rattle.codespan_picture.specs.Snippets.{LabelInFile}
+use Rattle.codespan_picture.specs.declared.padding.PaddingWidth.{PaddingWidth}
 use Rattle.codespan_views.specs.declared.annotation.Annotation.{Annotation as RustAnnotation}
 use Rattle.codespan_views.specs.declared.annotation.LineInfo.{LineInfo}
 use Rattle.codespan_views.specs.declared.label_annotations.LabelCollector.{LabelCollector}
-use Rattle.codespan_views.specs.declared.label_annotations.FoundAnnotations.{FoundAnnotations}
-use Rattle.codespan_views.specs.declared.label_annotations.LabelIndices.{LabelIndices}
 use Rattle.codespan_views.specs.Private.Annotations.{AnnotationKind}
 use Rattle.codespan_views.specs.Private.LabelAnnotations.{annotations_of, line_annotations, annotations_if_looked_up, lookups_if_looked_up, multi_kind_by_ends, kind_by_ends}
 use Rattle.codespan_views.specs.Private.FileLookups.{failure_in}
@@ -31,26 +30,17 @@ abbrev pub labels_failure : {Id : Type 0} → Config → FileDatabase Id → Lis
 labels_failure config database xs =
     first_error database.failure (label_lookups config database xs)
 
--- a label with its file, what lookups fail with, the configuration, and its indices
+-- a label with its file, what lookups fail with, the configuration, the index of its file, its own
+-- index, and its lane if it is a multi-line label
 pub record LabelToCollect (Id : Type 0) : Type 0 where
   pub file_id : Id
   pub file : FileModel
   pub failure : Failures Id
   pub config : Config
-  pub indices : LabelIndices
+  pub file_index : ℕ
+  pub index : ℕ
+  pub lane : ℕ
   pub label : LabelModel
-
--- a label of the files of a database
-abbrev pub label_to_collect : {Id : Type 0} → FileDatabase Id → Config → LabelIndices → Label Id
-    → LabelToCollect Id
-label_to_collect database config indices label = record {
-  file_id = label.file_id;
-  file = database.file label.file_id;
-  failure = database.failure;
-  config = config;
-  indices = indices;
-  label = (label_of label).label;
-}
 
 -- the label whose lines a collector looks up
 abbrev pub label_of_collector : {F Id Name Source : Type 0} → (F → FileDatabase Id)
@@ -60,7 +50,9 @@ label_of_collector database_of collector = record {
   file = model_of database_of collector.file;
   failure = (database_of collector.file.files.now).failure;
   config = collector.config.now;
-  indices = collector.indices;
+  file_index = collector.file_index;
+  index = collector.index;
+  lane = collector.lane;
   label = (label_of collector.label.now).label;
 }
 
@@ -88,19 +80,18 @@ module _ {Id : Type 0} (x : LabelToCollect Id) where
       → Type 0
   AppendsLineAnnotations old new l =
       AppendsAnnotationsOf x.file old new
-      (line_annotations x.config x.file x.indices x.label l)
+      (line_annotations x.config x.file x.file_index x.index x.lane x.label l)
 
   -- its annotations of a line were found, where it is looked up
-  abbrev pub FindsLineAnnotations : FoundAnnotations Id → FoundAnnotations Id → ℕ → Type 0
+  abbrev pub FindsLineAnnotations : List (RustAnnotation Id) → List (RustAnnotation Id) → ℕ → Type 0
   FindsLineAnnotations old new l =
-      AppendsAnnotationsOf x.file old.annotations.items new.annotations.items
-      (annotations_if_looked_up x.config x.file x.label x.indices l)
+      AppendsAnnotationsOf x.file old new
+      (annotations_if_looked_up x.config x.file x.label x.file_index x.index x.lane l)
 
   -- the padding has been widened to the number of a line, where the label spans the line
-  abbrev pub WidensPaddingForLine : FoundAnnotations Id → FoundAnnotations Id → ℕ → Type 0
+  abbrev pub WidensPaddingForLine : PaddingWidth → PaddingWidth → ℕ → Type 0
   WidensPaddingForLine old new l =
-      new.spanned_padding.digit_count
-      ≡ fold max old.spanned_padding.digit_count (digit_count_if_spanned x.file x.label l)
+      new.digit_count ≡ fold max old.digit_count (digit_count_if_spanned x.file x.label l)
 
   -- what the lookups of a line fail with, where it is looked up
   abbrev pub failure_if_looked_up : ℕ → Option Error
@@ -110,16 +101,15 @@ module _ {Id : Type 0} (x : LabelToCollect Id) where
   -- ---- all of its lines
 
   -- its annotations were found
-  abbrev pub FindsLabelAnnotations : FoundAnnotations Id → FoundAnnotations Id → Type 0
+  abbrev pub FindsLabelAnnotations : List (RustAnnotation Id) → List (RustAnnotation Id) → Type 0
   FindsLabelAnnotations old new =
-      AppendsAnnotationsOf x.file old.annotations.items new.annotations.items
-      (annotations_of x.config x.file x.indices x.label)
+      AppendsAnnotationsOf x.file old new
+      (annotations_of x.config x.file x.file_index x.index x.lane x.label)
 
   -- the padding has been widened to the numbers of the lines that the label spans
-  abbrev pub WidensPadding : FoundAnnotations Id → FoundAnnotations Id → Type 0
+  abbrev pub WidensPadding : PaddingWidth → PaddingWidth → Type 0
   WidensPadding old new =
-      new.spanned_padding.digit_count
-      ≡ fold max old.spanned_padding.digit_count (label_digit_counts x.file x.label)
+      new.digit_count ≡ fold max old.digit_count (label_digit_counts x.file x.label)
 
   -- what the lookups of its lines fail with
   abbrev pub lines_failure : Option Error
@@ -127,12 +117,6 @@ module _ {Id : Type 0} (x : LabelToCollect Id) where
       failure_in x.failure x.file_id
       (flat_map line_lookups (looked_up_lines x.config x.file x.label)
       ++ lookup_past_end x.config x.file (x.failure x.file_id) x.label)
-
-  -- what its lookups fail with, those of the lines of its ends first
-  abbrev pub label_failure : Option Error
-  label_failure =
-      failure_in x.failure x.file_id
-      (label_line_lookups x.config x.file (x.failure x.file_id) x.label)
 
 -- where the call returns `true`: the file has not ended
 abbrev pub IfContinues : Result Bool Error → Type 0 → Type 0
@@ -146,15 +130,15 @@ IfEnded r P = IfOk r (λ goes_on. goes_on ≡ false → P)
 abbrev pub kind_by_collector : {F Id Name Source : Type 0} → LabelCollector F Id Name Source
     → LineInfo → Option AnnotationKind
 kind_by_collector collector line =
-    kind_by_ends collector.config.now collector.indices collector.span.first collector.span.last
+    kind_by_ends collector.config.now collector.index collector.span.first collector.span.last
     line.index line.start (label_of collector.label.now).label
 
 -- what it does there as a multi-line label, by the lines of its ends
 abbrev pub multi_kind_by_collector : {F Id Name Source : Type 0} → LabelCollector F Id Name Source
     → LineInfo → Option AnnotationKind
 multi_kind_by_collector collector line =
-    multi_kind_by_ends collector.indices collector.span.first collector.span.last line.index
-    line.start (label_of collector.label.now).label
+    multi_kind_by_ends collector.lane collector.span.first collector.span.last line.index line.start
+    (label_of collector.label.now).label
 
 -- a line is looked up for the label, and its lookups fail with this error
 abbrev pub FailsAtLine : {F Id Name Source : Type 0} → (F → FileDatabase Id)

@@ -151,14 +151,6 @@ fn lane_on<FileId>(
     }
 }
 
-/// Sorts annotations.
-fn sort<FileId>(annotations: &mut Vec<Annotation<'_, FileId>>)
-    ensures permutation { IsPermutation annotations.old.items annotations.new.items }
-    ensures sorted { IsSortedBy is_before (map annotation_view annotations.new.items) }
-{
-    annotations.sort_unstable_by(|left, right| compare(left, right));
-}
-
 /// Puts annotations in order. Those that are in order already, or once they are grouped by line,
 /// are not sorted. `lines` has the indices of the lines of the one file that has all annotations,
 /// 0-based, the end exclusive; it is `None` where there are more files.
@@ -182,6 +174,6 @@ pub fn put_in_order<FileId>(
     if is_grouped && are_in_order(annotations) {
         return Ok(());
     }
-    sort(annotations);
+    annotations.sort_unstable_by(|left, right| compare(left, right));
     Ok(())
 }

@@ -1,9 +1,8 @@
 //! The plan of each file's snippet: its locus and its lines.
 
-ghost use Rattle.std.specs.Prelude.{◌≡◌, ◌-◌, [], All, Err, IfOk, OnOk, length, map};
+ghost use Rattle.std.specs.Prelude.{◌≡◌, ◌-◌, [], All, IfOk, OnOk, length, map};
 ghost use Rattle.std.specs.List.{AllByRecursion};
 ghost use Rattle.std.specs.List.Sorted.{IsSortedBy};
-ghost use Rattle.std.specs.Result.{result_and};
 ghost use Rattle.codespan_core.specs.LawfulFiles.{FailsBy};
 ghost use Rattle.codespan_picture.specs.Arguments.{locus_view};
 ghost use Rattle.codespan_views.specs.Private.FileLookups.{FailsByOrFormatError, failure_in};
@@ -109,13 +108,6 @@ fn locate_snippet<'files, 'collected, F: Files<'files>>(
     })
 }
 
-/// Returns the first error: that of `located` if it is `Err`, else `error`.
-fn first_error_of(located: Result<(), Error>, error: Error) -> Result<(), Error>
-    ensures { result ≡ result_and located (Err error) }
-{
-    located.and(Err(error))
-}
-
 /// Plans the snippets of the files, in the order of their first labels. Their lines are appended to
 /// `snippet_lines`.
 ///
@@ -161,7 +153,7 @@ pub fn plan_snippets<'files, 'collected, 'd, F: Files<'files>>(
         start += len;
         match locate_snippet(alloc, files, file, line_count) {
             Ok(snippet_plan) => snippet_plans.push(snippet_plan)?,
-            Err(error) => located = first_error_of(located, error),
+            Err(error) => located = located.and(Err(error)),
         }
     }
     located?;

@@ -1,11 +1,11 @@
 use contract.Lifetimes.{Lfts}
-use Rattle.std.proofs.Common.{◌≡◌, ℕ, ◌<◌, rules, ◌+◌, [], Err, length, get_or, map, sym, ap, ◌∙◌, subst, arith}
+use Rattle.std.proofs.Common.{◌≡◌, ℕ, ◌<◌, rules, ◌+◌, [], Err, length, get_or, map, sym, ap, ◌∙◌, subst, subst₂, arith}
 use Rattle.std.proofs.lemmas.List.{get_or-map}
 use Rattle.std.proofs.lemmas.Result.{err_from_is_err_and}
 use Rattle.codespan_views.specs.declared.labeled_files.LabeledFile.{LabeledFile as RustFile}
-use Rattle.codespan_views.specs.Private.LabelsToCollect.{FindsLabelAnnotations, label_to_collect}
+use Rattle.codespan_views.specs.Private.LabelsToCollect.{FindsLabelAnnotations}
 use Rattle.codespan_views.specs.Private.AnnotationViews.{AppendsAnnotations, IsOfFiles}
-use Rattle.codespan_views.specs.Private.LabeledFiles.{ids_view, lane_counts, num_multi_labels_of, lane_counts_with}
+use Rattle.codespan_views.specs.Private.LabeledFiles.{ids_view, lane_counts, num_multi_labels_of}
 use Rattle.codespan_views.specs.Private.LocusBytes.{file_least_starts}
 use Rattle.codespan_picture.specs.OutputStreams.{label_of}
 use Rattle.codespan_picture.specs.Snippets.{file_ids}
@@ -15,9 +15,9 @@ use Rattle.codespan_views.proofs.FileIndices.{first_seen-differ}
 use Rattle.codespan_views.proofs.LabelIndexing.{AreFiles, are-files, lanes_of_span-are}
 use Rattle.codespan_views.proofs.IndexedElements.{IsElementAt}
 use Rattle.codespan_views.proofs.LabelsBefore.{before}
-use Rattle.codespan_views.proofs.LabelsCollected.{AreCollected, IsIndexedFile, each-labels, file-indexed, collected-all, collected-more, collected-failed, lane-bound, index-inside}
+use Rattle.codespan_views.proofs.LabelsCollected.{AreCollected, IsIndexedFile, added-at, each-labels, failure-ends, failure-lines, label_to_collect, file-indexed, collected-all, collected-more, collected-failed, lane-bound, index-inside}
 use Rattle.codespan_views.proofs.collected.collect_unsorted.Given.{Over}
-use Rattle.codespan_views.proofs.collected.collect_unsorted.Goals.{After-index, After-index-labels-index, In_ok-file_index}
+use Rattle.codespan_views.proofs.collected.collect_unsorted.Goals.{After-index-labels-index, In_ok-file_index}
 use Rattle.codespan_views.proofs.collected.collect_unsorted.Goals as goal
 
 -- the files are lawful, and equal ids name one file
@@ -54,7 +54,7 @@ indexed : (g : Over) (c : In_ok-file_index g)
     let index = c.loop-index.index in
     AreCollected (g.F.Files.database c.args.files.now) c.args.config.now
     (file_ids same (before labels (index + 1))) (before labels index)
-    c.get_or_insert_file.new.files.items c.loop-index.found
+    c.get_or_insert_file.new.files.items c.loop-index.annotations.items c.loop-index.padding
 indexed g c at =
     let lawful = are_files g c.lifetimes (search rules) c.args.files.now in
     let now = c.in_ok-file_index.ensures in
@@ -84,13 +84,14 @@ returns-in_err-span-clause-failed g c =
     c.from_residual-in_err-span.ensures.1 in
     rw (p.1 ∙ ap Err p.2)
     (λ known. collected-failed lawful at c.loop-index.invariant _
-    (c.in_err-span.ensures.failed known))
+    (failure-ends (g.F.Files.database c.args.files.now) c.args.config.now c.index-labels-index.result
+    (c.in_err-span.ensures.failed known)))
 
 -- its index is one of the files'
-indices_inside : (g : Over) (c : In_ok-file_index g)
+index_inside : (g : Over) (c : In_ok-file_index g)
     → IsElementAt c.args.labels.now c.loop-index.index c.index-labels-index.result
     → c.in_ok-file_index.file_index < length c.get_or_insert_file.new.files.items
-indices_inside g c at =
+index_inside g c at =
     let lawful = are_files g c.lifetimes (search rules) c.args.files.now in
     index-inside lawful at (indexed g c at) (found_there g c)
 
@@ -98,63 +99,77 @@ pub index-requires : goal.index-requires
 index-requires g c =
     let here = (goal.at.index-requires g c).In_ok-file_index in
     let at = turn g (goal.at.index-requires g c).After-index-labels-index in
-    omega (arith, indices_inside g here at, c.get_or_insert_file.new.files.ok.0)
+    omega (arith, index_inside g here at, c.get_or_insert_file.new.files.ok.0)
 
--- the lane that the label is given is the number of those of its file
-lane_there : (g : Over) (c : After-index g)
-    → c.in_ok-file_index.file_index < length c.get_or_insert_file.new.files.items
-    → c.index.result.now.num_multi_labels ≡ get_or
-    (lane_counts c.get_or_insert_file.new.files.items)
-    c.in_ok-file_index.file_index 0
-lane_there g c inside =
-    let lanes : RustFile g.row.F-FileId.Denot → ℕ = λ f. f.num_multi_labels in
-    ap lanes c.index.ensures
-    ∙ sym
-    (get_or-map lanes c.get_or_insert_file.new.files.items c.in_ok-file_index.file_index c.index.result.now
-    0 inside)
-
-pub add_label-requires : goal.add_label-requires
-add_label-requires g c =
+pub returns-in_err-collect_lines-clause-failed : goal.returns-in_err-collect_lines-clause-failed
+returns-in_err-collect_lines-clause-failed g c =
     let lawful = are_files g c.lifetimes (search rules) c.args.files.now in
-    let here = (goal.at.add_label-requires g c).In_ok-file_index in
-    let at = turn g (goal.at.add_label-requires g c).After-index-labels-index in
-    let there = indexed g here at in
-    record {
-      index = indices_inside g here at;
-      bound =
-          lane-bound lawful at there (found_there g here)
-          (omega (arith, c.loop-index.auto.index-end));
-    }
+    let at = turn g (goal.at.returns-in_err-collect_lines-clause-failed g c).After-index-labels-index in
+    let p = err_from_is_err_and c.from_residual-in_err-collect_lines.result
+    c.from_residual-in_err-collect_lines.ensures.1 in
+    rw (p.1 ∙ ap Err p.2)
+    (λ known. collected-failed lawful at c.loop-index.invariant _
+    (failure-lines (g.F.Files.database c.args.files.now) c.args.config.now c.index-labels-index.result
+    c.in_ok-file_index.file_index c.loop-index.index c.index.result.now.num_multi_labels
+    c.in_ok-span.ensures.failed
+    ∙ c.in_err-collect_lines.ensures.failed known))
+
+pub index_mut-requires : goal.index_mut-requires
+index_mut-requires g c =
+    let here = (goal.at.index_mut-requires g c).In_ok-file_index in
+    let at = turn g (goal.at.index_mut-requires g c).After-index-labels-index in
+    omega (arith, index_inside g here at, c.get_or_insert_file.new.files.ok.0)
+
+-- the number of lanes of its file before it, as it was read and as it is counted
+lanes_there : (g : Over) (c : In_ok-file_index g)
+    → IsElementAt c.args.labels.now c.loop-index.index c.index-labels-index.result
+    → {file : RustFile g.row.F-FileId.Denot}
+    → file ≡ get_or c.get_or_insert_file.new.files.items c.in_ok-file_index.file_index file
+    → file.num_multi_labels ≡ get_or (lane_counts c.get_or_insert_file.new.files.items)
+    c.in_ok-file_index.file_index 0
+lanes_there g c at {file} is =
+    let count : RustFile g.row.F-FileId.Denot → ℕ = λ f. f.num_multi_labels in
+    ap count is
+    ∙ sym
+    (get_or-map count c.get_or_insert_file.new.files.items c.in_ok-file_index.file_index file 0
+    (index_inside g c at))
+
+pub add-requires : goal.add-requires
+add-requires g c =
+    let lawful = are_files g c.lifetimes (search rules) c.args.files.now in
+    let here = (goal.at.add-requires g c).In_ok-file_index in
+    let at = turn g (goal.at.add-requires g c).After-index-labels-index in
+    let lanes = lanes_there g here at c.index_mut.ensures.value in
+    let bound = lane-bound lawful at (indexed g here at) (found_there g here)
+    (omega (arith, c.loop-index.auto.index-end)) in
+    omega (arith, lanes, bound)
 
 pub loop-index-preserved : goal.loop-index-preserved
 loop-index-preserved g c =
-    let lawful = are_files g c.lifetimes (search rules) c.args.files.now in
-    let at = turn g (goal.at.loop-index-preserved g c).After-index-labels-index in
-    let there = indexed g (goal.at.loop-index-preserved g c).In_ok-file_index at in
-    let label = c.index-labels-index.result in
-    let found = c.in_ok-span.ensures in
-    let known = c.add_label.ensures in
-    let own = lanes_of_span-are (((g.F.Files.database c.args.files.now).file) label.file_id)
-    (label_of label).label c.in_ok-span.span found.first found.last in
-    let lane = lane_there g (goal.at.loop-index-preserved g c).After-index
-    (indices_inside g (goal.at.loop-index-preserved g c).In_ok-file_index at) in
     let database = g.F.Files.database c.args.files.now in
-    collected-more lawful at there (found_there g (goal.at.loop-index-preserved g c).In_ok-file_index)
+    let lawful = are_files g c.lifetimes (search rules) c.args.files.now in
+    let here = (goal.at.loop-index-preserved g c).In_ok-file_index in
+    let at = turn g (goal.at.loop-index-preserved g c).After-index-labels-index in
+    let label = c.index-labels-index.result in
+    let file_index = c.in_ok-file_index.file_index in
+    let span = c.in_ok-span.ensures in
+    let found = c.in_ok-collect_lines.ensures in
+    let own = lanes_of_span-are (database.file label.file_id) (label_of label).label
+    c.in_ok-span.span span.first span.last in
+    collected-more lawful at (indexed g here at) (found_there g here)
     (record {
-      added = subst (λ n. FindsLabelAnnotations (label_to_collect database c.args.config.now
-          (record { file_index = c.in_ok-file_index.file_index; index = c.loop-index.index; lane = n }) label)
-          c.loop-index.found c.collect_label.new.found) lane found.added;
+      added = subst₂ (λ old n. FindsLabelAnnotations (label_to_collect database c.args.config.now
+          file_index c.loop-index.index n label) old c.collect_lines.new.annotations.items)
+          c.reserve.ensures.items (lanes_there g here at c.index.ensures) found.added;
       counted = found.padding;
-      succeeded = found.failed;
-    }) (record {
-      ids = known.ids;
-      starts = known.starts;
-      lanes =
-          known.lanes
-          ∙ ap
-          (lane_counts_with (lane_counts c.get_or_insert_file.new.files.items) c.in_ok-file_index.file_index)
-          own;
+      succeeded = failure-lines database c.args.config.now label file_index c.loop-index.index
+          c.index.result.now.num_multi_labels span.failed
+          ∙ found.failed;
     })
+    (added-at database.file label
+    (record { inside = index_inside g here at; is = c.index_mut.ensures.value }) c.add.new.self
+    c.add.ensures.id c.add.ensures.least_starts
+    (c.add.ensures.lanes ∙ ap (λ n. c.index_mut.result.now.num_multi_labels + n) own))
 
 pub returns-clause-collected : goal.returns-clause-collected
 returns-clause-collected g c =
@@ -173,7 +188,7 @@ returns-clause-collected g c =
       };
       adds =
           subst
-          (λ js. AppendsAnnotations (IsOfFiles file js) [] c.loop-index.found.annotations.items
+          (λ js. AppendsAnnotations (IsOfFiles file js) [] c.loop-index.annotations.items
           (annotations_after same file c.args.config.now (file_ids same xs) [] xs))
           (sym done.ids_are) done.added;
     }

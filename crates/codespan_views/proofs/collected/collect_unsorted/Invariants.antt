@@ -8,4 +8,4 @@ abbrev pub invariant-loop-index : goal.invariant-loop-index
 invariant-loop-index g l =
     AreCollected (g.F.Files.database l.files) l.config
     (file_ids (g.F.Files.database l.files).same (before l.labels l.index))
-    (before l.labels l.index) l.labeled_files.items l.found
+    (before l.labels l.index) l.labeled_files.items l.annotations.items l.padding

@@ -3,7 +3,7 @@ use Rattle.codespan_core.specs.LawfulFiles.{IsLawful}
 use Rattle.codespan_core.specs.Streams.{plain_spelling}
 use Rattle.codespan_core.specs.WriterLaw.{Sink}
 use Rattle.codespan_core.specs.Writers.{fresh_sink}
-use Rattle.codespan_views.proofs.EmittedOutputs.{string_rendered, text_is_utf8, string_failed}
+use Rattle.codespan_views.proofs.EmittedOutputs.{string_rendered, text_is_utf8}
 use Rattle.codespan_views.proofs.emitting.emit_into_string.Goals as goal
 
 -- a writer of plain text over an empty buffer begins with nothing
@@ -26,9 +26,3 @@ pub returns-in-Ok : goal.returns-in-Ok
 returns-in-Ok g c =
     string_rendered c.in-Ok.ensures
     (begins-empty c.new-plain.ensures.begins c.in_ok-bytes.ensures.items) (search rules)
-
--- an allocation failed, or the writer has not failed
-pub returns-in-Err : goal.returns-in-Err
-returns-in-Err g c =
-    rw c.string_error.ensures
-    (string_failed c.has_failed.result c.in-Err.ensures c.has_failed.ensures)

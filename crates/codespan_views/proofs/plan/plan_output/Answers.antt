@@ -34,7 +34,7 @@ returns-clause-planned g c =
     let found = c.in_ok-snippet_plans.ensures.plans in
     let padding = chosen-padding lawful c.requires snippet_plans snippet_lines found
     (c.padding_width-padding.ensures ∙ ap
-    (padding_width c.args.config.now.layout c.args.collected.now.spanned_padding) c.deref.ensures.value) in
+    (padding_width c.args.config.now.layout c.args.collected.now.padding.digit_count) c.deref.ensures.value) in
     output_plan-planned lawful c.requires found padding
 
 pub returns-clause-failed : goal.returns-clause-failed

@@ -1,12 +1,29 @@
-use Rattle.std.proofs.lemmas.List.Sorted.{IsPermutation-trans}
+use Rattle.std.proofs.Common.{rules, ◌≡◌}
+use Rattle.std.specs.Ordering.{is_lt}
+use Rattle.std.proofs.lemmas.List.Sorted.{IsPermutation-trans, answers_always}
+use Rattle.codespan_views.specs.Private.Annotations.{is_before}
+use Rattle.codespan_views.specs.Private.AnnotationViews.{annotation_view}
+use Rattle.codespan_views.proofs.AnnotationOrder.{below_order}
+use Rattle.codespan_picture.proofs.SortedLists.{sorted-map}
 use Rattle.codespan_views.proofs.annotation.order.put_in_order.Goals as goal
 
 pub returns-clause-permutation : goal.returns-clause-permutation
 returns-clause-permutation g c =
-    IsPermutation-trans _ _ _ c.group_by_line.ensures.permutation c.sort.ensures.permutation
+    IsPermutation-trans _ _ _ c.group_by_line.ensures.permutation c.sort_unstable_by.ensures.permutation
 
 pub returns-in_err-is_grouped-clause-permutation : goal.returns-in_err-is_grouped-clause-permutation
 returns-in_err-is_grouped-clause-permutation g c = c.group_by_line.ensures.permutation
 
 pub returns-clause-sorted : goal.returns-clause-sorted
-returns-clause-sorted g c = c.sort.ensures.sorted
+returns-clause-sorted g c =
+    sorted-map annotation_view is_before _
+    (c.sort_unstable_by.ensures.sorted (λ x y. is_before (annotation_view x) (annotation_view y))
+    (record {
+      one_way =
+          λ x y. below_order.one_way (annotation_view x) (annotation_view y);
+      chain =
+          λ x y z. below_order.chain (annotation_view x) (annotation_view y) (annotation_view z);
+    })
+    (answers_always _
+    (λ a r. is_lt r ≡ is_before (annotation_view a.0.now) (annotation_view a.1.0.now)) _
+    (λ f a r f' k. search rules)))

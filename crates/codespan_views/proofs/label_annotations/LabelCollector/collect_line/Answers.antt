@@ -5,8 +5,8 @@ use Rattle.codespan_views.specs.Private.LabelAnnotations.{line_annotations}
 use Rattle.codespan_views.specs.Private.AnnotationViews.{IsLineAt}
 use Rattle.codespan_views.specs.Private.LabelsToCollect.{AppendsLineAnnotations, label_of_collector}
 use Rattle.codespan_views.specs.Private.LabelSpans.{spans_line}
-use Rattle.codespan_views.specs.declared.label_annotations.FoundAnnotations.{FoundAnnotations}
 use Rattle.codespan_picture.specs.Lookups.{is_looked_up}
+use Rattle.codespan_picture.specs.declared.padding.PaddingWidth.{PaddingWidth}
 use Rattle.codespan_picture.specs.OutputStreams.{label_of}
 use Rattle.codespan_views.specs.Private.SourceFiles.{model_of}
 use Rattle.codespan_views.proofs.Collecting.{AppendsAnnotations-none, AppendsAnnotations-as}
@@ -22,7 +22,7 @@ returns-then-not-is_around-clause-added g c =
     let not_looked_up : is_looked_up c.args.self.now.config.now f x c.args.index ≡ false =
     search rules in
     λ _. AppendsAnnotations-as
-    (ap (λ (b : Bool). if b then line_annotations c.args.self.now.config.now f c.args.self.now.indices x c.args.index else []) not_looked_up)
+    (ap (λ (b : Bool). if b then line_annotations c.args.self.now.config.now f c.args.self.now.file_index c.args.self.now.index c.args.self.now.lane x c.args.index else []) not_looked_up)
     AppendsAnnotations-none
 
 -- the line was found
@@ -61,16 +61,6 @@ looked_up g c =
           (sym (is_spanned g c) ∙ w.if-not-is_spanned.false)
     ]
 
--- the annotations are still those from before the call
-annotations_are : (g : Over) (c : In_ok-push_line g)
-    → c.if-is_spanned.found.annotations.items ≡ c.args.found.now.annotations.items
-annotations_are g c = elim c.if-is_spanned.branch [
-  | then-is_spanned w ↦ ap
-      (λ (found : FoundAnnotations g.row.F-FileId.Denot). found.annotations.items) w.found-is
-  | else-is_spanned w ↦ ap
-      (λ (found : FoundAnnotations g.row.F-FileId.Denot). found.annotations.items) w.found-is
-]
-
 pub returns-clause-inside : goal.returns-clause-inside
 returns-clause-inside g c =
     let found = line_found g c in
@@ -81,10 +71,9 @@ pub returns-clause-added : goal.returns-clause-added
 returns-clause-added g c =
     let x = label_of_collector g.F.Files.database c.args.self.now in
     λ _. added-looked_up x c.args.index (looked_up g c)
-    (subst (λ l. AppendsLineAnnotations x c.args.found.now.annotations.items c.push_line.new.annotations.items l)
-    (line_found g c).0
-    (subst (λ old. AppendsLineAnnotations x old c.push_line.new.annotations.items c.in-Some.line.index)
-    (annotations_are g c) c.in_ok-push_line.ensures.added))
+    (subst
+    (AppendsLineAnnotations x c.args.annotations.now.items c.push_line.new.annotations.items)
+    (line_found g c).0 c.in_ok-push_line.ensures.added)
 
 pub returns-clause-padding : goal.returns-clause-padding
 returns-clause-padding g c =
@@ -93,15 +82,15 @@ returns-clause-padding g c =
     let span = collector.span in
     let found = line_found g c in
     let number = found.1.number_is ∙ ap x.file.line_number found.0 in
-    let digits : FoundAnnotations g.row.F-FileId.Denot → ℕ = λ f. f.spanned_padding.digit_count in
+    let digits : PaddingWidth → ℕ = λ padding. padding.digit_count in
     λ _. elim c.if-is_spanned.branch [
       | then-is_spanned w ↦ padding-spanned x span.first span.last c.args.index c.requires.lines.first
-          c.requires.lines.last _ c.args.found.now.spanned_padding.digit_count
+          c.requires.lines.last _ c.args.padding.now.digit_count
           (sym (is_spanned g c) ∙ w.if-is_spanned.true)
-          (ap digits w.found-is ∙ rw number at w.fit.ensures)
+          (ap digits w.padding-is ∙ rw number at w.fit.ensures)
       | else-is_spanned w ↦ padding-unspanned x span.first span.last c.args.index
-          c.requires.lines.first c.requires.lines.last _ c.args.found.now.spanned_padding.digit_count
-          (sym (is_spanned g c) ∙ w.if-is_spanned.false) (ap digits w.found-is)
+          c.requires.lines.first c.requires.lines.last _ c.args.padding.now.digit_count
+          (sym (is_spanned g c) ∙ w.if-is_spanned.false) (ap digits w.padding-is)
     ]
 
 pub returns-clause-succeeded : goal.returns-clause-succeeded

@@ -10,11 +10,11 @@ use Rattle.codespan_views.specs.Private.LabelSpans.{IsFarInside}
 use Rattle.codespan_views.specs.Private.SourceFiles.{line_failure_unless_past_end}
 use Rattle.codespan_views.proofs.Contexts.{CollectsLabel, CollectsLines, HasEnds, collected-start, collected-context, collected-reach, collected-failed, collected-line}
 use Rattle.codespan_views.proofs.label_annotations.LabelCollector.collect_lines.Given.{Over}
-use Rattle.codespan_views.proofs.label_annotations.LabelCollector.collect_lines.Goals.{Else-not-branch}
+use Rattle.codespan_views.proofs.label_annotations.LabelCollector.collect_lines.Goals.{After-contains, Else-not-branch}
 use Rattle.codespan_views.proofs.label_annotations.LabelCollector.collect_lines.Goals as goal
 
 -- its file has its first line and its last one
-has_ends : (g : Over) (κs : Lfts 10) → g.claim κs
+has_ends : (g : Over) (κs : Lfts 11) → g.claim κs
     → (collector : LabelCollector g.row.F.Denot g.row.F-FileId.Denot g.row.F-Name.Denot
     g.row.F-Source.Denot)
     → HasEnds (label_of_collector g.F.Files.database collector)
@@ -42,7 +42,7 @@ in_range : (a b k : ℕ) (is_in : Bool)
 in_range a b k is_in is is_true = grind (arith, nat_tests)
 
 -- a line that is far from the ends is inside the label
-is_far_inside : (g : Over) (c : goal.After-collect_line-arg-1 g) → c.contains.result ≡ true
+is_far_inside : (g : Over) (c : After-contains g) → c.contains.result ≡ true
     → IsFarInside c.args.self.now.config.now c.args.self.now.span.first c.args.self.now.span.last
     c.loop-index.index-counter
 is_far_inside g c far =
@@ -50,7 +50,10 @@ is_far_inside g c far =
     c.far_lines-far.ensures c.loop-index.index-counter inside.0 inside.1
 
 pub collect_line-requires : goal.collect_line-requires
-collect_line-requires g c κs = ((refl, (refl, (refl, (refl, tt)))), (is_far_inside g c, c.requires))
+collect_line-requires g c κs = (
+  (refl, (refl, (refl, (refl, tt)))),
+  (is_far_inside g (goal.at.collect_line-requires g c).After-contains, c.requires),
+)
 
 pub returns-in_err-collect_line-clause-failed : goal.returns-in_err-collect_line-clause-failed
 returns-in_err-collect_line-clause-failed g c =
@@ -65,12 +68,16 @@ returns-in_err-collect_line-clause-failed g c =
 
 -- the file has no more lines
 no_more : (g : Over) (c : goal.Then-not-branch g)
-    → CollectsLabel (label_of_collector g.F.Files.database c.args.self.now) c.args.found.now
-    c.collect_line.new.found
+    → CollectsLabel (label_of_collector g.F.Files.database c.args.self.now)
+    c.args.annotations.now.items c.collect_line.new.annotations.items c.args.padding.now
+    c.collect_line.new.padding
 no_more g c =
     let x = label_of_collector g.F.Files.database c.args.self.now in
-    let ended = c.in_ok-collect_line.ensures.ended c.if-not-branch.true in
-    rw ended.0 (collected-context {x = x} c.loop-index.invariant ended.1.0 ended.1.1)
+    let known = c.in_ok-collect_line.ensures in
+    let here = c.if-not-branch.true in
+    let ended = known.ended here in
+    rw (known.ended_annotations here, known.ended_padding here)
+    (collected-context {x = x} c.loop-index.invariant ended.0 ended.1)
 
 pub returns-then-not-branch-clause-added : goal.returns-then-not-branch-clause-added
 returns-then-not-branch-clause-added g c = (no_more g c).added
@@ -83,8 +90,9 @@ returns-then-not-branch-clause-failed g c = (no_more g c).succeeded
 
 -- one more line is done with
 one_more : (g : Over) (c : goal.Else-not-branch g)
-    → CollectsLines (label_of_collector g.F.Files.database c.args.self.now) c.args.found.now
-    c.collect_line.new.found (c.loop-index.index-counter + 1)
+    → CollectsLines (label_of_collector g.F.Files.database c.args.self.now)
+    c.args.annotations.now.items c.collect_line.new.annotations.items c.args.padding.now
+    c.collect_line.new.padding (c.loop-index.index-counter + 1)
 one_more g c =
     let x = label_of_collector g.F.Files.database c.args.self.now in
     let on = c.if-not-branch.false in
@@ -106,8 +114,9 @@ loop-index-preserved g c = one_more g (goal.at.loop-index-preserved g c).Else-no
 
 -- the last line is done with
 all_done : (g : Over) (c : goal.Else-not-branch g) → c.max-index-end.result ≤ c.loop-index.index-counter
-    → CollectsLabel (label_of_collector g.F.Files.database c.args.self.now) c.args.found.now
-    c.collect_line.new.found
+    → CollectsLabel (label_of_collector g.F.Files.database c.args.self.now)
+    c.args.annotations.now.items c.collect_line.new.annotations.items c.args.padding.now
+    c.collect_line.new.padding
 all_done g c at_last =
     let x = label_of_collector g.F.Files.database c.args.self.now in
     let claim : g.claim c.lifetimes = search rules in

@@ -5,4 +5,5 @@ use Rattle.codespan_views.proofs.label_annotations.LabelCollector.collect_lines.
 -- the lines below this one are done with
 abbrev pub invariant-loop-index : goal.invariant-loop-index
 invariant-loop-index g l =
-    CollectsLines (label_of_collector g.F.Files.database l.self) l.initial.found l.found l.index-counter
+    CollectsLines (label_of_collector g.F.Files.database l.self) l.initial.annotations.items
+    l.annotations.items l.initial.padding l.padding l.index-counter

@@ -11,9 +11,9 @@ returns-clause-added g c =
     let span = collector.span in
     let line = c.args.line in
     AppendsAnnotations-as (annotation_if_any-line x c.requires.lines.first c.requires.lines.last c.requires.line
-    (far-kind x.config x.indices span.first span.last line.index line.start x.label
+    (far-kind x.config x.index span.first span.last line.index line.start x.label
     c.requires.far)
-    (far-multi_label x.config x.indices span.first span.last line.index line.start collector.label
+    (far-multi_label x.config x.lane span.first span.last line.index line.start collector.label
     c.requires.far))
     (AppendsAnnotations-weaker (λ e same. subst (IsLineOf x.file) (sym same) c.requires.line)
     c.in_ok-push_annotation.ensures.added)

@@ -91,7 +91,7 @@ loop-index-preserved g c =
             (plan_found at added zs_are c.in_ok-line_count.ensures.count w.in-Ok.ensures.file
             w.in-Ok.ensures.locus w.in-Ok.ensures.snippet_line_count)
             numbers w.in-Ok.ensures.failed)
-        | in-Err w ↦ rw (w.snippet_plans-is, w.located-is ∙ w.first_error_of-located.ensures)
+        | in-Err w ↦ rw (w.snippet_plans-is, w.located-is ∙ w.and-located.ensures)
             (planned-unlocated at.here before numbers w.in-Err.ensures.failed)
       ];
     }

@@ -1,7 +1,7 @@
 use Rattle.std.proofs.Common.{arith}
-use Rattle.codespan_views.proofs.FewDigits.{few_digits}
-use Rattle.codespan_views.proofs.spanned_padding.PaddingWidth.with_digit_count.Goals as goal
-use Rattle.codespan_views.proofs.spanned_padding.PaddingWidth.with_digit_count.Goals.{in-1, in-2, in-3, in-4, in-5, in-6, in_default}
+use Rattle.codespan_picture.proofs.Digits.{few_digits}
+use Rattle.codespan_picture.proofs.padding.PaddingWidth.with_digit_count.Goals as goal
+use Rattle.codespan_picture.proofs.padding.PaddingWidth.with_digit_count.Goals.{in-1, in-2, in-3, in-4, in-5, in-6, in_default}
 
 pub invariant_of-result : goal.invariant_of-result
 invariant_of-result c = elim c.match-digit_count.branch [
