@@ -3,7 +3,9 @@ pub use Rattle.codespan_base.specs.PartStyles.{bold_intense, colored, default_st
 use Rattle.std.specs.Prelude.{ℕ, List}
 use Rattle.codespan_base.specs.declared.term.config.color.ColorSpec.{ColorSpec}
 use Rattle.codespan_base.specs.declared.term.config.styles.Styles.{Styles}
-use Rattle.codespan_core.specs.Streams.{StyleMark, Header, HeaderMessage, LineNumber, NoteBullet, SourceBorder, LabelStyleMark, Reset, Spelling}
+use Rattle.codespan_core.specs.Streams.{Spelling}
+use Rattle.codespan_core.specs.declared.term.config.style_mark.StyleMark.{StyleMark}
+use Rattle.codespan_core.specs.declared.term.config.style_mark.StyleMark.TheVariants.{Header, HeaderMessage, LineNumber, NoteBullet, SourceBorder, Label, Reset}
 use Rattle.codespan_base.specs.Ansi.{ansi_reset, ansi_style}
 
 -- how a writer of colors spells a style mark, where `style_bytes` is its bytes for each style, and
@@ -15,7 +17,7 @@ spelling_by styles style_bytes reset_bytes HeaderMessage = style_bytes styles.he
 spelling_by styles style_bytes reset_bytes LineNumber = style_bytes styles.line_number
 spelling_by styles style_bytes reset_bytes NoteBullet = style_bytes styles.note_bullet
 spelling_by styles style_bytes reset_bytes SourceBorder = style_bytes styles.source_border
-spelling_by styles style_bytes reset_bytes (LabelStyleMark severity style) =
+spelling_by styles style_bytes reset_bytes (Label severity style) =
     style_bytes (label_color_spec styles severity style)
 spelling_by styles style_bytes reset_bytes Reset = reset_bytes
 

@@ -1,7 +1,8 @@
 -- For the clauses of the style marks of each `WriteStyle`: a style mark as the bytes that spell it,
 -- and bytes that a writer of colors writes.
 use Rattle.std.proofs.Common.{◌≡◌, ℕ, Bool, true, List, [], Option, append-nil, Result, Ok, Err, MatchResult, refl, sym, ap, ◌∙◌}
-use Rattle.codespan_core.specs.Streams.{StyleMark, style_mark, byte_stream}
+use Rattle.codespan_core.specs.Streams.{style_mark, byte_stream}
+use Rattle.codespan_core.specs.declared.term.config.style_mark.StyleMark.{StyleMark}
 use Rattle.codespan_core.specs.WriterLaw.{Frame, Sink, is_known, are_known, extended, PrefixAppended, AppendsBytes, with_written, with_failed, PrefixWritten, Writes}
 use Rattle.codespan_core.proofs.KnownBytes.{extended-nil}
 use Rattle.codespan_core.proofs.Writes.{spelled-byte_stream}

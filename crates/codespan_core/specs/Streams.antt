@@ -3,18 +3,7 @@
 use Rattle.std.specs.Prelude.{ℕ, List, [], ◌∷◌, ◌++◌, map, replicate}
 use Rattle.std.specs.List.{repeat}
 use Rattle.std.specs.Char.{encode_utf8}
-use Rattle.codespan_core.specs.declared.diagnostic.Severity.{Severity}
-use Rattle.codespan_core.specs.declared.diagnostic.LabelStyle.{LabelStyle}
-
--- the style marks, one for each call of `WriteStyle` that writes one
-pub data StyleMark : Type 0 where
-  Header : Severity → StyleMark
-  HeaderMessage : StyleMark
-  LineNumber : StyleMark
-  NoteBullet : StyleMark
-  SourceBorder : StyleMark
-  LabelStyleMark : Severity → LabelStyle → StyleMark
-  Reset : StyleMark
+use Rattle.codespan_core.specs.declared.term.config.style_mark.StyleMark.{StyleMark}
 
 -- bytes, style marks, and slots, each of which names a label by its index in the diagnostic's list
 pub data Item : Type 0 where

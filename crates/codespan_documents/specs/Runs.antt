@@ -2,8 +2,9 @@
 use Rattle.std.specs.Prelude.{ℕ, Bool, true, false, List, [], ◌∷◌, ◌++◌, map, string_bytes}
 use Rattle.std.specs.List.{AllByRecursion, flat_map}
 use Rattle.std.specs.Str.{IsUtf8, chars}
-use Rattle.codespan_base.specs.Streams.{Stream, StyleMark, Byte, Mark, Slot}
-use Rattle.codespan_base.specs.Streams.{Header, HeaderMessage, LineNumber, NoteBullet, SourceBorder, LabelStyleMark, Reset}
+use Rattle.codespan_base.specs.Streams.{Stream, Byte, Mark, Slot}
+use Rattle.codespan_base.specs.declared.term.config.style_mark.StyleMark.{StyleMark}
+use Rattle.codespan_base.specs.declared.term.config.style_mark.StyleMark.TheVariants.{Header, HeaderMessage, LineNumber, NoteBullet, SourceBorder, Label, Reset}
 use Rattle.codespan_documents.specs.declared.style.Style.{Style}
 use Rattle.codespan_documents.specs.declared.style.Style.TheVariants as run_styles
 use Rattle.codespan_documents.specs.declared.text.Run.{Run}
@@ -26,7 +27,7 @@ style_after HeaderMessage = run_styles.HeaderMessage
 style_after LineNumber = run_styles.LineNumber
 style_after NoteBullet = run_styles.NoteBullet
 style_after SourceBorder = run_styles.SourceBorder
-style_after (LabelStyleMark severity style) = run_styles.Label severity style
+style_after (Label severity style) = run_styles.Label severity style
 style_after Reset = run_styles.Plain
 
 -- the runs of a stream that continues a run of this style, with this text so far: a byte belongs to

@@ -6,7 +6,9 @@ use Rattle.codespan_base.specs.declared.diagnostic.Severity.{Severity}
 use Rattle.codespan_base.specs.declared.diagnostic.LabelStyle.{LabelStyle}
 use Rattle.codespan_base.specs.declared.term.config.chars.Chars.{Chars}
 use Rattle.codespan_base.specs.Labels.{LabelModel, LaneMark, MultiLabel, Top, Left, Bottom}
-use Rattle.codespan_base.specs.Streams.{Stream, StyleMark, Reset, LabelStyleMark, SourceBorder, NoteBullet, style_mark, byte_stream, glyph, repeated, space}
+use Rattle.codespan_base.specs.Streams.{Stream, style_mark, byte_stream, glyph, repeated, space}
+use Rattle.codespan_base.specs.declared.term.config.style_mark.StyleMark.{StyleMark}
+use Rattle.codespan_base.specs.declared.term.config.style_mark.StyleMark.TheVariants.{NoteBullet, SourceBorder, Label, Reset}
 use Rattle.codespan_picture.specs.RowLaws.{row_length, character_count, CharsChangeNoRowLength}
 use Rattle.codespan_base.specs.SnippetStarts.{start_text}
 use Rattle.codespan_picture.specs.declared.char_metrics.Metrics.{Metrics}
@@ -211,7 +213,7 @@ module _ (context : RowContext) (chars : Chars) where
       (pointers_as_long line.labels (metrics_before x.start (line_metrics context line))))
   rows_as_long e (UnderlineRow line m) =
       same_before _ _ (style_mark Reset)
-      (joined _ _ _ _ (same_before _ _ (style_mark (LabelStyleMark context.severity m.style))
+      (joined _ _ _ _ (same_before _ _ (style_mark (Label context.severity m.style))
       (joined _ _ _ _
       (same_after (outer_gutter context.padding) (border_left chars) (border_left context.chars)
       border_left_as_long)

@@ -2,7 +2,9 @@
 use Rattle.std.proofs.Common.{◌≡◌, ℕ, false, List, [], ◌∷◌, ◌++◌, map, filter, refl, ap, ap₂, ◌∙◌}
 use Rattle.std.proofs.lemmas.List.{map-append}
 use Rattle.codespan_base.specs.declared.term.config.styles.Styles.{Styles}
-use Rattle.codespan_base.specs.Streams.{Stream, Spelling, StyleMark, Byte, Mark, Slot, Header, HeaderMessage, LineNumber, NoteBullet, SourceBorder, LabelStyleMark, Reset, spelled, text_of}
+use Rattle.codespan_base.specs.Streams.{Stream, Spelling, Byte, Mark, Slot, spelled, text_of}
+use Rattle.codespan_base.specs.declared.term.config.style_mark.StyleMark.{StyleMark}
+use Rattle.codespan_base.specs.declared.term.config.style_mark.StyleMark.TheVariants.{Header, HeaderMessage, LineNumber, NoteBullet, SourceBorder, Label, Reset}
 use Rattle.codespan_base.specs.StyleSpellings.{spelling_by}
 use Rattle.codespan_laws.specs.ColorLaws.{ColorsChangeNoText, NoColorIsPlain, WrittenByte, written_bytes}
 
@@ -54,7 +56,7 @@ nothing styles HeaderMessage = refl
 nothing styles LineNumber = refl
 nothing styles NoteBullet = refl
 nothing styles SourceBorder = refl
-nothing styles (LabelStyleMark severity style) = refl
+nothing styles (Label severity style) = refl
 nothing styles Reset = refl
 
 pub no_color_is_plain : (styles : Styles) (s : Stream) → NoColorIsPlain styles s

@@ -6,7 +6,9 @@ use Rattle.codespan_base.specs.declared.term.config.chars.Chars.{Chars}
 use Rattle.codespan_base.specs.declared.diagnostic.LabelStyle.TheVariants.{Primary}
 use Rattle.codespan_base.specs.Labels.{LaneMark, MultiLabel}
 use Rattle.std.specs.List.{range_with_len}
-use Rattle.codespan_base.specs.Streams.{Stream, StyleMark, LabelStyleMark, Reset, style_mark, glyph, repeated}
+use Rattle.codespan_base.specs.Streams.{Stream, style_mark, glyph, repeated}
+use Rattle.codespan_base.specs.declared.term.config.style_mark.StyleMark.{StyleMark}
+use Rattle.codespan_base.specs.declared.term.config.style_mark.StyleMark.TheVariants.{Label, Reset}
 use Rattle.codespan_picture.specs.RowLaws.{row_length}
 use Rattle.codespan_picture.specs.declared.lane_shapes.Shape.{Shape}
 use Rattle.codespan_picture.specs.declared.lane_shapes.Shape.TheVariants.{Space, Bar, TopCorner, BottomCorner}
@@ -33,7 +35,7 @@ row_length-crossing_characters : (severity : Severity) (chars : Chars) (crossing
 unfolding crossing_characters
 row_length-crossing_characters severity chars None n = row_length-spaces n
 row_length-crossing_characters severity chars (Some m) n =
-    row_length-between_style_marks (LabelStyleMark severity m.style)
+    row_length-between_style_marks (Label severity m.style)
     (repeated n (underline_char chars m.multi_label))
     ∙ row_length-repeated n (underline_char chars m.multi_label)
 
@@ -41,7 +43,7 @@ pub row_length-label_glyph : (severity : Severity) (style : LabelStyle) (c : ℕ
     → row_length (label_glyph severity style c) ≡ 1
 unfolding label_glyph
 row_length-label_glyph severity style c =
-    row_length-between_style_marks (LabelStyleMark severity style) (glyph c) ∙ row_length-glyph c
+    row_length-between_style_marks (Label severity style) (glyph c) ∙ row_length-glyph c
 
 -- a character of the crossing, or a space, and the lane's own character
 filled_and_own : (severity : Severity) (chars : Chars) (crossing : Option LaneMark)

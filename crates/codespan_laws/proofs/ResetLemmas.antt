@@ -6,7 +6,9 @@ use Rattle.codespan_base.specs.declared.diagnostic.LabelStyle.{LabelStyle}
 use Rattle.codespan_base.specs.declared.diagnostic.LabelStyle.TheVariants.{Primary, Secondary}
 use Rattle.codespan_base.specs.declared.term.config.chars.Chars.{Chars}
 use Rattle.codespan_base.specs.Labels.{LaneMark, MultiLabel}
-use Rattle.codespan_base.specs.Streams.{Stream, StyleMark, Byte, Mark, Slot, Reset, LabelStyleMark, byte_stream, style_mark, spaces, repeated, glyph}
+use Rattle.codespan_base.specs.Streams.{Stream, Byte, Mark, Slot, byte_stream, style_mark, spaces, repeated, glyph}
+use Rattle.codespan_base.specs.declared.term.config.style_mark.StyleMark.{StyleMark}
+use Rattle.codespan_base.specs.declared.term.config.style_mark.StyleMark.TheVariants.{Label, Reset}
 use Rattle.codespan_picture.specs.declared.char_metrics.Metrics.{Metrics}
 use Rattle.codespan_picture.specs.declared.lane_shapes.Shape.{Shape}
 use Rattle.codespan_picture.specs.declared.lane_shapes.Shape.TheVariants.{Space, Bar, TopCorner, BottomCorner}
@@ -65,12 +67,12 @@ closes-crossing_characters : (severity : Severity) (chars : Chars) (crossing : O
 unfolding crossing_characters
 closes-crossing_characters severity chars None n = record { closed = ends_reset-spaces true n }
 closes-crossing_characters severity chars (Some m) n =
-    closes-in_style (LabelStyleMark severity m.style) _
+    closes-in_style (Label severity m.style) _
 
 pub closes-label_glyph : (severity : Severity) (style : LabelStyle) (c : ℕ)
     → Closes (label_glyph severity style c)
 unfolding label_glyph
-closes-label_glyph severity style c = closes-in_style (LabelStyleMark severity style) (glyph c)
+closes-label_glyph severity style c = closes-in_style (Label severity style) (glyph c)
 
 closes-lane_characters : (severity : Severity) (chars : Chars) (crossing : Option LaneMark)
     (style : LabelStyle) (shape : Shape)

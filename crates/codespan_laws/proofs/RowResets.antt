@@ -6,7 +6,8 @@ use Rattle.codespan_base.specs.declared.diagnostic.Severity.{Severity}
 use Rattle.codespan_base.specs.declared.diagnostic.LabelStyle.{LabelStyle}
 use Rattle.codespan_base.specs.declared.term.config.chars.Chars.{Chars}
 use Rattle.codespan_base.specs.Labels.{LabelModel}
-use Rattle.codespan_base.specs.Streams.{Stream, LabelStyleMark, byte_stream, spaces, glyph, space}
+use Rattle.codespan_base.specs.Streams.{Stream, byte_stream, spaces, glyph, space}
+use Rattle.codespan_base.specs.declared.term.config.style_mark.StyleMark.TheVariants.{Label}
 use Rattle.codespan_picture.specs.declared.char_metrics.Metrics.{Metrics}
 use Rattle.codespan_picture.specs.Carets.{style_under, max_label_end}
 use Rattle.codespan_picture.specs.Lanes.{label_glyph}
@@ -69,7 +70,7 @@ closes-label_message : (severity : Severity) (style : LabelStyle) (message : Str
     → Closes (label_message severity style message)
 unfolding label_message
 closes-label_message severity style message =
-    closes-in_style (LabelStyleMark severity style) message
+    closes-in_style (Label severity style) message
 
 closes-trailing_message : (severity : Severity) (x : Option LabelModel)
     → Closes (trailing_message severity x)

@@ -8,7 +8,8 @@ use Rattle.codespan_core.specs.SnippetStarts.{start_text}
 use Rattle.codespan_core.specs.declared.term.config.DisplayStyle.{DisplayStyle}
 use Rattle.codespan_core.specs.declared.term.config.DisplayStyle.TheVariants.{Rich, Medium, Short}
 use Rattle.codespan_core.specs.ConfigEquality.{IsEqualConfig}
-use Rattle.codespan_core.specs.Streams.{byte_stream, style_mark, Reset, SourceBorder, space}
+use Rattle.codespan_core.specs.Streams.{byte_stream, style_mark, space}
+use Rattle.codespan_core.specs.declared.term.config.style_mark.StyleMark.TheVariants.{SourceBorder, Reset}
 use Rattle.codespan_picture.specs.Rows.{HeaderText, Locus, RowContext, Row, HeaderRow, SnippetStartRow, EmptyRow, BreakRow, SourceRow, CaretRow, PointerRow, HangingRow, UnderlineRow, FirstNoteRow, LaterNoteRow, FinalRow}
 use Rattle.codespan_picture.specs.RowParts.{outer_gutter, snippet_locus}
 use Rattle.codespan_picture.specs.RowStreams.{stream_of, stream_of_rows}

@@ -3,7 +3,8 @@ use Rattle.std.proofs.Common.{◌≡◌, ℕ, [], ◌++◌, flat_map, Option, No
 use Rattle.std.proofs.lemmas.Option.{none-some, same_Some}
 use Rattle.std.specs.List.{range_with_len}
 use Rattle.codespan_core.specs.Labels.{LabelModel, LaneMark, MultiLabel}
-use Rattle.codespan_core.specs.Streams.{Stream, LabelStyleMark, Reset, style_mark, space}
+use Rattle.codespan_core.specs.Streams.{Stream, style_mark, space}
+use Rattle.codespan_core.specs.declared.term.config.style_mark.StyleMark.TheVariants.{Label, Reset}
 use Rattle.codespan_picture.specs.declared.lane_shapes.Shape.{Shape}
 use Rattle.codespan_picture.specs.Lanes.{Source, EmptyOrBreak, SingleLabels, Underline, row_shape, row_crossing, source_shape, empty_or_break_shape, single_labels_shape, lane_mark_in, shape_of, style_of_lane_mark, lane_characters}
 use Rattle.codespan_picture.specs.Rows.{RowContext, Lanes, Line, Row, HeaderRow, SnippetStartRow, EmptyRow, BreakRow, SourceRow, CaretRow, PointerRow, HangingRow, UnderlineRow, FirstNoteRow, LaterNoteRow, FinalRow, trailing_label}
@@ -153,7 +154,7 @@ underline_shows context line m =
     (more _ _ _
     (alone (outer_gutter context.padding ++ border_left context.chars) _ _
     (underline_are context line m))
-    (style_mark (LabelStyleMark context.severity m.style)))
+    (style_mark (Label context.severity m.style)))
     (underline context.chars m.style (line_metrics context line) m.multi_label))
     (style_mark Reset))
 

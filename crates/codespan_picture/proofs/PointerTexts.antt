@@ -7,7 +7,8 @@ use Rattle.codespan_core.specs.declared.diagnostic.Severity.{Severity}
 use Rattle.codespan_core.specs.declared.diagnostic.LabelStyle.{LabelStyle}
 use Rattle.codespan_core.specs.declared.term.config.chars.Chars.{Chars}
 use Rattle.codespan_core.specs.Labels.{LabelModel}
-use Rattle.codespan_core.specs.Streams.{LabelStyleMark, Reset, style_mark, glyph, spaces, text_of}
+use Rattle.codespan_core.specs.Streams.{style_mark, glyph, spaces, text_of}
+use Rattle.codespan_core.specs.declared.term.config.style_mark.StyleMark.TheVariants.{Label, Reset}
 use Rattle.codespan_picture.specs.declared.char_metrics.Metrics.{Metrics}
 use Rattle.codespan_picture.specs.CharMetrics.{width_of}
 use Rattle.codespan_picture.specs.Lanes.{label_glyph}
@@ -37,9 +38,9 @@ text_of-label_glyph : (severity : Severity) (style : LabelStyle) (c : ℕ)
     → text_of (label_glyph severity style c) ≡ encode_utf8 c
 unfolding label_glyph
 text_of-label_glyph severity style c =
-    text_of-append (style_mark (LabelStyleMark severity style) ++ glyph c) (style_mark Reset)
+    text_of-append (style_mark (Label severity style) ++ glyph c) (style_mark Reset)
     ∙ ap₂ (λ s t. s ++ t)
-    (text_of-append (style_mark (LabelStyleMark severity style)) (glyph c)
+    (text_of-append (style_mark (Label severity style)) (glyph c)
     ∙ ap₂ (λ s t. s ++ t) (text_of-style_mark _) (text_of-glyph c))
     (text_of-style_mark _)
     ∙ append-nil (encode_utf8 c)

@@ -5,7 +5,8 @@ use Rattle.std.proofs.lemmas.Bool.Decides.{nat_tests}
 use Rattle.codespan_core.specs.declared.diagnostic.Severity.{Severity}
 use Rattle.codespan_core.specs.declared.diagnostic.LabelStyle.{LabelStyle}
 use Rattle.codespan_core.specs.declared.term.config.chars.Chars.{Chars}
-use Rattle.codespan_core.specs.Streams.{Stream, Item, Byte, Mark, Slot, LabelStyleMark, Reset, style_mark, space, glyph, repeated, newline, with_messages}
+use Rattle.codespan_core.specs.Streams.{Stream, Item, Byte, Mark, Slot, style_mark, space, glyph, repeated, newline, with_messages}
+use Rattle.codespan_core.specs.declared.term.config.style_mark.StyleMark.TheVariants.{Label, Reset}
 use Rattle.codespan_core.specs.Labels.{LabelModel, is_empty_stream, MultiLabel, Top, Left, Bottom}
 use Rattle.codespan_picture.specs.declared.char_metrics.Metrics.{Metrics}
 use Rattle.codespan_picture.specs.CharMetrics.{width_of}
@@ -129,7 +130,7 @@ module _ (m : ℕ → List ℕ) (full : (k : ℕ) → is_empty_stream (map Byte 
       (fill m message)
   unfolding label_message
   message-refilled severity style message =
-      join _ _ (join _ _ (one-style_mark (LabelStyleMark severity style)) refl)
+      join _ _ (join _ _ (one-style_mark (Label severity style)) refl)
       (one-style_mark Reset)
 
   trailing_label-message-refilled : (severity : Severity) (x : Option LabelModel)
@@ -224,7 +225,7 @@ module _ (m : ℕ → List ℕ) (full : (k : ℕ) → is_empty_stream (map Byte 
       (without_slots (inner_gutter context (leading_of line) (Underline a) line.lanes)
       (λ k. slot.slots-inner_gutter k context (leading_of line) (Underline a) line.lanes)
       (underline_lanes-refilled (fill m) keeps context (leading_of line) a line.lanes)))
-      (one-style_mark (LabelStyleMark context.severity a.style)))
+      (one-style_mark (Label context.severity a.style)))
       (underline-refilled context.chars a.style (line_metrics context line) a.multi_label))
       (one-style_mark Reset)
   fill-row context (FirstNoteRow note_line) =

@@ -10,7 +10,8 @@ use Rattle.codespan_core.specs.declared.diagnostic.LabelStyle.{LabelStyle}
 use Rattle.codespan_core.specs.declared.diagnostic.Severity.{Severity}
 use Rattle.codespan_core.specs.SnippetStarts.{start_text}
 use Rattle.codespan_core.specs.Labels.{LabelModel, LaneMark, MultiLabel, Top, Left, Bottom}
-use Rattle.codespan_core.specs.Streams.{Stream, Header, HeaderMessage, NoteBullet, SourceBorder, LabelStyleMark, Reset, byte_stream, spaces, space, newline}
+use Rattle.codespan_core.specs.Streams.{Stream, byte_stream, spaces, space, newline}
+use Rattle.codespan_core.specs.declared.term.config.style_mark.StyleMark.TheVariants.{Header, HeaderMessage, NoteBullet, SourceBorder, Label, Reset}
 use Rattle.codespan_picture.specs.declared.char_metrics.Metrics.{Metrics}
 use Rattle.codespan_picture.specs.declared.lane_shapes.Shape.{Shape}
 use Rattle.codespan_picture.specs.Carets.{caret_for, max_label_end, style_under}
@@ -249,7 +250,7 @@ module _ (context : RowContext) (ok : CharsAreScalars context.chars) where
       (followed
       (followed (text-outer_gutter context.padding) (text-border_left context.chars ok))
       (text-inner_gutter (leading_of line) (Underline m) line.lanes))
-      (text-style_mark (LabelStyleMark context.severity m.style)))
+      (text-style_mark (Label context.severity m.style)))
       (text-underline m.style (line_metrics context line) m.multi_label h))
       (text-style_mark Reset)
   text-row (FirstNoteRow note_line) h =

@@ -7,7 +7,8 @@ use Rattle.codespan_core.specs.declared.diagnostic.Severity.{Severity}
 use Rattle.codespan_core.specs.declared.diagnostic.LabelStyle.{LabelStyle}
 use Rattle.codespan_core.specs.declared.diagnostic.LabelStyle.TheVariants.{Primary, Secondary}
 use Rattle.codespan_core.specs.declared.term.config.chars.Chars.{Chars}
-use Rattle.codespan_core.specs.Streams.{Stream, StyleMark, Byte, style_mark, byte_stream, spaces, space, glyph, repeated, newline}
+use Rattle.codespan_core.specs.Streams.{Stream, Byte, style_mark, byte_stream, spaces, space, glyph, repeated, newline}
+use Rattle.codespan_core.specs.declared.term.config.style_mark.StyleMark.{StyleMark}
 use Rattle.codespan_core.specs.Labels.{LabelModel, LaneMark, MultiLabel, Top, Left, Bottom}
 use Rattle.codespan_picture.specs.declared.char_metrics.Metrics.{Metrics}
 use Rattle.codespan_picture.specs.Carets.{style_under, max_label_end}

@@ -14,7 +14,9 @@ use Rattle.codespan_core.specs.declared.diagnostic.LabelStyle.TheVariants.{Prima
 use Rattle.codespan_core.specs.declared.diagnostic.Severity.{Severity}
 use Rattle.codespan_core.specs.declared.diagnostic.Severity.TheVariants.{Bug, Error, Warning, Note, Help}
 use Rattle.codespan_core.specs.declared.term.config.chars.Chars.{Chars}
-use Rattle.codespan_core.specs.Streams.{Stream, Byte, Mark, Slot, StyleMark, LabelStyleMark, Reset, style_mark, glyph, byte_stream, spaces, space, repeated, newline, text_of}
+use Rattle.codespan_core.specs.Streams.{Stream, Byte, Mark, Slot, style_mark, glyph, byte_stream, spaces, space, repeated, newline, text_of}
+use Rattle.codespan_core.specs.declared.term.config.style_mark.StyleMark.{StyleMark}
+use Rattle.codespan_core.specs.declared.term.config.style_mark.StyleMark.TheVariants.{Label, Reset}
 use Rattle.codespan_picture.specs.declared.char_metrics.Metrics.{Metrics}
 use Rattle.codespan_picture.specs.Rows.{Locus}
 use Rattle.codespan_picture.specs.RowParts.{severity_name, snippet_locus, outer_gutter, outer_gutter_number, border_left, border_left_break, style_change, styled, label_message}
@@ -214,14 +216,14 @@ text-border_left_break chars ok = search (pieces, ok.source_border_left_break)
 text-style_change : (severity : Severity) (a b : Option LabelStyle) → StreamIsUtf8 (style_change severity a b)
 unfolding style_change
 text-style_change severity None None = text-none
-text-style_change severity None (Some style) = text-style_mark (LabelStyleMark severity style)
+text-style_change severity None (Some style) = text-style_mark (Label severity style)
 text-style_change severity (Some style) None = text-style_mark Reset
 text-style_change severity (Some Primary) (Some Primary) = text-none
 text-style_change severity (Some Secondary) (Some Secondary) = text-none
 text-style_change severity (Some Primary) (Some Secondary) =
-    text-style_mark (LabelStyleMark severity Secondary)
+    text-style_mark (Label severity Secondary)
 text-style_change severity (Some Secondary) (Some Primary) =
-    text-style_mark (LabelStyleMark severity Primary)
+    text-style_mark (Label severity Primary)
 
 pub text-styled : (severity : Severity) (style : Metrics → Option LabelStyle)
     (shown : Metrics → Stream) (previous : Option LabelStyle) (cs : List Metrics)
@@ -237,7 +239,7 @@ pub text-label_message : (severity : Severity) (style : LabelStyle) (message : S
     → StreamIsUtf8 message → StreamIsUtf8 (label_message severity style message)
 unfolding label_message
 text-label_message severity style message t =
-    text-both (style_mark (LabelStyleMark severity style) ++ message) (style_mark Reset)
-    (text-both (style_mark (LabelStyleMark severity style)) message
-    (text-style_mark (LabelStyleMark severity style)) t)
+    text-both (style_mark (Label severity style) ++ message) (style_mark Reset)
+    (text-both (style_mark (Label severity style)) message
+    (text-style_mark (Label severity style)) t)
     (text-style_mark Reset)

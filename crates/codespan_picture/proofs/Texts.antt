@@ -5,7 +5,8 @@ use Rattle.std.specs.List.{repeat}
 use Rattle.std.specs.Char.{encode_utf8}
 use Rattle.std.proofs.lemmas.Bool.Decides.{nat_tests}
 use Rattle.std.proofs.lemmas.List.Sums.{sum_by-append}
-use Rattle.codespan_core.specs.Streams.{Stream, StyleMark, Byte, Mark, Slot, byte_stream, style_mark, spaces, repeated, glyph, text_of}
+use Rattle.codespan_core.specs.Streams.{Stream, Byte, Mark, Slot, byte_stream, style_mark, spaces, repeated, glyph, text_of}
+use Rattle.codespan_core.specs.declared.term.config.style_mark.StyleMark.{StyleMark}
 use Rattle.codespan_picture.specs.RowLaws.{is_continuation, character_count, row_length}
 
 -- ---- texts of streams

@@ -1,7 +1,8 @@
 -- What each lane shows in each kind of row.
 use Rattle.std.specs.Prelude.{ℕ, Bool, true, false, ◌&&◌, ◌==◌, nat_lt, nat_le, List, ◌++◌, find, Option, Some, None, if◌then◌else◌}
 use Rattle.codespan_picture.specs.Types.{Severity, LabelStyle, Primary, Chars, Layout, Classic, Unbroken}
-use Rattle.codespan_core.specs.Streams.{Stream, LabelStyleMark, Reset, style_mark, glyph, spaces, repeated}
+use Rattle.codespan_core.specs.Streams.{Stream, style_mark, glyph, spaces, repeated}
+use Rattle.codespan_core.specs.declared.term.config.style_mark.StyleMark.TheVariants.{Label, Reset}
 use Rattle.codespan_picture.specs.declared.lane_shapes.Shape.{Shape}
 use Rattle.codespan_picture.specs.declared.lane_shapes.Shape.TheVariants.{Space, Bar, TopCorner, BottomCorner}
 use Rattle.codespan_core.specs.Labels.{LaneMark, MultiLabel, Top, Left, Bottom}
@@ -87,13 +88,13 @@ underline_char chars _ = chars.multi_bottom
 -- one character in a label's style
 unfoldable pub label_glyph : Severity → LabelStyle → ℕ → Stream
 label_glyph severity style c =
-    style_mark (LabelStyleMark severity style) ++ glyph c ++ style_mark Reset
+    style_mark (Label severity style) ++ glyph c ++ style_mark Reset
 
 -- `n` characters of a lane: of the underline that crosses it, or spaces
 unfoldable pub crossing_characters : Severity → Chars → Option LaneMark → ℕ → Stream
 crossing_characters severity chars None n = spaces n
 crossing_characters severity chars (Some m) n =
-    style_mark (LabelStyleMark severity m.style) ++ repeated n (underline_char chars m.multi_label)
+    style_mark (Label severity m.style) ++ repeated n (underline_char chars m.multi_label)
     ++ style_mark Reset
 
 -- the two characters of a lane: a space, or one character of the underline that crosses it, and

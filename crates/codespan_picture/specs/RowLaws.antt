@@ -1,7 +1,9 @@
 -- The laws of every row.
 use Rattle.std.specs.Prelude.{◌≡◌, Bool, true, false, [], ◌∷◌, IsTrue, ℕ, not, List, count_by}
 use Rattle.codespan_picture.specs.Types.{Chars}
-use Rattle.codespan_core.specs.Streams.{Stream, StyleMark, Byte, Mark, Slot, Reset, text_of}
+use Rattle.codespan_core.specs.Streams.{Stream, Byte, Mark, Slot, text_of}
+use Rattle.codespan_core.specs.declared.term.config.style_mark.StyleMark.{StyleMark}
+use Rattle.codespan_core.specs.declared.term.config.style_mark.StyleMark.TheVariants.{Reset}
 use Rattle.codespan_core.specs.SnippetStarts.{start_text}
 use Rattle.codespan_picture.specs.Rows.{RowContext, Row}
 use Rattle.codespan_picture.specs.RowStreams.{stream_of}

@@ -4,7 +4,8 @@ use Rattle.std.specs.Prelude.{ℕ, ◌+◌, ◌-◌, Bool, true, ◌||◌, ◌&&
 use Rattle.std.specs.List.{list_any, range_with_len}
 use Rattle.codespan_picture.specs.Types.{Severity, LabelStyle, Primary, Secondary, Chars}
 use Rattle.codespan_core.specs.declared.diagnostic.Severity.TheVariants.{Bug, Error, Warning, Note, Help}
-use Rattle.codespan_core.specs.Streams.{Stream, LineNumber, SourceBorder, LabelStyleMark, Reset, style_mark, glyph, byte_stream, spaces, space, repeated}
+use Rattle.codespan_core.specs.Streams.{Stream, style_mark, glyph, byte_stream, spaces, space, repeated}
+use Rattle.codespan_core.specs.declared.term.config.style_mark.StyleMark.TheVariants.{LineNumber, SourceBorder, Label, Reset}
 use Rattle.codespan_core.specs.Labels.{LabelModel, is_primary, is_primary_style, LaneMark, MultiLabel, Top, Left, Bottom}
 use Rattle.codespan_picture.specs.declared.char_metrics.Metrics.{Metrics}
 use Rattle.codespan_picture.specs.CharMetrics.{char_metrics, char_metrics_to_end, width_of, leading_whitespace}
@@ -52,11 +53,11 @@ border_left_break chars =
 -- between two styles: the style mark of the second, or a reset for none; nothing if they are equal
 unfoldable pub style_change : Severity → Option LabelStyle → Option LabelStyle → Stream
 style_change severity None None = []
-style_change severity None (Some style) = style_mark (LabelStyleMark severity style)
+style_change severity None (Some style) = style_mark (Label severity style)
 style_change severity (Some style) None = style_mark Reset
 style_change severity (Some Primary) (Some Primary) = []
 style_change severity (Some Secondary) (Some Secondary) = []
-style_change severity (Some _) (Some style) = style_mark (LabelStyleMark severity style)
+style_change severity (Some _) (Some style) = style_mark (Label severity style)
 
 -- these characters, each as `shown` shows it and in its style; `previous` is the style before them
 abbrev pub styled : Severity
@@ -68,7 +69,7 @@ styled severity style shown previous (c ∷ cs) =
 -- a label's message in its style
 unfoldable pub label_message : Severity → LabelStyle → Stream → Stream
 label_message severity style message =
-    style_mark (LabelStyleMark severity style) ++ message ++ style_mark Reset
+    style_mark (Label severity style) ++ message ++ style_mark Reset
 
 -- ---- the lanes of a row
 

@@ -2,7 +2,8 @@
 -- unfolds them: calls that write one after another then match their parts from left to right.
 use Rattle.std.specs.Prelude.{ℕ, List, [], ◌∷◌, ◌++◌, flat_map, Option, Some, None, codes}
 use Rattle.codespan_picture.specs.Types.{Severity, Chars}
-use Rattle.codespan_core.specs.Streams.{Stream, Header, HeaderMessage, NoteBullet, SourceBorder, LabelStyleMark, Reset, style_mark, glyph, byte_stream, space, newline}
+use Rattle.codespan_core.specs.Streams.{Stream, style_mark, glyph, byte_stream, space, newline}
+use Rattle.codespan_core.specs.declared.term.config.style_mark.StyleMark.TheVariants.{Header, HeaderMessage, NoteBullet, SourceBorder, Label, Reset}
 use Rattle.codespan_core.specs.Labels.{LabelModel, LaneMark}
 use Rattle.codespan_core.specs.SnippetStarts.{start_text}
 use Rattle.codespan_picture.specs.Lanes.{Source, EmptyOrBreak, SingleLabels, Underline}
@@ -85,7 +86,7 @@ unfoldable pub underline_row : RowContext → Line → LaneMark → Stream
 underline_row context line m =
     outer_gutter context.padding ++ border_left context.chars
     ++ inner_gutter context (leading_of line) (Underline m) line.lanes
-    ++ style_mark (LabelStyleMark context.severity m.style)
+    ++ style_mark (Label context.severity m.style)
     ++ underline context.chars m.style (line_metrics context line) m.multi_label ++ style_mark Reset
 
 -- the first row of a note

@@ -2,7 +2,8 @@
 use Rattle.std.specs.Prelude.{ℕ, ◌+◌, List, [], ◌∷◌}
 use Rattle.codespan_base.specs.Diagnostics.{severity_rank}
 use Rattle.codespan_base.specs.declared.diagnostic.LabelStyle.TheVariants.{Primary, Secondary}
-use Rattle.codespan_base.specs.Streams.{StyleMark, Header, HeaderMessage, LineNumber, NoteBullet, SourceBorder, LabelStyleMark, Reset}
+use Rattle.codespan_base.specs.declared.term.config.style_mark.StyleMark.{StyleMark}
+use Rattle.codespan_base.specs.declared.term.config.style_mark.StyleMark.TheVariants.{Header, HeaderMessage, LineNumber, NoteBullet, SourceBorder, Label, Reset}
 
 -- the number of a style mark
 abbrev pub style_mark_number : StyleMark → ℕ
@@ -11,8 +12,8 @@ style_mark_number HeaderMessage = 5
 style_mark_number LineNumber = 6
 style_mark_number NoteBullet = 7
 style_mark_number SourceBorder = 8
-style_mark_number (LabelStyleMark severity Primary) = 9 + severity_rank severity
-style_mark_number (LabelStyleMark severity Secondary) = 14 + severity_rank severity
+style_mark_number (Label severity Primary) = 9 + severity_rank severity
+style_mark_number (Label severity Secondary) = 14 + severity_rank severity
 style_mark_number Reset = 19
 
 -- the bytes of the style mark of a number

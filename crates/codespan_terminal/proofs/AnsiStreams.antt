@@ -2,7 +2,9 @@
 -- `terminal::laws::safe_runs_are_as_written`.
 use Rattle.std.proofs.Common.{◌≡◌, ℕ, List, [], ◌∷◌, ◌++◌, refl, sym, ap, ◌∙◌, append_assoc, append-nil}
 use Rattle.codespan_base.specs.declared.term.config.styles.Styles.{Styles}
-use Rattle.codespan_base.specs.Streams.{Stream, StyleMark, Byte, Mark, Slot, Header, HeaderMessage, LineNumber, NoteBullet, SourceBorder, LabelStyleMark, Reset, spelled}
+use Rattle.codespan_base.specs.Streams.{Stream, Byte, Mark, Slot, spelled}
+use Rattle.codespan_base.specs.declared.term.config.style_mark.StyleMark.{StyleMark}
+use Rattle.codespan_base.specs.declared.term.config.style_mark.StyleMark.TheVariants.{Header, HeaderMessage, LineNumber, NoteBullet, SourceBorder, Label, Reset}
 use Rattle.codespan_documents.specs.declared.style.Style.{Style}
 use Rattle.codespan_documents.specs.declared.style.Style.TheVariants as run_styles
 use Rattle.codespan_documents.specs.Runs.{runs_from, runs_of, style_after}
@@ -16,7 +18,7 @@ style_mark_of-style_after HeaderMessage = refl
 style_mark_of-style_after LineNumber = refl
 style_mark_of-style_after NoteBullet = refl
 style_mark_of-style_after SourceBorder = refl
-style_mark_of-style_after (LabelStyleMark severity style) = refl
+style_mark_of-style_after (Label severity style) = refl
 style_mark_of-style_after Reset = refl
 
 -- the runs of a stream after a text in a style

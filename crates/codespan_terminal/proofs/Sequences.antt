@@ -1,6 +1,7 @@
 -- What a writer of styles holds after one style mark: for the clause of `terminal::sequences`.
 use Rattle.std.proofs.Common.{◌≡◌, ℕ, true, List, [], ◌++◌, Option, Some, sym, ap, ◌∙◌, append-nil}
-use Rattle.codespan_base.specs.Streams.{Spelling, StyleMark, style_mark, spelled}
+use Rattle.codespan_base.specs.Streams.{Spelling, style_mark, spelled}
+use Rattle.codespan_base.specs.declared.term.config.style_mark.StyleMark.{StyleMark}
 use Rattle.codespan_base.specs.WriterLaw.{Sink, are_known, extended, is_known, with_written}
 use Rattle.codespan_base.specs.Writers.{fresh_sink}
 

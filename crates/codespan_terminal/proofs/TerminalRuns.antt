@@ -15,7 +15,8 @@ use Rattle.codespan_base.specs.declared.term.config.color.ColorSpec.{ColorSpec}
 use Rattle.codespan_base.specs.declared.term.config.styles.Styles.{Styles}
 use Rattle.codespan_base.specs.Ansi.{ansi_bold, ansi_color, ansi_reset, ansi_style, color_number, escape}
 use Rattle.codespan_base.specs.StyleSpellings.{header_color_spec, label_color_spec}
-use Rattle.codespan_base.specs.Streams.{StyleMark, Header, HeaderMessage, LineNumber, NoteBullet, SourceBorder, LabelStyleMark, Reset}
+use Rattle.codespan_base.specs.declared.term.config.style_mark.StyleMark.{StyleMark}
+use Rattle.codespan_base.specs.declared.term.config.style_mark.StyleMark.TheVariants.{Header, HeaderMessage, LineNumber, NoteBullet, SourceBorder, Label, Reset}
 use Rattle.codespan_documents.specs.declared.text.Run.{Run}
 use Rattle.codespan_documents.specs.Runs.{TextsAreUtf8, RunView, run_characters, run_view}
 use Rattle.codespan_documents.specs.declared.style.Style.{Style}
@@ -120,7 +121,7 @@ ReadsText-mark styles HeaderMessage = ReadsText-style styles.header_message
 ReadsText-mark styles LineNumber = ReadsText-style styles.line_number
 ReadsText-mark styles NoteBullet = ReadsText-style styles.note_bullet
 ReadsText-mark styles SourceBorder = ReadsText-style styles.source_border
-ReadsText-mark styles (LabelStyleMark severity style) =
+ReadsText-mark styles (Label severity style) =
     ReadsText-style (label_color_spec styles severity style)
 ReadsText-mark styles Reset = ReadsText-reset
 
@@ -135,7 +136,7 @@ ReadsText-first_sequences styles run_styles.LineNumber = ReadsText-mark styles L
 ReadsText-first_sequences styles run_styles.NoteBullet = ReadsText-mark styles NoteBullet
 ReadsText-first_sequences styles run_styles.SourceBorder = ReadsText-mark styles SourceBorder
 ReadsText-first_sequences styles (run_styles.Label severity style) =
-    ReadsText-mark styles (LabelStyleMark severity style)
+    ReadsText-mark styles (Label severity style)
 
 -- the safe characters of a run and of those after it
 safe_split : (text : List ℕ) (runs : List RunView)

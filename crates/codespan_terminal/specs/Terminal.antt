@@ -5,7 +5,8 @@ use Rattle.std.specs.Int.{is_in_range}
 use Rattle.std.specs.List.{AllByRecursion, flat_map}
 use Rattle.std.specs.Str.{chars, encode_utf8_all}
 use Rattle.codespan_base.specs.StyleSpellings.{ansi_spelling}
-use Rattle.codespan_base.specs.Streams.{StyleMark, Header, HeaderMessage, LineNumber, NoteBullet, SourceBorder, LabelStyleMark, Reset}
+use Rattle.codespan_base.specs.declared.term.config.style_mark.StyleMark.{StyleMark}
+use Rattle.codespan_base.specs.declared.term.config.style_mark.StyleMark.TheVariants.{Header, HeaderMessage, LineNumber, NoteBullet, SourceBorder, Label, Reset}
 use Rattle.codespan_base.specs.declared.term.config.styles.Styles.{Styles}
 use Rattle.codespan_picture.specs.CharMetrics.{width_at}
 use Rattle.codespan_documents.specs.Runs.{RunView, run_characters}
@@ -43,7 +44,7 @@ style_mark_of run_styles.HeaderMessage = HeaderMessage
 style_mark_of run_styles.LineNumber = LineNumber
 style_mark_of run_styles.NoteBullet = NoteBullet
 style_mark_of run_styles.SourceBorder = SourceBorder
-style_mark_of (run_styles.Label severity style) = LabelStyleMark severity style
+style_mark_of (run_styles.Label severity style) = Label severity style
 
 -- a run: the escape sequences of its style, and its safe text
 abbrev pub run_bytes : Styles → RunView → List ℕ

@@ -2,7 +2,8 @@
 use Rattle.std.specs.Prelude.{ℕ, Bool, List, [], Option, codes, if◌then◌else◌}
 use Rattle.codespan_base.specs.declared.diagnostic.LabelStyle.TheVariants.{Primary, Secondary}
 use Rattle.codespan_base.specs.declared.term.config.color.ColorSpec.{ColorSpec}
-use Rattle.codespan_base.specs.Streams.{StyleMark, Header, HeaderMessage, LineNumber, NoteBullet, SourceBorder, LabelStyleMark, Reset}
+use Rattle.codespan_base.specs.declared.term.config.style_mark.StyleMark.{StyleMark}
+use Rattle.codespan_base.specs.declared.term.config.style_mark.StyleMark.TheVariants.{Header, HeaderMessage, LineNumber, NoteBullet, SourceBorder, Label, Reset}
 use Rattle.codespan_base.specs.WriterLaw.{Sink}
 
 -- the tag of a style mark
@@ -12,8 +13,8 @@ tag HeaderMessage = codes "[message]"
 tag LineNumber = codes "[number]"
 tag NoteBullet = codes "[bullet]"
 tag SourceBorder = codes "[border]"
-tag (LabelStyleMark severity Primary) = codes "[primary]"
-tag (LabelStyleMark severity Secondary) = codes "[secondary]"
+tag (Label severity Primary) = codes "[primary]"
+tag (Label severity Secondary) = codes "[secondary]"
 tag Reset = codes "[/]"
 
 -- what the law sees of a writer of tags

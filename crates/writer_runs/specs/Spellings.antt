@@ -1,6 +1,7 @@
 -- The spelling of style marks by a `SequenceWriter`.
 use Rattle.std.specs.Prelude.{ℕ, Bool, List, [], ◌∷◌, Option, codes}
-use Rattle.codespan_base.specs.Streams.{StyleMark, Header, HeaderMessage, LineNumber, NoteBullet, SourceBorder, LabelStyleMark, Reset}
+use Rattle.codespan_base.specs.declared.term.config.style_mark.StyleMark.{StyleMark}
+use Rattle.codespan_base.specs.declared.term.config.style_mark.StyleMark.TheVariants.{Header, HeaderMessage, LineNumber, NoteBullet, SourceBorder, Label, Reset}
 use Rattle.codespan_base.specs.WriterLaw.{Sink}
 
 -- the escape sequence of a style mark
@@ -10,7 +11,7 @@ sequence HeaderMessage = 0x1b ∷ codes "[2m"
 sequence LineNumber = 0x1b ∷ codes "[3m"
 sequence NoteBullet = 0x1b ∷ codes "[4m"
 sequence SourceBorder = 0x1b ∷ codes "[5m"
-sequence (LabelStyleMark severity style) = 0x1b ∷ codes "[6m"
+sequence (Label severity style) = 0x1b ∷ codes "[6m"
 sequence Reset = 0x1b ∷ codes "[0m"
 
 -- the writer, as the law of writers sees it

@@ -8,5 +8,6 @@ pub mod styles;
 pub mod styles_writer;
 
 pub use codespan_core::term::config::{
-    Config, DisplayStyle, Layout, chars, plain, plain_ref, put_style, write_style, writing,
+    Config, DisplayStyle, Layout, chars, plain, plain_ref, put_style, style_mark, write_style,
+    writing,
 };

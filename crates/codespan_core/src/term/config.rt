@@ -10,6 +10,7 @@ pub mod chars;
 pub mod plain;
 pub mod plain_ref;
 pub mod put_style;
+pub mod style_mark;
 pub mod write_style;
 pub mod writing;
 

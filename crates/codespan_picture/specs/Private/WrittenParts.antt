@@ -4,7 +4,8 @@ use Rattle.std.specs.Option.{option_map}
 use Rattle.std.specs.Borrow.{Bor}
 use Rattle.codespan_picture.specs.Types.{LabelStyle, Severity}
 use Rattle.codespan_core.specs.Labels.{has_message}
-use Rattle.codespan_core.specs.Streams.{Stream, Header, byte_stream, newline, style_mark, space}
+use Rattle.codespan_core.specs.Streams.{Stream, byte_stream, newline, style_mark, space}
+use Rattle.codespan_core.specs.declared.term.config.style_mark.StyleMark.TheVariants.{Header}
 use Rattle.codespan_picture.specs.declared.char_metrics.Metrics.{Metrics}
 use Rattle.codespan_picture.specs.CharMetrics.{char_metrics, char_metrics_to_end}
 use Rattle.codespan_picture.specs.Arguments.{SingleLabelTuple, LaneMarkTuple, single_label_view, single_label_views, lane_mark_view, locus_view, text_now}

@@ -24,6 +24,7 @@ use crate::rows::runs::{write_repeated, write_spaces};
 use codespan_core::diagnostic::{LabelStyle, Severity};
 use codespan_core::term::Chars;
 use codespan_core::term::config::put_style::PutStyle;
+use codespan_core::term::config::style_mark::StyleMark;
 use codespan_core::term::config::writing::put_all;
 
 /// Returns whether the label has a byte from the index `start` to before the index `end`.
@@ -127,9 +128,9 @@ pub fn write_message<W: PutStyle>(
     ensures { Writes (W.sink w.old) (label_message_stream severity label.now)
         result (W.sink w.new) }
 {
-    w.set_label(severity, label.0)?;
+    w.put_mark(StyleMark::Label(severity, label.0))?;
     put_all(w, label.2.as_bytes())?;
-    w.reset()
+    w.put_mark(StyleMark::Reset)
 }
 
 /// Writes a space and the trailing message, where a message trails.

@@ -15,6 +15,7 @@ use crate::arguments::Locus;
 use crate::rows::parts::{outer_gutter, snippet_locus, write_newline, write_space};
 use codespan_core::diagnostic::Severity;
 use codespan_core::term::config::put_style::PutStyle;
+use codespan_core::term::config::style_mark::StyleMark;
 use codespan_core::term::config::writing::put_all;
 use codespan_core::term::{Chars, SnippetStart};
 
@@ -71,7 +72,7 @@ fn write_header_start<W: PutStyle>(
         result (W.sink w.new) }
 {
     write_header_locus(w, locus)?;
-    w.set_header(severity)?;
+    w.put_mark(StyleMark::Header(severity))?;
     put_all(w, severity_name(severity).as_bytes())?;
     write_code(w, code)
 }
@@ -92,10 +93,10 @@ pub fn write_header<W: PutStyle>(
         result (W.sink w.new) }
 {
     write_header_start(w, locus, severity, code)?;
-    w.set_header_message()?;
+    w.put_mark(StyleMark::HeaderMessage)?;
     put_all(w, b": ")?;
     put_all(w, message.as_bytes())?;
-    w.reset()?;
+    w.put_mark(StyleMark::Reset)?;
     write_newline(w)
 }
 
@@ -125,9 +126,9 @@ pub fn write_snippet_start<W: PutStyle>(
         result (W.sink w.new) }
 {
     outer_gutter(w, padding)?;
-    w.set_source_border()?;
+    w.put_mark(StyleMark::SourceBorder)?;
     put_all(w, start_text(chars).as_bytes())?;
-    w.reset()?;
+    w.put_mark(StyleMark::Reset)?;
     write_space(w)?;
     snippet_locus(w, locus)?;
     write_newline(w)

@@ -17,6 +17,7 @@ use crate::rows::parts::write_label_glyph;
 use codespan_core::diagnostic::LabelStyle;
 use codespan_core::term::Chars;
 use codespan_core::term::config::put_style::PutStyle;
+use codespan_core::term::config::style_mark::StyleMark;
 use codespan_core::term::config::writing::{put_repeated, put_spaces};
 
 mod shapes;
@@ -88,9 +89,9 @@ fn write_crossing_characters<W: PutStyle>(
     match crossing {
         None => put_spaces(w, count),
         Some((_, style, multi_label)) => {
-            w.set_label(context.severity, style)?;
+            w.put_mark(StyleMark::Label(context.severity, style))?;
             put_repeated(w, underline_char(context.chars, multi_label), count)?;
-            w.reset()
+            w.put_mark(StyleMark::Reset)
         }
     }
 }

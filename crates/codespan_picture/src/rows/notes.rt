@@ -15,6 +15,7 @@ use crate::rows::parts::{
 };
 use codespan_core::term::Chars;
 use codespan_core::term::config::put_style::PutStyle;
+use codespan_core::term::config::style_mark::StyleMark;
 use codespan_core::term::config::writing::{put_all, put_char};
 
 /// Writes an empty row of a snippet: outer gutter, left border and inner gutter.
@@ -68,9 +69,9 @@ fn write_first_note_row<W: PutStyle>(
         result (W.sink w.new) }
 {
     outer_gutter(w, padding)?;
-    w.set_note_bullet()?;
+    w.put_mark(StyleMark::NoteBullet)?;
     put_char(w, chars.note_bullet)?;
-    w.reset()?;
+    w.put_mark(StyleMark::Reset)?;
     write_space(w)?;
     put_all(w, note_line.as_bytes())?;
     write_newline(w)

@@ -16,6 +16,7 @@ use crate::rows::runs::write_spaces;
 use codespan_core::diagnostic::{LabelStyle, Severity};
 use codespan_core::term::Chars;
 use codespan_core::term::config::put_style::PutStyle;
+use codespan_core::term::config::style_mark::StyleMark;
 use codespan_core::term::config::writing::{put_all, put_char, put_number, put_spaces};
 
 /// Writes a newline, the end of a row.
@@ -66,10 +67,10 @@ pub fn outer_gutter_number<W: PutStyle>(
 ) -> Result<(), W::Error>
     ensures { Writes (W.sink w.old) (outer_gutter_number padding number) result (W.sink w.new) }
 {
-    w.set_line_number()?;
+    w.put_mark(StyleMark::LineNumber)?;
     put_spaces(w, padding.saturating_sub(count_digits(number)))?;
     put_number(w, number)?;
-    w.reset()?;
+    w.put_mark(StyleMark::Reset)?;
     write_space(w)
 }
 
@@ -82,9 +83,9 @@ pub fn outer_gutter_number<W: PutStyle>(
 pub fn border_left<W: PutStyle>(w: &mut W, chars: &Chars<'_>) -> Result<(), W::Error>
     ensures { Writes (W.sink w.old) (border_left chars.now) result (W.sink w.new) }
 {
-    w.set_source_border()?;
+    w.put_mark(StyleMark::SourceBorder)?;
     put_char(w, chars.source_border_left)?;
-    w.reset()
+    w.put_mark(StyleMark::Reset)
 }
 
 /// Writes the left border of a break row.
@@ -95,9 +96,9 @@ pub fn border_left<W: PutStyle>(w: &mut W, chars: &Chars<'_>) -> Result<(), W::E
 pub fn border_left_break<W: PutStyle>(w: &mut W, chars: &Chars<'_>) -> Result<(), W::Error>
     ensures { Writes (W.sink w.old) (border_left_break chars.now) result (W.sink w.new) }
 {
-    w.set_source_border()?;
+    w.put_mark(StyleMark::SourceBorder)?;
     put_char(w, chars.source_border_left_break)?;
-    w.reset()
+    w.put_mark(StyleMark::Reset)
 }
 
 /// Writes one character in a label's style.
@@ -114,9 +115,9 @@ pub fn write_label_glyph<W: PutStyle>(
 ) -> Result<(), W::Error>
     ensures { Writes (W.sink w.old) (label_glyph severity style c) result (W.sink w.new) }
 {
-    w.set_label(severity, style)?;
+    w.put_mark(StyleMark::Label(severity, style))?;
     put_char(w, c)?;
-    w.reset()
+    w.put_mark(StyleMark::Reset)
 }
 
 /// Writes nothing where `style` is `previous`, else its style mark, or a reset where it is `None`.
@@ -137,8 +138,8 @@ pub fn change_style<W: PutStyle>(
         (None, None)
         | (Some(LabelStyle::Primary), Some(LabelStyle::Primary))
         | (Some(LabelStyle::Secondary), Some(LabelStyle::Secondary)) => Ok(()),
-        (Some(_), None) => w.reset(),
-        (_, Some(style)) => w.set_label(severity, style),
+        (Some(_), None) => w.put_mark(StyleMark::Reset),
+        (_, Some(style)) => w.put_mark(StyleMark::Label(severity, style)),
     }
 }
 

@@ -22,6 +22,7 @@ use crate::rows::runs::write_repeated;
 use codespan_core::diagnostic::LabelStyle;
 use codespan_core::term::Chars;
 use codespan_core::term::config::put_style::PutStyle;
+use codespan_core::term::config::style_mark::StyleMark;
 use codespan_core::term::config::writing::{put_all, put_char};
 
 /// Returns the caret under the start of a label.
@@ -137,9 +138,9 @@ fn write_underline_row<W: PutStyle>(
 {
     let (_, style, multi_label) = lane_mark;
     write_underline_row_start(w, context, line, lane_mark)?;
-    w.set_label(context.severity, style)?;
+    w.put_mark(StyleMark::Label(context.severity, style))?;
     label_multi_caret(w, context.chars, style, multi_label, width)?;
-    w.reset()?;
+    w.put_mark(StyleMark::Reset)?;
     write_newline(w)
 }
 

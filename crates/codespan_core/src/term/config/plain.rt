@@ -1,7 +1,8 @@
 //! Plain text.
 
 ghost use Rattle.std.specs.Prelude.{◌≡◌, refl};
-ghost use Rattle.codespan_core.specs.Streams.{Header, HeaderMessage, LineNumber, NoteBullet, SourceBorder, LabelStyleMark, Reset, plain_spelling, style_mark};
+ghost use Rattle.codespan_core.specs.Streams.{plain_spelling, style_mark};
+ghost use Rattle.codespan_core.specs.declared.term.config.style_mark.StyleMark.TheVariants.{Header, HeaderMessage, LineNumber, NoteBullet, SourceBorder, Label, Reset};
 ghost use Rattle.codespan_core.specs.WriterLaw.{Writes};
 ghost use Rattle.codespan_core.specs.Writers.{WritesNothing};
 
@@ -128,7 +129,7 @@ impl<W: Write> WriteStyle for PlainWriter<W> {
 
     fn set_label(&mut self, _severity: Severity, _label_style: LabelStyle) -> io::Result<()>
         ensures writes { Writes (plain_sink W.contents self.old)
-            (style_mark (LabelStyleMark _severity _label_style)) result
+            (style_mark (Label _severity _label_style)) result
             (plain_sink W.contents self.new) }
         ensures nothing { WritesNothing self.old result self.new }
     {

@@ -3,10 +3,10 @@
 ghost use Rattle.std.specs.Prelude.{◌≡◌};
 ghost use Rattle.std.specs.Io.{WritesAtMost};
 ghost use Rattle.std.specs.IoError.{error_kind};
-ghost use Rattle.codespan_core.specs.Streams.{Header, HeaderMessage, LineNumber, NoteBullet, SourceBorder, LabelStyleMark, Reset, style_mark};
+ghost use Rattle.codespan_core.specs.Streams.{style_mark};
 ghost use Rattle.codespan_core.specs.WriterLaw.{Writes, Puts};
 
-use crate::diagnostic::{LabelStyle, Severity};
+use crate::term::config::style_mark::StyleMark;
 use crate::term::config::write_style::WriteStyle;
 use std::io;
 use std::io::ErrorKind;
@@ -30,69 +30,14 @@ pub trait PutStyle {
     /// the one with [`ErrorKind::WriteZero`].
     fn write_zero() -> Self::Error;
 
-    /// Does what [`WriteStyle::set_header`] does.
+    /// Writes the style mark, as the call of [`WriteStyle`] does that writes it.
     ///
     /// # Errors
     ///
     /// The writer's error where a write fails or takes none of its bytes; a prefix of the style
     /// mark's spelling has then been written.
-    fn set_header(&mut self, severity: Severity) -> Result<(), Self::Error>
-        ensures { Writes (sink self.old) (style_mark (Header severity)) result (sink self.new) };
-
-    /// Does what [`WriteStyle::set_header_message`] does.
-    ///
-    /// # Errors
-    ///
-    /// The writer's error where a write fails or takes none of its bytes; a prefix of the style
-    /// mark's spelling has then been written.
-    fn set_header_message(&mut self) -> Result<(), Self::Error>
-        ensures { Writes (sink self.old) (style_mark HeaderMessage) result (sink self.new) };
-
-    /// Does what [`WriteStyle::set_line_number`] does.
-    ///
-    /// # Errors
-    ///
-    /// The writer's error where a write fails or takes none of its bytes; a prefix of the style
-    /// mark's spelling has then been written.
-    fn set_line_number(&mut self) -> Result<(), Self::Error>
-        ensures { Writes (sink self.old) (style_mark LineNumber) result (sink self.new) };
-
-    /// Does what [`WriteStyle::set_note_bullet`] does.
-    ///
-    /// # Errors
-    ///
-    /// The writer's error where a write fails or takes none of its bytes; a prefix of the style
-    /// mark's spelling has then been written.
-    fn set_note_bullet(&mut self) -> Result<(), Self::Error>
-        ensures { Writes (sink self.old) (style_mark NoteBullet) result (sink self.new) };
-
-    /// Does what [`WriteStyle::set_source_border`] does.
-    ///
-    /// # Errors
-    ///
-    /// The writer's error where a write fails or takes none of its bytes; a prefix of the style
-    /// mark's spelling has then been written.
-    fn set_source_border(&mut self) -> Result<(), Self::Error>
-        ensures { Writes (sink self.old) (style_mark SourceBorder) result (sink self.new) };
-
-    /// Does what [`WriteStyle::set_label`] does.
-    ///
-    /// # Errors
-    ///
-    /// The writer's error where a write fails or takes none of its bytes; a prefix of the style
-    /// mark's spelling has then been written.
-    fn set_label(&mut self, severity: Severity, label_style: LabelStyle) -> Result<(), Self::Error>
-        ensures { Writes (sink self.old) (style_mark (LabelStyleMark severity label_style))
-            result (sink self.new) };
-
-    /// Does what [`WriteStyle::reset`] does.
-    ///
-    /// # Errors
-    ///
-    /// The writer's error where a write fails or takes none of its bytes; a prefix of the style
-    /// mark's spelling has then been written.
-    fn reset(&mut self) -> Result<(), Self::Error>
-        ensures { Writes (sink self.old) (style_mark Reset) result (sink self.new) };
+    fn put_mark(&mut self, mark: StyleMark) -> Result<(), Self::Error>
+        ensures { Writes (sink self.old) (style_mark mark) result (sink self.new) };
 
     /// Does what [`WriteStyle::put`] does.
     ///
@@ -116,38 +61,16 @@ impl<W: WriteStyle> PutStyle for W {
     }
 
     #[inline(always)]
-    fn set_header(&mut self, severity: Severity) -> io::Result<()> {
-        WriteStyle::set_header(self, severity)
-    }
-
-    #[inline(always)]
-    fn set_header_message(&mut self) -> io::Result<()> {
-        WriteStyle::set_header_message(self)
-    }
-
-    #[inline(always)]
-    fn set_line_number(&mut self) -> io::Result<()> {
-        WriteStyle::set_line_number(self)
-    }
-
-    #[inline(always)]
-    fn set_note_bullet(&mut self) -> io::Result<()> {
-        WriteStyle::set_note_bullet(self)
-    }
-
-    #[inline(always)]
-    fn set_source_border(&mut self) -> io::Result<()> {
-        WriteStyle::set_source_border(self)
-    }
-
-    #[inline(always)]
-    fn set_label(&mut self, severity: Severity, label_style: LabelStyle) -> io::Result<()> {
-        WriteStyle::set_label(self, severity, label_style)
-    }
-
-    #[inline(always)]
-    fn reset(&mut self) -> io::Result<()> {
-        WriteStyle::reset(self)
+    fn put_mark(&mut self, mark: StyleMark) -> io::Result<()> {
+        match mark {
+            StyleMark::Header(severity) => self.set_header(severity),
+            StyleMark::HeaderMessage => self.set_header_message(),
+            StyleMark::LineNumber => self.set_line_number(),
+            StyleMark::NoteBullet => self.set_note_bullet(),
+            StyleMark::SourceBorder => self.set_source_border(),
+            StyleMark::Label(severity, label_style) => self.set_label(severity, label_style),
+            StyleMark::Reset => self.reset(),
+        }
     }
 
     #[inline(always)]

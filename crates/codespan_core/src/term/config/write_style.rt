@@ -1,7 +1,8 @@
 //! Writers of bytes and style marks.
 
 ghost use Rattle.std.specs.Io.{WritesAtMost};
-ghost use Rattle.codespan_core.specs.Streams.{Header, HeaderMessage, LineNumber, NoteBullet, SourceBorder, LabelStyleMark, Reset, style_mark};
+ghost use Rattle.codespan_core.specs.Streams.{style_mark};
+ghost use Rattle.codespan_core.specs.declared.term.config.style_mark.StyleMark.TheVariants.{Header, HeaderMessage, LineNumber, NoteBullet, SourceBorder, Label, Reset};
 ghost use Rattle.codespan_core.specs.WriterLaw.{Writes, Puts};
 
 use crate::diagnostic::{LabelStyle, Severity};
@@ -129,7 +130,7 @@ pub trait WriteStyle: Write {
     /// An [`io::Error`] where a write fails or takes none of its bytes; a prefix of the style
     /// mark's spelling has then been written.
     fn set_label(&mut self, severity: Severity, label_style: LabelStyle) -> io::Result<()>
-        ensures { Writes (sink self.old) (style_mark (LabelStyleMark severity label_style))
+        ensures { Writes (sink self.old) (style_mark (Label severity label_style))
             result (sink self.new) };
 
     /// Writes the style mark that ends the style. A style mark also ends the style before it: there

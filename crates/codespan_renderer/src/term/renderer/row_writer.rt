@@ -4,10 +4,10 @@ ghost use Rattle.std.specs.Prelude.{◌≡◌, IfErr};
 ghost use Rattle.codespan_core.specs.Errors.{IsIo};
 ghost use Rattle.codespan_renderer.specs.Private.RowWriters.{SameOutcome};
 
-use codespan_core::diagnostic::{LabelStyle, Severity};
 use codespan_core::files::Error;
 use codespan_core::term::WriteStyle;
 use codespan_core::term::config::put_style::PutStyle;
+use codespan_core::term::config::style_mark::StyleMark;
 use std::cell::Cell;
 use std::io;
 use std::io::ErrorKind;
@@ -93,41 +93,8 @@ impl<W: WriteStyle> PutStyle for RowWriter<'_, W> {
     }
 
     #[inline(always)]
-    fn set_header(&mut self, severity: Severity) -> Result<(), Failed> {
-        save(self.saved, WriteStyle::set_header(self.inner, severity))
-    }
-
-    #[inline(always)]
-    fn set_header_message(&mut self) -> Result<(), Failed> {
-        save(self.saved, WriteStyle::set_header_message(self.inner))
-    }
-
-    #[inline(always)]
-    fn set_line_number(&mut self) -> Result<(), Failed> {
-        save(self.saved, WriteStyle::set_line_number(self.inner))
-    }
-
-    #[inline(always)]
-    fn set_note_bullet(&mut self) -> Result<(), Failed> {
-        save(self.saved, WriteStyle::set_note_bullet(self.inner))
-    }
-
-    #[inline(always)]
-    fn set_source_border(&mut self) -> Result<(), Failed> {
-        save(self.saved, WriteStyle::set_source_border(self.inner))
-    }
-
-    #[inline(always)]
-    fn set_label(&mut self, severity: Severity, label_style: LabelStyle) -> Result<(), Failed> {
-        save(
-            self.saved,
-            WriteStyle::set_label(self.inner, severity, label_style),
-        )
-    }
-
-    #[inline(always)]
-    fn reset(&mut self) -> Result<(), Failed> {
-        save(self.saved, WriteStyle::reset(self.inner))
+    fn put_mark(&mut self, mark: StyleMark) -> Result<(), Failed> {
+        save(self.saved, self.inner.put_mark(mark))
     }
 
     #[inline(always)]

@@ -1,4 +1,4 @@
-use Rattle.codespan_base.specs.Streams.{NoteBullet}
+use Rattle.codespan_base.specs.declared.term.config.style_mark.StyleMark.TheVariants.{NoteBullet}
 use Rattle.codespan_base.proofs.StyleMarks.{Writes-style_mark}
 use Rattle.codespan_native.specs.StyleMarkWriters.{style_mark_writer_sink}
 use Rattle.codespan_native.proofs.style_mark_writer.StyleMarkWriterWriteStyle.set_note_bullet.Goals as goal

@@ -10,15 +10,15 @@ returns-in_err-write_header_start g c =
     (failed-before _
     (failed-before _ (failed-before _ (failed-before _ c.in_err-write_header_start.ensures)))))
 
-pub returns-in_err-set_header_message : goal.returns-in_err-set_header_message
+pub returns-in_err-put_mark : goal.returns-in_err-put_mark
 unfolding header_row
-returns-in_err-set_header_message g c =
-    failed _ _ _ _ _ c.from_residual-in_err-set_header_message.ensures.1
+returns-in_err-put_mark g c =
+    failed _ _ _ _ _ c.from_residual-in_err-put_mark.ensures.1
     (failed-before _
     (failed-before _
     (failed-before _
     (failed-before _
-    (failed-then _ c.in_ok-write_header_start.ensures c.in_err-set_header_message.ensures)))))
+    (failed-then _ c.in_ok-write_header_start.ensures c.in_err-put_mark.ensures)))))
 
 pub returns-in_err-put_all : goal.returns-in_err-put_all
 unfolding header_row
@@ -28,7 +28,7 @@ returns-in_err-put_all g c =
     (failed-before _
     (failed-before _
     (failed-then _
-    (written-then _ _ _ c.in_ok-write_header_start.ensures c.in_ok-set_header_message.ensures)
+    (written-then _ _ _ c.in_ok-write_header_start.ensures c.in_ok-put_mark.ensures)
     c.in_err-put_all.ensures))))
 
 pub returns-in_err-put_all-2 : goal.returns-in_err-put_all-2
@@ -39,22 +39,22 @@ returns-in_err-put_all-2 g c =
     (failed-before _
     (failed-then _
     (written-then _ _ _
-    (written-then _ _ _ c.in_ok-write_header_start.ensures c.in_ok-set_header_message.ensures)
+    (written-then _ _ _ c.in_ok-write_header_start.ensures c.in_ok-put_mark.ensures)
     c.in_ok-put_all.ensures)
     (rw c.as_bytes.ensures.value at c.in_err-put_all-2.ensures))))
 
-pub returns-in_err-reset : goal.returns-in_err-reset
+pub returns-in_err-put_mark-2 : goal.returns-in_err-put_mark-2
 unfolding header_row
-returns-in_err-reset g c =
-    failed _ _ _ _ _ c.from_residual-in_err-reset.ensures.1
+returns-in_err-put_mark-2 g c =
+    failed _ _ _ _ _ c.from_residual-in_err-put_mark-2.ensures.1
     (failed-before _
     (failed-then _
     (written-then _ _ _
     (written-then _ _ _
-    (written-then _ _ _ c.in_ok-write_header_start.ensures c.in_ok-set_header_message.ensures)
+    (written-then _ _ _ c.in_ok-write_header_start.ensures c.in_ok-put_mark.ensures)
     c.in_ok-put_all.ensures)
     (rw c.as_bytes.ensures.value at c.in_ok-put_all-2.ensures))
-    c.in_err-reset.ensures))
+    c.in_err-put_mark-2.ensures))
 
 pub returns : goal.returns
 unfolding header_row
@@ -63,8 +63,8 @@ returns g c =
     (written-then _ _ _
     (written-then _ _ _
     (written-then _ _ _
-    (written-then _ _ _ c.in_ok-write_header_start.ensures c.in_ok-set_header_message.ensures)
+    (written-then _ _ _ c.in_ok-write_header_start.ensures c.in_ok-put_mark.ensures)
     c.in_ok-put_all.ensures)
     (rw c.as_bytes.ensures.value at c.in_ok-put_all-2.ensures))
-    c.in_ok-reset.ensures)
+    c.in_ok-put_mark-2.ensures)
     c.write_newline.ensures

@@ -11,16 +11,16 @@ returns-in_err-outer_gutter g c =
     (failed-before _
     (failed-before _ (failed-before _ (failed-before _ c.in_err-outer_gutter.ensures))))))
 
-pub returns-in_err-set_source_border : goal.returns-in_err-set_source_border
+pub returns-in_err-put_mark : goal.returns-in_err-put_mark
 unfolding snippet_start_row
-returns-in_err-set_source_border g c =
-    failed _ _ _ _ _ c.from_residual-in_err-set_source_border.ensures.1
+returns-in_err-put_mark g c =
+    failed _ _ _ _ _ c.from_residual-in_err-put_mark.ensures.1
     (failed-before _
     (failed-before _
     (failed-before _
     (failed-before _
     (failed-before _
-    (failed-then _ c.in_ok-outer_gutter.ensures c.in_err-set_source_border.ensures))))))
+    (failed-then _ c.in_ok-outer_gutter.ensures c.in_err-put_mark.ensures))))))
 
 pub returns-in_err-put_all : goal.returns-in_err-put_all
 unfolding snippet_start_row
@@ -31,21 +31,21 @@ returns-in_err-put_all g c =
     (failed-before _
     (failed-before _
     (failed-then _
-    (written-then _ _ _ c.in_ok-outer_gutter.ensures c.in_ok-set_source_border.ensures)
+    (written-then _ _ _ c.in_ok-outer_gutter.ensures c.in_ok-put_mark.ensures)
     (rw (c.as_bytes.ensures.value, c.start_text.ensures) at c.in_err-put_all.ensures))))))
 
-pub returns-in_err-reset : goal.returns-in_err-reset
+pub returns-in_err-put_mark-2 : goal.returns-in_err-put_mark-2
 unfolding snippet_start_row
-returns-in_err-reset g c =
-    failed _ _ _ _ _ c.from_residual-in_err-reset.ensures.1
+returns-in_err-put_mark-2 g c =
+    failed _ _ _ _ _ c.from_residual-in_err-put_mark-2.ensures.1
     (failed-before _
     (failed-before _
     (failed-before _
     (failed-then _
     (written-then _ _ _
-    (written-then _ _ _ c.in_ok-outer_gutter.ensures c.in_ok-set_source_border.ensures)
+    (written-then _ _ _ c.in_ok-outer_gutter.ensures c.in_ok-put_mark.ensures)
     (rw (c.as_bytes.ensures.value, c.start_text.ensures) at c.in_ok-put_all.ensures))
-    c.in_err-reset.ensures))))
+    c.in_err-put_mark-2.ensures))))
 
 pub returns-in_err-write_space : goal.returns-in_err-write_space
 unfolding snippet_start_row
@@ -56,9 +56,9 @@ returns-in_err-write_space g c =
     (failed-then _
     (written-then _ _ _
     (written-then _ _ _
-    (written-then _ _ _ c.in_ok-outer_gutter.ensures c.in_ok-set_source_border.ensures)
+    (written-then _ _ _ c.in_ok-outer_gutter.ensures c.in_ok-put_mark.ensures)
     (rw (c.as_bytes.ensures.value, c.start_text.ensures) at c.in_ok-put_all.ensures))
-    c.in_ok-reset.ensures)
+    c.in_ok-put_mark-2.ensures)
     c.in_err-write_space.ensures)))
 
 pub returns-in_err-snippet_locus : goal.returns-in_err-snippet_locus
@@ -70,9 +70,9 @@ returns-in_err-snippet_locus g c =
     (written-then _ _ _
     (written-then _ _ _
     (written-then _ _ _
-    (written-then _ _ _ c.in_ok-outer_gutter.ensures c.in_ok-set_source_border.ensures)
+    (written-then _ _ _ c.in_ok-outer_gutter.ensures c.in_ok-put_mark.ensures)
     (rw (c.as_bytes.ensures.value, c.start_text.ensures) at c.in_ok-put_all.ensures))
-    c.in_ok-reset.ensures)
+    c.in_ok-put_mark-2.ensures)
     c.in_ok-write_space.ensures)
     c.in_err-snippet_locus.ensures))
 
@@ -84,9 +84,9 @@ returns g c =
     (written-then _ _ _
     (written-then _ _ _
     (written-then _ _ _
-    (written-then _ _ _ c.in_ok-outer_gutter.ensures c.in_ok-set_source_border.ensures)
+    (written-then _ _ _ c.in_ok-outer_gutter.ensures c.in_ok-put_mark.ensures)
     (rw (c.as_bytes.ensures.value, c.start_text.ensures) at c.in_ok-put_all.ensures))
-    c.in_ok-reset.ensures)
+    c.in_ok-put_mark-2.ensures)
     c.in_ok-write_space.ensures)
     c.in_ok-snippet_locus.ensures)
     c.write_newline.ensures

@@ -11,16 +11,16 @@ returns-in_err-outer_gutter g c =
     (failed-before _
     (failed-before _ (failed-before _ (failed-before _ c.in_err-outer_gutter.ensures))))))
 
-pub returns-in_err-set_note_bullet : goal.returns-in_err-set_note_bullet
+pub returns-in_err-put_mark : goal.returns-in_err-put_mark
 unfolding first_note_row
-returns-in_err-set_note_bullet g c =
-    failed _ _ _ _ _ c.from_residual-in_err-set_note_bullet.ensures.1
+returns-in_err-put_mark g c =
+    failed _ _ _ _ _ c.from_residual-in_err-put_mark.ensures.1
     (failed-before _
     (failed-before _
     (failed-before _
     (failed-before _
     (failed-before _
-    (failed-then _ c.in_ok-outer_gutter.ensures c.in_err-set_note_bullet.ensures))))))
+    (failed-then _ c.in_ok-outer_gutter.ensures c.in_err-put_mark.ensures))))))
 
 pub returns-in_err-put_char : goal.returns-in_err-put_char
 unfolding first_note_row
@@ -30,21 +30,21 @@ returns-in_err-put_char g c =
     (failed-before _
     (failed-before _
     (failed-before _
-    (failed-then _ (written-then _ _ _ c.in_ok-outer_gutter.ensures c.in_ok-set_note_bullet.ensures)
+    (failed-then _ (written-then _ _ _ c.in_ok-outer_gutter.ensures c.in_ok-put_mark.ensures)
     c.in_err-put_char.ensures)))))
 
-pub returns-in_err-reset : goal.returns-in_err-reset
+pub returns-in_err-put_mark-2 : goal.returns-in_err-put_mark-2
 unfolding first_note_row
-returns-in_err-reset g c =
-    failed _ _ _ _ _ c.from_residual-in_err-reset.ensures.1
+returns-in_err-put_mark-2 g c =
+    failed _ _ _ _ _ c.from_residual-in_err-put_mark-2.ensures.1
     (failed-before _
     (failed-before _
     (failed-before _
     (failed-then _
     (written-then _ _ _
-    (written-then _ _ _ c.in_ok-outer_gutter.ensures c.in_ok-set_note_bullet.ensures)
+    (written-then _ _ _ c.in_ok-outer_gutter.ensures c.in_ok-put_mark.ensures)
     c.in_ok-put_char.ensures)
-    c.in_err-reset.ensures))))
+    c.in_err-put_mark-2.ensures))))
 
 pub returns-in_err-write_space : goal.returns-in_err-write_space
 unfolding first_note_row
@@ -55,9 +55,9 @@ returns-in_err-write_space g c =
     (failed-then _
     (written-then _ _ _
     (written-then _ _ _
-    (written-then _ _ _ c.in_ok-outer_gutter.ensures c.in_ok-set_note_bullet.ensures)
+    (written-then _ _ _ c.in_ok-outer_gutter.ensures c.in_ok-put_mark.ensures)
     c.in_ok-put_char.ensures)
-    c.in_ok-reset.ensures)
+    c.in_ok-put_mark-2.ensures)
     c.in_err-write_space.ensures)))
 
 pub returns-in_err-put_all : goal.returns-in_err-put_all
@@ -69,9 +69,9 @@ returns-in_err-put_all g c =
     (written-then _ _ _
     (written-then _ _ _
     (written-then _ _ _
-    (written-then _ _ _ c.in_ok-outer_gutter.ensures c.in_ok-set_note_bullet.ensures)
+    (written-then _ _ _ c.in_ok-outer_gutter.ensures c.in_ok-put_mark.ensures)
     c.in_ok-put_char.ensures)
-    c.in_ok-reset.ensures)
+    c.in_ok-put_mark-2.ensures)
     c.in_ok-write_space.ensures)
     (rw c.as_bytes.ensures.value at c.in_err-put_all.ensures)))
 
@@ -83,9 +83,9 @@ returns g c =
     (written-then _ _ _
     (written-then _ _ _
     (written-then _ _ _
-    (written-then _ _ _ c.in_ok-outer_gutter.ensures c.in_ok-set_note_bullet.ensures)
+    (written-then _ _ _ c.in_ok-outer_gutter.ensures c.in_ok-put_mark.ensures)
     c.in_ok-put_char.ensures)
-    c.in_ok-reset.ensures)
+    c.in_ok-put_mark-2.ensures)
     c.in_ok-write_space.ensures)
     (rw c.as_bytes.ensures.value at c.in_ok-put_all.ensures))
     c.write_newline.ensures

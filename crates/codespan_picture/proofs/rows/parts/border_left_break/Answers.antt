@@ -2,20 +2,20 @@ use Rattle.codespan_core.proofs.Chains.{written-then, failed-then, failed-before
 use Rattle.codespan_picture.specs.RowParts.{border_left_break}
 use Rattle.codespan_picture.proofs.rows.parts.border_left_break.Goals as goal
 
-pub returns-in_err-set_source_border : goal.returns-in_err-set_source_border
+pub returns-in_err-put_mark : goal.returns-in_err-put_mark
 unfolding border_left_break
-returns-in_err-set_source_border g c =
+returns-in_err-put_mark g c =
     failed _ _ _ _ _ c.from_residual.ensures.1
-    (failed-before _ (failed-before _ c.in_err-set_source_border.ensures))
+    (failed-before _ (failed-before _ c.in_err-put_mark.ensures))
 
 pub returns-in_err-put_char : goal.returns-in_err-put_char
 unfolding border_left_break
 returns-in_err-put_char g c =
     failed _ _ _ _ _ c.from_residual-in_err-put_char.ensures.1
-    (failed-before _ (failed-then _ c.in_ok-set_source_border.ensures c.in_err-put_char.ensures))
+    (failed-before _ (failed-then _ c.in_ok-put_mark.ensures c.in_err-put_char.ensures))
 
 pub returns : goal.returns
 unfolding border_left_break
 returns g c =
     writes-last _ _ _ _ _
-    (written-then _ _ _ c.in_ok-set_source_border.ensures c.in_ok-put_char.ensures) c.reset.ensures
+    (written-then _ _ _ c.in_ok-put_mark.ensures c.in_ok-put_char.ensures) c.put_mark-2.ensures

@@ -2,12 +2,12 @@ use Rattle.codespan_core.proofs.Chains.{written-then, failed-then, failed-before
 use Rattle.codespan_picture.specs.RowParts.{outer_gutter_number}
 use Rattle.codespan_picture.proofs.rows.parts.outer_gutter_number.Goals as goal
 
-pub returns-in_err-set_line_number : goal.returns-in_err-set_line_number
+pub returns-in_err-put_mark : goal.returns-in_err-put_mark
 unfolding outer_gutter_number
-returns-in_err-set_line_number g c =
+returns-in_err-put_mark g c =
     failed _ _ _ _ _ c.from_residual.ensures.1
     (failed-before _
-    (failed-before _ (failed-before _ (failed-before _ c.in_err-set_line_number.ensures))))
+    (failed-before _ (failed-before _ (failed-before _ c.in_err-put_mark.ensures))))
 
 pub returns-in_err-put_spaces : goal.returns-in_err-put_spaces
 unfolding outer_gutter_number
@@ -16,7 +16,7 @@ returns-in_err-put_spaces g c =
     (failed-before _
     (failed-before _
     (failed-before _
-    (failed-then _ c.in_ok-set_line_number.ensures
+    (failed-then _ c.in_ok-put_mark.ensures
     (rw (c.saturating_sub.ensures, c.count_digits.ensures) at c.in_err-put_spaces.ensures)))))
 
 pub returns-in_err-put_number : goal.returns-in_err-put_number
@@ -26,21 +26,21 @@ returns-in_err-put_number g c =
     (failed-before _
     (failed-before _
     (failed-then _
-    (written-then _ _ _ c.in_ok-set_line_number.ensures
+    (written-then _ _ _ c.in_ok-put_mark.ensures
     (rw (c.saturating_sub.ensures, c.count_digits.ensures) at c.in_ok-put_spaces.ensures))
     c.in_err-put_number.ensures)))
 
-pub returns-in_err-reset : goal.returns-in_err-reset
+pub returns-in_err-put_mark-2 : goal.returns-in_err-put_mark-2
 unfolding outer_gutter_number
-returns-in_err-reset g c =
-    failed _ _ _ _ _ c.from_residual-in_err-reset.ensures.1
+returns-in_err-put_mark-2 g c =
+    failed _ _ _ _ _ c.from_residual-in_err-put_mark-2.ensures.1
     (failed-before _
     (failed-then _
     (written-then _ _ _
-    (written-then _ _ _ c.in_ok-set_line_number.ensures
+    (written-then _ _ _ c.in_ok-put_mark.ensures
     (rw (c.saturating_sub.ensures, c.count_digits.ensures) at c.in_ok-put_spaces.ensures))
     c.in_ok-put_number.ensures)
-    c.in_err-reset.ensures))
+    c.in_err-put_mark-2.ensures))
 
 pub returns : goal.returns
 unfolding outer_gutter_number
@@ -48,8 +48,8 @@ returns g c =
     writes-last _ _ _ _ _
     (written-then _ _ _
     (written-then _ _ _
-    (written-then _ _ _ c.in_ok-set_line_number.ensures
+    (written-then _ _ _ c.in_ok-put_mark.ensures
     (rw (c.saturating_sub.ensures, c.count_digits.ensures) at c.in_ok-put_spaces.ensures))
     c.in_ok-put_number.ensures)
-    c.in_ok-reset.ensures)
+    c.in_ok-put_mark-2.ensures)
     c.write_space.ensures

@@ -12,14 +12,14 @@ returns-in_err-write_underline_row_start g c =
     (failed-before _
     (failed-before _ (failed-before _ (failed-before _ c.in_err-write_underline_row_start.ensures))))
 
-pub returns-in_err-set_label : goal.returns-in_err-set_label
+pub returns-in_err-put_mark : goal.returns-in_err-put_mark
 unfolding underline_row
-returns-in_err-set_label g c =
-    failed _ _ _ _ _ c.from_residual-in_err-set_label.ensures.1
+returns-in_err-put_mark g c =
+    failed _ _ _ _ _ c.from_residual-in_err-put_mark.ensures.1
     (failed-before _
     (failed-before _
     (failed-before _
-    (failed-then _ c.in_ok-write_underline_row_start.ensures c.in_err-set_label.ensures))))
+    (failed-then _ c.in_ok-write_underline_row_start.ensures c.in_err-put_mark.ensures))))
 
 pub returns-in_err-label_multi_caret : goal.returns-in_err-label_multi_caret
 unfolding underline_row
@@ -32,23 +32,23 @@ returns-in_err-label_multi_caret g c =
     (failed-before _
     (failed-before _
     (failed-then _
-    (written-then _ _ _ c.in_ok-write_underline_row_start.ensures c.in_ok-set_label.ensures)
+    (written-then _ _ _ c.in_ok-write_underline_row_start.ensures c.in_ok-put_mark.ensures)
     c.in_err-label_multi_caret.ensures))))
 
-pub returns-in_err-reset : goal.returns-in_err-reset
+pub returns-in_err-put_mark-2 : goal.returns-in_err-put_mark-2
 unfolding underline_row
-returns-in_err-reset g c =
+returns-in_err-put_mark-2 g c =
     rw
     (underline-runs c.args.context.chars.now c.args.lane_mark.1 c.args.width
     (char_metrics c.args.context.tab_width c.args.line.text.now)
     (multi_label_view c.args.lane_mark.2) c.requires)
-    (failed _ _ _ _ _ c.from_residual-in_err-reset.ensures.1
+    (failed _ _ _ _ _ c.from_residual-in_err-put_mark-2.ensures.1
     (failed-before _
     (failed-then _
     (written-then _ _ _
-    (written-then _ _ _ c.in_ok-write_underline_row_start.ensures c.in_ok-set_label.ensures)
+    (written-then _ _ _ c.in_ok-write_underline_row_start.ensures c.in_ok-put_mark.ensures)
     c.in_ok-label_multi_caret.ensures)
-    c.in_err-reset.ensures)))
+    c.in_err-put_mark-2.ensures)))
 
 pub returns : goal.returns
 unfolding underline_row
@@ -60,7 +60,7 @@ returns g c =
     (writes-last _ _ _ _ _
     (written-then _ _ _
     (written-then _ _ _
-    (written-then _ _ _ c.in_ok-write_underline_row_start.ensures c.in_ok-set_label.ensures)
+    (written-then _ _ _ c.in_ok-write_underline_row_start.ensures c.in_ok-put_mark.ensures)
     c.in_ok-label_multi_caret.ensures)
-    c.in_ok-reset.ensures)
+    c.in_ok-put_mark-2.ensures)
     c.write_newline.ensures)

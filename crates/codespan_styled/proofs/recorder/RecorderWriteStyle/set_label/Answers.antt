@@ -1,4 +1,4 @@
-use Rattle.codespan_base.specs.Streams.{LabelStyleMark}
+use Rattle.codespan_base.specs.declared.term.config.style_mark.StyleMark.TheVariants.{Label}
 use Rattle.codespan_base.proofs.StyleMarks.{Writes-style_mark}
 use Rattle.codespan_styled.specs.Private.Recorded.{recorder_sink}
 use Rattle.codespan_styled.proofs.recorder.RecorderWriteStyle.set_label.Goals as goal
@@ -7,5 +7,5 @@ use Rattle.codespan_styled.proofs.recorder.RecorderWriteStyle.set_label.Goals as
 pub returns : goal.returns
 returns c =
     Writes-style_mark (recorder_sink c.args.self.now)
-    (LabelStyleMark c.args.severity c.args.label_style) c.start.result
+    (Label c.args.severity c.args.label_style) c.start.result
     (recorder_sink c.start.new.self) c.start.ensures

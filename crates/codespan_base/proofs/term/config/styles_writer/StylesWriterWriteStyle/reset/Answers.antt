@@ -1,4 +1,4 @@
-use Rattle.codespan_core.specs.Streams.{Reset}
+use Rattle.codespan_core.specs.declared.term.config.style_mark.StyleMark.TheVariants.{Reset}
 use Rattle.codespan_core.proofs.StyleMarks.{Writes-style_mark}
 use Rattle.codespan_base.proofs.term.config.styles_writer.StylesWriterWriteStyle.reset.Goals as goal
 

@@ -1,4 +1,4 @@
-use Rattle.codespan_core.specs.Streams.{HeaderMessage}
+use Rattle.codespan_core.specs.declared.term.config.style_mark.StyleMark.TheVariants.{HeaderMessage}
 use Rattle.codespan_core.proofs.StyleMarks.{Writes-style_mark}
 use Rattle.codespan_base.proofs.term.config.styles_writer.StylesWriterWriteStyle.set_header_message.Goals as goal
 

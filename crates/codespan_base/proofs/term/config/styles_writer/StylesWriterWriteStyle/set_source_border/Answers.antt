@@ -1,4 +1,4 @@
-use Rattle.codespan_core.specs.Streams.{SourceBorder}
+use Rattle.codespan_core.specs.declared.term.config.style_mark.StyleMark.TheVariants.{SourceBorder}
 use Rattle.codespan_core.proofs.StyleMarks.{Writes-style_mark}
 use Rattle.codespan_base.proofs.term.config.styles_writer.StylesWriterWriteStyle.set_source_border.Goals as goal
 

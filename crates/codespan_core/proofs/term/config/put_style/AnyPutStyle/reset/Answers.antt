@@ -1,5 +1,0 @@
-use Rattle.codespan_core.proofs.term.config.put_style.AnyPutStyle.reset.Goals as goal
-
--- the call that was passed on keeps the law
-pub returns : goal.returns
-returns g c = search

@@ -1,6 +1,0 @@
-use Rattle.codespan_renderer.proofs.ThroughReference.{writes_through}
-use Rattle.codespan_renderer.proofs.RowWriters.{writes_as}
-use Rattle.codespan_renderer.proofs.term.renderer.row_writer.RowWriterPutStyle.set_header.Goals as goal
-
-pub returns : goal.returns
-returns g c = writes_as _ _ _ _ _ c.save.ensures (writes_through _ _ _ _ _ c.set_header.ensures)
