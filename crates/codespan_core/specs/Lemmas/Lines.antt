@@ -147,8 +147,6 @@ starts_after_run bs i j ordered within others =
     let e : j ≡ i + (j - i) = omega arith in
     rw e (starts_after_others bs i (j - i) (omega arith) (λ k low high. others k low (omega arith)))
 
-pub ruleset starts_steps = (starts_after_newline, starts_after_other, starts_after_end)
-
 -- a byte's line is a line
 pub line_of_below : (starts : List ℕ) (byte : ℕ) → 0 < length starts
     → line_of starts byte < length starts
