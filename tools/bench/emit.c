@@ -1,5 +1,6 @@
-/* emit BYTES TIMES: renders a diagnostic with one label, in the middle of a file of so many bytes in lines of 38, by `codespan_emit`, so many times. The last
- * output is written to standard output. */
+/* emit BYTES TIMES: renders a diagnostic with one label by `codespan_emit`, so many times. The
+ * label is in the middle of a file of so many bytes, in lines of 38. The last output is written to
+ * standard output. */
 #include <codespan.h>
 #include <stdio.h>
 #include <stdlib.h>
@@ -24,8 +25,10 @@ int main(int count, char **arguments) {
     codespan_text text = {(const uint8_t *)source, length};
     codespan_file file = codespan_new_file(codespan_text_from("f"), text);
     size_t start = length / LINE / 2 * LINE;
-    codespan_label label = codespan_new_label(CODESPAN_PRIMARY, 0, start + 4, start + 9, codespan_text_from("here"));
-    codespan_diagnostic diagnostic = codespan_new_diagnostic(CODESPAN_ERROR, codespan_text_from(""));
+    codespan_label label = codespan_new_label(CODESPAN_PRIMARY, 0, start + 4, start + 9,
+                                              codespan_text_from("here"));
+    codespan_diagnostic diagnostic =
+        codespan_new_diagnostic(CODESPAN_ERROR, codespan_text_from(""));
     diagnostic.labels = &label;
     diagnostic.labels_length = 1;
     codespan_config config = codespan_default_config();
@@ -33,7 +36,9 @@ int main(int count, char **arguments) {
     size_t written = 0;
     codespan_detail detail;
     for (unsigned long times = strtoul(arguments[2], NULL, 10); times > 0; times--) {
-        if (codespan_emit(&file, 1, &diagnostic, &config, out, sizeof out, &written, &detail) != CODESPAN_OK) {
+        uint32_t status =
+            codespan_emit(&file, 1, &diagnostic, &config, out, sizeof out, &written, &detail);
+        if (status != CODESPAN_OK) {
             return 1;
         }
     }
