@@ -14,7 +14,7 @@ use codespan_base::term::{Config, DisplayStyle, Styles};
 use codespan_lsp::{DiagnosticSeverity, LspDiagnostic, Position, Range, to_lsp_diagnostics};
 use codespan_styled::terminal::safe_text;
 use codespan_styled::{
-    Run, Style, StyledText, html_styles, styled_text, to_html, to_svg, to_terminal,
+    Run, StyleMark, StyledText, html_styles, styled_text, to_html, to_svg, to_terminal,
 };
 use std::alloc::{AllocError, Global};
 
@@ -45,11 +45,11 @@ pub enum Format {
 }
 
 /// The runs of the output of the diagnostic, in short style.
-static RUNS: [(Style, &str); 4] = [
-    (Style::Plain, "f&g:2:1: "),
-    (Style::Header(Severity::Error), "error"),
-    (Style::HeaderMessage, ": b\x07d"),
-    (Style::Plain, "\n"),
+static RUNS: [(StyleMark, &str); 4] = [
+    (StyleMark::Reset, "f&g:2:1: "),
+    (StyleMark::Header(Severity::Error), "error"),
+    (StyleMark::HeaderMessage, ": b\x07d"),
+    (StyleMark::Reset, "\n"),
 ];
 
 /// Its HTML element.

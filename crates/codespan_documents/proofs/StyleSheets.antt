@@ -5,8 +5,8 @@ use Rattle.std.specs.List.{flat_map}
 use Rattle.std.proofs.lemmas.List.{drop_all, drop_more}
 use Rattle.codespan_base.specs.declared.term.config.color.Color.{Color}
 use Rattle.codespan_base.specs.declared.term.config.color.ColorSpec.{ColorSpec}
+use Rattle.codespan_base.specs.declared.term.config.style_mark.StyleMark.{StyleMark}
 use Rattle.codespan_base.specs.declared.term.config.styles.Styles.{Styles}
-use Rattle.codespan_documents.specs.declared.style.Style.{Style}
 use Rattle.codespan_documents.specs.Html.{style_class}
 use Rattle.codespan_documents.specs.StyleSheet.{bright_color, color_declaration, declarations, normal_color, rule, color_spec_of_style, weight_declaration}
 
@@ -29,7 +29,7 @@ declarations-written spec front b1 b2 b3 e1 e2 e3 =
     e3 ∙ ap (λ b. b ++ weight_declaration spec.bold) (e2 ∙ ap (λ b. b ++ bg) e1 ∙ append_assoc front fg bg) ∙ append_assoc front (fg ++ bg) (weight_declaration spec.bold)
 
 -- a rule
-pub rule-written : (styles : Styles) (style : Style) (spec : ColorSpec)
+pub rule-written : (styles : Styles) (style : StyleMark) (spec : ColorSpec)
     (class front b1 b2 b3 b4 b5 : List ℕ)
     → b1 ≡ front ++ codes ".diagnostic ." → class ≡ style_class style
     → b2 ≡ b1 ++ class → b3 ≡ b2 ++ codes " { " → spec ≡ color_spec_of_style styles style
@@ -58,7 +58,7 @@ rule-written styles style spec class front b1 b2 b3 b4 b5 e1 named e2 e3 of e4 e
         (codes "}\n")
 
 -- a rule of those that are left
-pub rule-more : (styles : Styles) (classed : List Style) (i : ℕ) (style : Style)
+pub rule-more : (styles : Styles) (classed : List StyleMark) (i : ℕ) (style : StyleMark)
     (front next whole : List ℕ)
     → i < length classed → style ≡ get_or classed i style → next ≡ front ++ rule styles style
     → front ++ flat_map (rule styles) (drop i classed) ≡ whole
@@ -71,7 +71,7 @@ rule-more styles classed i style front next whole inside at is before =
     ∙ ap (λ ss. front ++ flat_map (rule styles) ss) (sym left) ∙ before
 
 -- no rule is left
-pub rule-end : (styles : Styles) (classed : List Style) (i : ℕ) (front whole : List ℕ)
+pub rule-end : (styles : Styles) (classed : List StyleMark) (i : ℕ) (front whole : List ℕ)
     → length classed ≤ i → front ++ flat_map (rule styles) (drop i classed) ≡ whole → front ≡ whole
 rule-end styles classed i front whole past before =
     sym (append-nil front)

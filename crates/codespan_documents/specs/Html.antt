@@ -6,8 +6,13 @@ use Rattle.std.specs.Str.{chars}
 use Rattle.codespan_base.specs.declared.diagnostic.LabelStyle.TheVariants.{Primary, Secondary}
 use Rattle.codespan_base.specs.declared.diagnostic.Severity.{Severity}
 use Rattle.codespan_base.specs.declared.diagnostic.Severity.TheVariants.{Bug, Error, Warning, Note, Help}
-use Rattle.codespan_documents.specs.declared.style.Style.{Style}
-use Rattle.codespan_documents.specs.declared.style.Style.TheVariants.{Plain, Header, HeaderMessage, LineNumber, NoteBullet, SourceBorder, Label}
+use Rattle.codespan_base.specs.declared.term.config.style_mark.StyleMark.{StyleMark}
+use Rattle.codespan_base.specs.declared.term.config.style_mark.StyleMark.TheVariants.{Header}
+use Rattle.codespan_base.specs.declared.term.config.style_mark.StyleMark.TheVariants.{HeaderMessage}
+use Rattle.codespan_base.specs.declared.term.config.style_mark.StyleMark.TheVariants.{LineNumber}
+use Rattle.codespan_base.specs.declared.term.config.style_mark.StyleMark.TheVariants.{NoteBullet}
+use Rattle.codespan_base.specs.declared.term.config.style_mark.StyleMark.TheVariants.{SourceBorder}
+use Rattle.codespan_base.specs.declared.term.config.style_mark.StyleMark.TheVariants.{Label, Reset}
 use Rattle.codespan_documents.specs.Cells.{character_cells}
 use Rattle.codespan_documents.specs.Runs.{RunView, is_plain}
 
@@ -85,8 +90,8 @@ severity_suffix Note = codes "note"
 severity_suffix Help = codes "help"
 
 -- the class of a style, by the name of its field in `Styles`; plain text has none
-abbrev pub style_class : Style → List ℕ
-style_class Plain = codes ""
+abbrev pub style_class : StyleMark → List ℕ
+style_class Reset = codes ""
 style_class (Header severity) = codes "header-" ++ severity_suffix severity
 style_class HeaderMessage = codes "header-message"
 style_class LineNumber = codes "line-number"

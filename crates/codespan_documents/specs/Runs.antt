@@ -4,44 +4,32 @@ use Rattle.std.specs.List.{AllByRecursion, flat_map}
 use Rattle.std.specs.Str.{IsUtf8, chars}
 use Rattle.codespan_base.specs.Streams.{Stream, Byte, Mark, Slot}
 use Rattle.codespan_base.specs.declared.term.config.style_mark.StyleMark.{StyleMark}
-use Rattle.codespan_base.specs.declared.term.config.style_mark.StyleMark.TheVariants.{Header, HeaderMessage, LineNumber, NoteBullet, SourceBorder, Label, Reset}
-use Rattle.codespan_documents.specs.declared.style.Style.{Style}
-use Rattle.codespan_documents.specs.declared.style.Style.TheVariants as run_styles
+use Rattle.codespan_base.specs.declared.term.config.style_mark.StyleMark.TheVariants.{Reset}
 use Rattle.codespan_documents.specs.declared.text.Run.{Run}
 use Rattle.codespan_documents.specs.declared.text.StyledText.{StyledText}
 
--- a style, and the bytes of a text in it
+-- the style mark that a text follows, and the bytes of the text
 pub record RunView : Type 0 where
-  pub style : Style
+  pub style : StyleMark
   pub text : List ℕ
 
--- the style is that of plain text
-abbrev pub is_plain : Style → Bool
-is_plain run_styles.Plain = true
+-- the text after the style mark is plain: the style mark is a reset
+abbrev pub is_plain : StyleMark → Bool
+is_plain Reset = true
 is_plain _ = false
 
--- the style that a style mark starts; a reset starts plain text
-abbrev pub style_after : StyleMark → Style
-style_after (Header severity) = run_styles.Header severity
-style_after HeaderMessage = run_styles.HeaderMessage
-style_after LineNumber = run_styles.LineNumber
-style_after NoteBullet = run_styles.NoteBullet
-style_after SourceBorder = run_styles.SourceBorder
-style_after (Label severity style) = run_styles.Label severity style
-style_after Reset = run_styles.Plain
-
--- the runs of a stream that continues a run of this style, with this text so far: a byte belongs to
--- the run, a style mark ends it and starts the next one
-abbrev pub runs_from : Style → List ℕ → Stream → List RunView
+-- the runs of a stream that continues a run after this style mark, with this text so far: a byte
+-- belongs to the run, a style mark ends it and starts the next one
+abbrev pub runs_from : StyleMark → List ℕ → Stream → List RunView
 runs_from style text [] = record { style = style; text = text } ∷ []
 runs_from style text (Byte b ∷ s) = runs_from style (text ++ b ∷ []) s
 runs_from style text (Mark m ∷ s) =
-    record { style = style; text = text } ∷ runs_from (style_after m) [] s
+    record { style = style; text = text } ∷ runs_from m [] s
 runs_from style text (Slot k ∷ s) = runs_from style text s
 
--- the runs of a stream; the first one is plain
+-- the runs of a stream; the first one is as after a reset
 abbrev pub runs_of : Stream → List RunView
-runs_of s = runs_from run_styles.Plain [] s
+runs_of s = runs_from Reset [] s
 
 -- the texts of runs, one after another
 abbrev pub joined : List RunView → List ℕ

@@ -6,10 +6,15 @@ use Rattle.codespan_base.specs.declared.diagnostic.Severity.TheVariants.{Bug, Er
 use Rattle.codespan_base.specs.declared.term.config.color.Color.{Color}
 use Rattle.codespan_base.specs.declared.term.config.color.Color.TheVariants.{Black, Red, Green, Yellow, Blue, Magenta, Cyan, White}
 use Rattle.codespan_base.specs.declared.term.config.color.ColorSpec.{ColorSpec}
+use Rattle.codespan_base.specs.declared.term.config.style_mark.StyleMark.{StyleMark}
+use Rattle.codespan_base.specs.declared.term.config.style_mark.StyleMark.TheVariants.{Header}
+use Rattle.codespan_base.specs.declared.term.config.style_mark.StyleMark.TheVariants.{HeaderMessage}
+use Rattle.codespan_base.specs.declared.term.config.style_mark.StyleMark.TheVariants.{LineNumber}
+use Rattle.codespan_base.specs.declared.term.config.style_mark.StyleMark.TheVariants.{NoteBullet}
+use Rattle.codespan_base.specs.declared.term.config.style_mark.StyleMark.TheVariants.{SourceBorder}
+use Rattle.codespan_base.specs.declared.term.config.style_mark.StyleMark.TheVariants.{Label, Reset}
 use Rattle.codespan_base.specs.declared.term.config.styles.Styles.{Styles}
 use Rattle.codespan_base.specs.StyleSpellings.{header_color_spec, label_color_spec, unset}
-use Rattle.codespan_documents.specs.declared.style.Style.{Style}
-use Rattle.codespan_documents.specs.declared.style.Style.TheVariants.{Plain, Header, HeaderMessage, LineNumber, NoteBullet, SourceBorder, Label}
 use Rattle.codespan_documents.specs.Html.{style_class}
 
 -- ---- colors
@@ -56,8 +61,8 @@ declarations spec =
     ++ weight_declaration spec.bold
 
 -- the colors and the weight that `styles` has for a style
-abbrev pub color_spec_of_style : Styles → Style → ColorSpec
-color_spec_of_style styles Plain = unset
+abbrev pub color_spec_of_style : Styles → StyleMark → ColorSpec
+color_spec_of_style styles Reset = unset
 color_spec_of_style styles (Header severity) = header_color_spec styles severity
 color_spec_of_style styles HeaderMessage = styles.header_message
 color_spec_of_style styles LineNumber = styles.line_number
@@ -66,13 +71,13 @@ color_spec_of_style styles SourceBorder = styles.source_border
 color_spec_of_style styles (Label severity style) = label_color_spec styles severity style
 
 -- the rule of the class of a style
-abbrev pub rule : Styles → Style → List ℕ
+abbrev pub rule : Styles → StyleMark → List ℕ
 rule styles style =
     codes ".diagnostic ." ++ style_class style ++ codes " { "
     ++ declarations (color_spec_of_style styles style) ++ codes "}\n"
 
 -- one style of each class
-abbrev pub classed_styles : List Style
+abbrev pub classed_styles : List StyleMark
 classed_styles =
     Header Bug ∷ Header Error ∷ Header Warning ∷ Header Note ∷ Header Help ∷ HeaderMessage
     ∷ Label Bug Primary ∷ Label Error Primary ∷ Label Warning Primary ∷ Label Note Primary

@@ -12,10 +12,10 @@ ghost use Rattle.codespan_documents.specs.HtmlReading.{text_of_html};
 ghost use Rattle.codespan_documents.specs.Runs.{joined, run_view, styled_runs};
 
 use crate::cells::cells;
-use crate::style::Style;
 use crate::text::{Run, StyledText};
 use codespan_base::diagnostic::{LabelStyle, Severity};
 use codespan_base::files::Error;
+use codespan_base::term::config::style_mark::StyleMark;
 use std::alloc::{AllocError, Global};
 
 /// Returns an HTML element of styled text: a `pre` of the class `diagnostic`, and in it
@@ -80,7 +80,7 @@ fn push_run(html: &mut String, run: &Run) -> Result<(), AllocError>
     ensures { OnOk result (string_bytes html.new
         ≡ string_bytes html.old ++ html_run (run_view run.now)) }
 {
-    if run.style.is_plain() {
+    if run.is_plain() {
         return push_text(html, run.text.as_str());
     }
     push_span_tag(html, style_class(run.style))?;
@@ -185,29 +185,29 @@ fn is_noncharacter(c: char) -> bool
 }
 
 /// Returns the class of a style; plain text has none.
-pub(crate) fn style_class(style: Style) -> &'static str
+pub(crate) fn style_class(style: StyleMark) -> &'static str
     ensures { result.now ≡ style_class style }
 {
     match style {
-        Style::Plain => "",
-        Style::Header(severity) => match severity {
+        StyleMark::Reset => "",
+        StyleMark::Header(severity) => match severity {
             Severity::Bug => "header-bug",
             Severity::Error => "header-error",
             Severity::Warning => "header-warning",
             Severity::Note => "header-note",
             Severity::Help => "header-help",
         },
-        Style::HeaderMessage => "header-message",
-        Style::LineNumber => "line-number",
-        Style::NoteBullet => "note-bullet",
-        Style::SourceBorder => "source-border",
-        Style::Label(severity, LabelStyle::Primary) => match severity {
+        StyleMark::HeaderMessage => "header-message",
+        StyleMark::LineNumber => "line-number",
+        StyleMark::NoteBullet => "note-bullet",
+        StyleMark::SourceBorder => "source-border",
+        StyleMark::Label(severity, LabelStyle::Primary) => match severity {
             Severity::Bug => "primary-label-bug",
             Severity::Error => "primary-label-error",
             Severity::Warning => "primary-label-warning",
             Severity::Note => "primary-label-note",
             Severity::Help => "primary-label-help",
         },
-        Style::Label(_, LabelStyle::Secondary) => "secondary-label",
+        StyleMark::Label(_, LabelStyle::Secondary) => "secondary-label",
     }
 }

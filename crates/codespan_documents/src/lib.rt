@@ -6,13 +6,12 @@
 
 mod cells;
 pub mod html;
-pub mod style;
 pub mod style_sheet;
 pub mod svg;
 pub mod text;
 
+pub use codespan_base::term::config::style_mark::StyleMark;
 pub use html::to_html;
-pub use style::Style;
 pub use style_sheet::html_styles;
 pub use svg::to_svg;
 pub use text::{Run, StyledText};

@@ -4,29 +4,29 @@ ghost use Rattle.std.specs.Prelude.{◌≡◌, ◌++◌, IfErr, IfOk, OnOk, flat
 ghost use Rattle.codespan_documents.specs.StyleSheet.{bright_color, color_declaration, declarations, normal_color, rule, color_spec_of_style, style_sheet, weight_declaration};
 
 use crate::html::style_class;
-use crate::style::Style;
 use codespan_base::diagnostic::{LabelStyle, Severity};
 use codespan_base::files::Error;
+use codespan_base::term::config::style_mark::StyleMark;
 use codespan_base::term::{Color, ColorSpec, Styles};
 use std::alloc::{AllocError, Global};
 
 /// One style of each class.
-const CLASSED_STYLES: [Style; 15] = [
-    Style::Header(Severity::Bug),
-    Style::Header(Severity::Error),
-    Style::Header(Severity::Warning),
-    Style::Header(Severity::Note),
-    Style::Header(Severity::Help),
-    Style::HeaderMessage,
-    Style::Label(Severity::Bug, LabelStyle::Primary),
-    Style::Label(Severity::Error, LabelStyle::Primary),
-    Style::Label(Severity::Warning, LabelStyle::Primary),
-    Style::Label(Severity::Note, LabelStyle::Primary),
-    Style::Label(Severity::Help, LabelStyle::Primary),
-    Style::Label(Severity::Error, LabelStyle::Secondary),
-    Style::LineNumber,
-    Style::SourceBorder,
-    Style::NoteBullet,
+const CLASSED_STYLES: [StyleMark; 15] = [
+    StyleMark::Header(Severity::Bug),
+    StyleMark::Header(Severity::Error),
+    StyleMark::Header(Severity::Warning),
+    StyleMark::Header(Severity::Note),
+    StyleMark::Header(Severity::Help),
+    StyleMark::HeaderMessage,
+    StyleMark::Label(Severity::Bug, LabelStyle::Primary),
+    StyleMark::Label(Severity::Error, LabelStyle::Primary),
+    StyleMark::Label(Severity::Warning, LabelStyle::Primary),
+    StyleMark::Label(Severity::Note, LabelStyle::Primary),
+    StyleMark::Label(Severity::Help, LabelStyle::Primary),
+    StyleMark::Label(Severity::Error, LabelStyle::Secondary),
+    StyleMark::LineNumber,
+    StyleMark::SourceBorder,
+    StyleMark::NoteBullet,
 ];
 
 /// The rules of the boxes of wide characters: as wide as the cells that the characters occupy.
@@ -60,7 +60,7 @@ pub fn html_styles(alloc: Global, styles: &Styles) -> Result<String, Error>
 }
 
 /// Appends the rule of each style's class.
-fn push_rules(css: &mut String, styles: &Styles, classed: &[Style]) -> Result<(), AllocError>
+fn push_rules(css: &mut String, styles: &Styles, classed: &[StyleMark]) -> Result<(), AllocError>
     ensures { OnOk result (string_bytes css.new
         ≡ string_bytes css.old ++ flat_map (rule styles.now) classed.now) }
 {
@@ -71,7 +71,7 @@ fn push_rules(css: &mut String, styles: &Styles, classed: &[Style]) -> Result<()
 }
 
 /// Appends the rule of the class of a style.
-fn push_rule(css: &mut String, styles: &Styles, style: Style) -> Result<(), AllocError>
+fn push_rule(css: &mut String, styles: &Styles, style: StyleMark) -> Result<(), AllocError>
     ensures { OnOk result (string_bytes css.new ≡ string_bytes css.old ++ rule styles.now style) }
 {
     css.push_str(".diagnostic .")?;
@@ -165,16 +165,16 @@ fn bright_color(color: Color) -> &'static str
 }
 
 /// Returns the colors and the weight that `styles` has for a style.
-pub(crate) fn color_spec_of_style(styles: &Styles, style: Style) -> ColorSpec
+pub(crate) fn color_spec_of_style(styles: &Styles, style: StyleMark) -> ColorSpec
     ensures { result ≡ color_spec_of_style styles.now style }
 {
     match style {
-        Style::Plain => ColorSpec::new(),
-        Style::Header(severity) => *styles.header(severity),
-        Style::HeaderMessage => styles.header_message,
-        Style::LineNumber => styles.line_number,
-        Style::NoteBullet => styles.note_bullet,
-        Style::SourceBorder => styles.source_border,
-        Style::Label(severity, label_style) => *styles.label(severity, label_style),
+        StyleMark::Reset => ColorSpec::new(),
+        StyleMark::Header(severity) => *styles.header(severity),
+        StyleMark::HeaderMessage => styles.header_message,
+        StyleMark::LineNumber => styles.line_number,
+        StyleMark::NoteBullet => styles.note_bullet,
+        StyleMark::SourceBorder => styles.source_border,
+        StyleMark::Label(severity, label_style) => *styles.label(severity, label_style),
     }
 }

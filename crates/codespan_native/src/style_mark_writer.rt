@@ -2,42 +2,20 @@
 
 ghost use Rattle.std.specs.Prelude.{◌≡◌, refl};
 ghost use Rattle.codespan_base.specs.Diagnostics.{severity_rank};
-ghost use Rattle.codespan_base.specs.Streams.{byte_stream};
+ghost use Rattle.codespan_base.specs.Streams.{style_mark};
 ghost use Rattle.codespan_base.specs.WriterLaw.{Writes};
-ghost use Rattle.codespan_structs.specs.StyleMarkBytes.{style_mark_bytes};
+ghost use Rattle.codespan_structs.specs.StyleMarkBytes.{style_mark_number};
 ghost use Rattle.codespan_native.specs.StyleMarkWriters.{style_mark_sink};
 
 use codespan_base::diagnostic::{LabelStyle, Severity};
 use codespan_base::term::WriteStyle;
+use codespan_base::term::config::style_mark::StyleMark;
 use codespan_base::term::config::writing::{forward_all, forward_put};
 use std::io;
 use std::io::Write;
 
 /// The byte before the number of a style mark. UTF-8 never has it.
 const STYLE_MARK_BYTE: u8 = 255;
-
-/// The number of the style mark of a header's message. A header's is the rank of its severity.
-const HEADER_MESSAGE: u8 = 5;
-
-/// The number of the style mark of a line's number.
-const LINE_NUMBER: u8 = 6;
-
-/// The number of the style mark of a note's bullet.
-const NOTE_BULLET: u8 = 7;
-
-/// The number of the style mark of the border left of the source.
-const SOURCE_BORDER: u8 = 8;
-
-/// The number of the style mark of a primary label of a help message, to which the rank of any
-/// other severity is added.
-const PRIMARY_LABEL: u8 = 9;
-
-/// The number of the style mark of a secondary label of a help message, to which the rank of any
-/// other severity is added.
-const SECONDARY_LABEL: u8 = 14;
-
-/// The number of the reset, after which text is plain.
-const RESET: u8 = 19;
 
 /// A writer that spells each style mark as the byte 255 and its number.
 #[derive(Drop)]
@@ -72,17 +50,30 @@ impl<W: Write> StyleMarkWriter<W> {
         inner
     }
 
-    /// Writes the style mark of this number, and sets `failed` where that fails.
-    fn write_style_mark(&mut self, number: u8) -> io::Result<()>
+    /// Writes a style mark, and sets `failed` where that fails.
+    fn write_style_mark(&mut self, mark: StyleMark) -> io::Result<()>
         ensures { Writes (style_mark_sink self.old.failed (W.contents self.old.inner))
-            (byte_stream (style_mark_bytes number)) result
+            (style_mark mark) result
             (style_mark_sink self.new.failed (W.contents self.new.inner)) }
     {
-        forward_all(
-            &mut self.inner,
-            &mut self.failed,
-            &[STYLE_MARK_BYTE, number],
-        )
+        let bytes = [STYLE_MARK_BYTE, number(mark)];
+        forward_all(&mut self.inner, &mut self.failed, &bytes)
+    }
+}
+
+/// Returns the number of a style mark.
+fn number(mark: StyleMark) -> u8
+    ensures { result ≡ style_mark_number mark }
+{
+    match mark {
+        StyleMark::Header(severity) => severity_rank(severity),
+        StyleMark::HeaderMessage => 5,
+        StyleMark::LineNumber => 6,
+        StyleMark::NoteBullet => 7,
+        StyleMark::SourceBorder => 8,
+        StyleMark::Label(severity, LabelStyle::Primary) => 9 + severity_rank(severity),
+        StyleMark::Label(severity, LabelStyle::Secondary) => 14 + severity_rank(severity),
+        StyleMark::Reset => 19,
     }
 }
 
@@ -111,43 +102,37 @@ impl<W: Write> Write for StyleMarkWriter<W> {
     }
 }
 
-#[tactic(auto, using(codespan_base::proofs::StyleMarks::spelled_style_marks))]
 impl<W: Write> WriteStyle for StyleMarkWriter<W> {
     ghost use Rattle.codespan_native.specs.StyleMarkWriters.{style_mark_writer_sink};
 
     ghost sink = { λ w. style_mark_writer_sink W.contents w };
 
     fn set_header(&mut self, severity: Severity) -> io::Result<()> {
-        let number = severity_rank(severity);
-        self.write_style_mark(number)
+        self.write_style_mark(StyleMark::Header(severity))
     }
 
     fn set_header_message(&mut self) -> io::Result<()> {
-        self.write_style_mark(HEADER_MESSAGE)
+        self.write_style_mark(StyleMark::HeaderMessage)
     }
 
     fn set_line_number(&mut self) -> io::Result<()> {
-        self.write_style_mark(LINE_NUMBER)
+        self.write_style_mark(StyleMark::LineNumber)
     }
 
     fn set_note_bullet(&mut self) -> io::Result<()> {
-        self.write_style_mark(NOTE_BULLET)
+        self.write_style_mark(StyleMark::NoteBullet)
     }
 
     fn set_source_border(&mut self) -> io::Result<()> {
-        self.write_style_mark(SOURCE_BORDER)
+        self.write_style_mark(StyleMark::SourceBorder)
     }
 
     fn set_label(&mut self, severity: Severity, label_style: LabelStyle) -> io::Result<()> {
-        let number = severity_rank(severity);
-        match label_style {
-            LabelStyle::Primary => self.write_style_mark(PRIMARY_LABEL + number),
-            LabelStyle::Secondary => self.write_style_mark(SECONDARY_LABEL + number),
-        }
+        self.write_style_mark(StyleMark::Label(severity, label_style))
     }
 
     fn reset(&mut self) -> io::Result<()> {
-        self.write_style_mark(RESET)
+        self.write_style_mark(StyleMark::Reset)
     }
 
     fn put(&mut self, bytes: &[u8]) -> io::Result<usize> {

@@ -4,7 +4,7 @@ use Rattle.std.proofs.lemmas.Grind.{flat_map-append}
 use Rattle.std.proofs.lemmas.List.{map-append}
 use Rattle.codespan_base.specs.WriterLaw.{PrefixAppended, extended, AppendsBytes}
 use Rattle.codespan_styled.specs.declared.recorder.Recorder.{Recorder}
-use Rattle.codespan_documents.specs.declared.style.Style.{Style}
+use Rattle.codespan_base.specs.declared.term.config.style_mark.StyleMark.{StyleMark}
 use Rattle.codespan_documents.specs.declared.text.Run.{Run}
 use Rattle.codespan_styled.specs.Private.Recorded.{ended_runs, recorded_run, recorded_runs, recorded, style_number}
 use Rattle.codespan_documents.specs.Runs.{run_view}
@@ -29,7 +29,7 @@ contents-ended old new run is style text =
     ∙ ap (λ bytes. recorded_runs (ended_runs old) ++ style_number old.style ∷ bytes) text
 
 -- then a run is started
-pub recorded-started : (old new : Recorder) (next : Style)
+pub recorded-started : (old new : Recorder) (next : StyleMark)
     → recorded_runs (ended_runs new) ≡ recorded old → new.style ≡ next → new.text.items ≡ []
     → Some (recorded new) ≡ extended (Some (recorded old)) (style_number next ∷ [])
 unfolding extended

@@ -15,11 +15,11 @@ use Rattle.codespan_picture.specs.Utf8Laws.{CharsAreScalars, AreUtf8After}
 use Rattle.codespan_picture.proofs.PictureTexts.{text-output}
 use Rattle.codespan_views.specs.Output.{IsEmitError}
 use Rattle.codespan_views.specs.WriteCalls.{WritesStyled}
-use Rattle.codespan_documents.specs.declared.style.Style.{Style}
-use Rattle.codespan_documents.specs.declared.style.Style.TheVariants.{Plain}
+use Rattle.codespan_base.specs.declared.term.config.style_mark.StyleMark.{StyleMark}
+use Rattle.codespan_base.specs.declared.term.config.style_mark.StyleMark.TheVariants.{Reset}
 use Rattle.codespan_documents.specs.declared.text.StyledText.{StyledText}
 use Rattle.codespan_styled.specs.Private.Recorded.{recorded_runs, style_number, style_spelling}
-use Rattle.codespan_documents.specs.Runs.{TextsAreUtf8, joined, runs_from, style_after, styled_runs}
+use Rattle.codespan_documents.specs.Runs.{TextsAreUtf8, joined, runs_from, styled_runs}
 use Rattle.codespan_styled.proofs.Bytes.{runs-bytes, utf8-bytes}
 use Rattle.codespan_styled.proofs.Decoding.{joined_runs, runs_of_recorded}
 use Rattle.codespan_styled.specs.Outputs.{AreRuns, EmitsRuns, RunsAreUtf8, output_at}
@@ -39,7 +39,7 @@ module _ {Id : Type 0} {config : Config} {files : FileDatabase Id} {d : Diagnost
   -- the runs of what was rendered to a fresh writer are those of the output
   pub runs_rendered : {old new : Sink} {last : List ℕ} (text : StyledText)
       → WritesStyled config.display_style config config files d old (Ok tt) new
-      → old ≡ fresh_sink style_spelling (Some (style_number Plain ∷ [])) → new.contents ≡ Some last
+      → old ≡ fresh_sink style_spelling (Some (style_number Reset ∷ [])) → new.contents ≡ Some last
       → CharsAreScalars config.chars → ((id : Id) → IsLawful (files.file id))
       → recorded_runs (styled_runs text) ≡ last → AreRuns config files d (styled_runs text)
   runs_rendered {old} {new} {last} text rendered fresh contents characters lawful are =
@@ -48,7 +48,7 @@ module _ {Id : Type 0} {config : Config} {files : FileDatabase Id} {d : Diagnost
       let utf8 = (text-output files d lawful config.display_style config config characters loci
       rendered.writes.on_end.1.names_are_utf8).utf8 in
       let whole =
-      bytes_after style_spelling old new stream (style_number Plain ∷ []) last fresh contents
+      bytes_after style_spelling old new stream (style_number Reset ∷ []) last fresh contents
       rendered.writes.received in
       let runs = runs_of_recorded (styled_runs text) stream (runs-bytes text.runs.items)
       (utf8-bytes _ utf8) (are ∙ whole) in
@@ -64,7 +64,7 @@ module _ {Id : Type 0} {config : Config} {files : FileDatabase Id} {d : Diagnost
   -- the same of what the writer returns
   pub runs_emitted : {old new : Sink} {last : List ℕ} (r : Result StyledText Error)
       → WritesStyled config.display_style config config files d old (Ok tt) new
-      → old ≡ fresh_sink style_spelling (Some (style_number Plain ∷ [])) → new.contents ≡ Some last
+      → old ≡ fresh_sink style_spelling (Some (style_number Reset ∷ [])) → new.contents ≡ Some last
       → CharsAreScalars config.chars → ((id : Id) → IsLawful (files.file id))
       → MatchResult r (λ text. recorded_runs (styled_runs text) ≡ last) (λ e. e ≡ OutOfMemory)
       → EmitsRuns config files d styled_runs r
@@ -83,17 +83,17 @@ module _ {Id : Type 0} {config : Config} {files : FileDatabase Id} {d : Diagnost
 -- ---- texts
 
 -- the runs of a text are texts
-runs-texts : (style : Style) (text : List ℕ) (s : Stream) → AreUtf8After text s
+runs-texts : (style : StyleMark) (text : List ℕ) (s : Stream) → AreUtf8After text s
     → TextsAreUtf8 (runs_from style text s)
 runs-texts style text [] h = (h, tt)
 runs-texts style text (Byte b ∷ s) h = runs-texts style (text ++ b ∷ []) s h
-runs-texts style text (Mark m ∷ s) h = (h.0, runs-texts (style_after m) [] s h.1)
+runs-texts style text (Mark m ∷ s) h = (h.0, runs-texts m [] s h.1)
 runs-texts style text (Slot k ∷ s) h = runs-texts style text s h
 
 -- so are those of an output
 pub runs_are_utf8 : {Id : Type 0} (config : Config) (files : FileDatabase Id) (d : Diagnostic Id)
     → RunsAreUtf8 config files d
 runs_are_utf8 config files d characters lawful loci named =
-    runs-texts Plain [] (output_at config files d loci)
+    runs-texts Reset [] (output_at config files d loci)
     (text-output files d lawful config.display_style config config characters loci
     named).between_style_marks

@@ -9,7 +9,7 @@ mod recorder;
 pub mod render;
 
 pub use codespan_documents::{
-    Run, Style, StyledText, html, html_styles, style, style_sheet, svg, text, to_html, to_svg,
+    Run, StyleMark, StyledText, html, html_styles, style_sheet, svg, text, to_html, to_svg,
 };
 pub use codespan_terminal::terminal;
 pub use codespan_terminal::terminal::to_terminal;

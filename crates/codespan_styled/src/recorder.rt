@@ -1,17 +1,17 @@
 //! A writer of styles that keeps what it receives as runs of text, each in one style.
 
 ghost use Rattle.std.specs.Prelude.{◌≡◌, ◌∷◌, [], MatchResult, OnOk, Some};
-ghost use Rattle.codespan_base.specs.Streams.{byte_stream};
+ghost use Rattle.codespan_base.specs.Streams.{style_mark};
+ghost use Rattle.codespan_base.specs.declared.term.config.style_mark.StyleMark.TheVariants.{Reset};
 ghost use Rattle.codespan_base.specs.WriterLaw.{Writes, AppendsBytes};
 ghost use Rattle.codespan_base.specs.Writers.{fresh_sink};
-ghost use Rattle.codespan_documents.specs.declared.style.Style.TheVariants.{Plain};
 ghost use Rattle.codespan_documents.specs.Runs.{styled_runs};
 ghost use Rattle.codespan_styled.specs.Private.Recorded.{recorded_runs, style_number, style_spelling};
 
 use codespan_base::diagnostic::{LabelStyle, Severity};
 use codespan_base::files::Error;
 use codespan_base::term::WriteStyle;
-use codespan_documents::style::Style;
+use codespan_base::term::config::style_mark::StyleMark;
 use codespan_documents::text::{Run, StyledText};
 use std::alloc::Global;
 use std::io::{ErrorKind, Write};
@@ -25,8 +25,8 @@ use std::{io, str};
 pub struct Recorder {
     /// The runs before the last one.
     runs: Vec<Run>,
-    /// The style of the last run.
-    style: Style,
+    /// The style mark before the last run.
+    style: StyleMark,
     /// The bytes of the last run.
     text: Vec<u8>,
     /// Whether a style mark or a `put` has failed.
@@ -39,11 +39,11 @@ impl Recorder {
     /// Returns a writer that has received nothing. Its first run is plain.
     pub fn new(alloc: Global) -> Recorder
         ensures { recorder_sink result
-            ≡ fresh_sink style_spelling (Some (style_number Plain ∷ [])) }
+            ≡ fresh_sink style_spelling (Some (style_number Reset ∷ [])) }
     {
         Recorder {
             runs: Vec::new(alloc),
-            style: Style::Plain,
+            style: StyleMark::Reset,
             text: Vec::new(alloc),
             failed: false,
         }
@@ -66,22 +66,22 @@ impl Recorder {
             (λ text. recorded_runs (styled_runs text) ≡ recorded self)
             (λ error. error ≡ Error.OutOfMemory) }
     {
-        match self.push_run(Style::Plain) {
+        match self.push_run(StyleMark::Reset) {
             Ok(()) => Ok(StyledText { runs: self.runs }),
             Err(_) => Err(Error::OutOfMemory),
         }
     }
 
-    /// Starts a run.
+    /// Starts a run at a style mark.
     ///
     /// # Errors
     ///
     /// Those of [`push_run`](Self::push_run). The writer has then failed.
-    fn start(&mut self, style: Style) -> io::Result<()>
-        ensures { Writes (recorder_sink self.old) (byte_stream (style_number style ∷ [])) result
+    fn start(&mut self, mark: StyleMark) -> io::Result<()>
+        ensures { Writes (recorder_sink self.old) (style_mark mark) result
             (recorder_sink self.new) }
     {
-        match self.push_run(style) {
+        match self.push_run(mark) {
             Ok(()) => Ok(()),
             Err(error) => {
                 self.failed = true;
@@ -90,12 +90,12 @@ impl Recorder {
         }
     }
 
-    /// Ends the last run and starts one of the style `next`.
+    /// Ends the last run and starts one at the style mark `next`.
     ///
     /// # Errors
     ///
     /// An allocation fails, or the last run is not UTF-8. Nothing is then changed.
-    fn push_run(&mut self, next: Style) -> io::Result<()>
+    fn push_run(&mut self, next: StyleMark) -> io::Result<()>
         ensures appends { AppendsBytes (Some (recorded self.old)) (style_number next ∷ []) result
             (Some (recorded self.new)) }
         ensures runs { OnOk result (recorded_runs (ended_runs self.new) ≡ recorded self.old) }
@@ -132,7 +132,6 @@ impl Write for Recorder {
     }
 }
 
-#[tactic(auto, using(codespan_base::proofs::StyleMarks::spelled_style_marks))]
 impl WriteStyle for Recorder {
     ghost use Rattle.std.specs.Prelude.{refl};
     ghost use Rattle.codespan_styled.specs.Private.Recorded.{recorder_sink};
@@ -140,31 +139,31 @@ impl WriteStyle for Recorder {
     ghost sink = { recorder_sink };
 
     fn set_header(&mut self, severity: Severity) -> io::Result<()> {
-        self.start(Style::Header(severity))
+        self.start(StyleMark::Header(severity))
     }
 
     fn set_header_message(&mut self) -> io::Result<()> {
-        self.start(Style::HeaderMessage)
+        self.start(StyleMark::HeaderMessage)
     }
 
     fn set_line_number(&mut self) -> io::Result<()> {
-        self.start(Style::LineNumber)
+        self.start(StyleMark::LineNumber)
     }
 
     fn set_note_bullet(&mut self) -> io::Result<()> {
-        self.start(Style::NoteBullet)
+        self.start(StyleMark::NoteBullet)
     }
 
     fn set_source_border(&mut self) -> io::Result<()> {
-        self.start(Style::SourceBorder)
+        self.start(StyleMark::SourceBorder)
     }
 
     fn set_label(&mut self, severity: Severity, label_style: LabelStyle) -> io::Result<()> {
-        self.start(Style::Label(severity, label_style))
+        self.start(StyleMark::Label(severity, label_style))
     }
 
     fn reset(&mut self) -> io::Result<()> {
-        self.start(Style::Plain)
+        self.start(StyleMark::Reset)
     }
 
     fn put(&mut self, bytes: &[u8]) -> io::Result<usize> {

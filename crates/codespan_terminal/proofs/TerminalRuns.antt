@@ -3,7 +3,7 @@ use Rattle.std.proofs.Common.{◌≡◌, ℕ, ◌+◌, ◌<◌, Bool, true, fals
 use Rattle.std.specs.Fmt.{digits}
 use Rattle.std.specs.List.{list_all}
 use Rattle.std.specs.Str.{IsAscii, chars}
-use Rattle.std.proofs.lemmas.Bool.{and_parts}
+use Rattle.std.proofs.lemmas.Bool.{and_parts, cond_both}
 use Rattle.std.proofs.lemmas.Bool.Decides.{nat_tests}
 use Rattle.std.proofs.lemmas.List.Elements.{filter-append}
 use Rattle.std.proofs.lemmas.List.Folds.{list_all-append}
@@ -18,11 +18,11 @@ use Rattle.codespan_base.specs.StyleSpellings.{header_color_spec, label_color_sp
 use Rattle.codespan_base.specs.declared.term.config.style_mark.StyleMark.{StyleMark}
 use Rattle.codespan_base.specs.declared.term.config.style_mark.StyleMark.TheVariants.{Header, HeaderMessage, LineNumber, NoteBullet, SourceBorder, Label, Reset}
 use Rattle.codespan_documents.specs.declared.text.Run.{Run}
-use Rattle.codespan_documents.specs.Runs.{TextsAreUtf8, RunView, run_characters, run_view}
-use Rattle.codespan_documents.specs.declared.style.Style.{Style}
-use Rattle.codespan_documents.specs.declared.style.Style.TheVariants as run_styles
+use Rattle.codespan_documents.specs.Runs.{TextsAreUtf8, RunView, is_plain, run_characters, run_view}
 use Rattle.codespan_base.specs.StyleSpellings.{ansi_spelling}
-use Rattle.codespan_terminal.specs.Terminal.{columns, is_safe, style_mark_of, first_sequences, state_after, run_bytes, runs_bytes, safe_characters, safe_text, visible, terminal_text, ShowsSafe, Text, Parameters}
+use Rattle.codespan_terminal.specs.Terminal.{columns, is_safe, first_sequences, state_after}
+use Rattle.codespan_terminal.specs.Terminal.{run_bytes, runs_bytes, safe_characters, safe_text}
+use Rattle.codespan_terminal.specs.Terminal.{visible, terminal_text, ShowsSafe, Text, Parameters}
 use Rattle.codespan_terminal.proofs.UnsafeCells.{columns_stay}
 use Rattle.codespan_terminal.proofs.TerminalStates.{is_parameter, parameters_after, parameters_show, ReadsText, ReadsText-nil, ReadsText-append, ReadsText-ascii, ReadsText-safe}
 
@@ -127,16 +127,11 @@ ReadsText-mark styles Reset = ReadsText-reset
 
 -- ---- runs
 
-ReadsText-first_sequences : (styles : Styles) (style : Style)
+ReadsText-first_sequences : (styles : Styles) (style : StyleMark)
     → ReadsText (first_sequences styles style) []
-ReadsText-first_sequences styles run_styles.Plain = ReadsText-nil
-ReadsText-first_sequences styles (run_styles.Header severity) = ReadsText-mark styles (Header severity)
-ReadsText-first_sequences styles run_styles.HeaderMessage = ReadsText-mark styles HeaderMessage
-ReadsText-first_sequences styles run_styles.LineNumber = ReadsText-mark styles LineNumber
-ReadsText-first_sequences styles run_styles.NoteBullet = ReadsText-mark styles NoteBullet
-ReadsText-first_sequences styles run_styles.SourceBorder = ReadsText-mark styles SourceBorder
-ReadsText-first_sequences styles (run_styles.Label severity style) =
-    ReadsText-mark styles (Label severity style)
+ReadsText-first_sequences styles style =
+    cond_both (is_plain style) [] (ansi_spelling styles style) (λ bytes. ReadsText bytes [])
+    (λ _. ReadsText-nil) (λ _. ReadsText-mark styles style)
 
 -- the safe characters of a run and of those after it
 safe_split : (text : List ℕ) (runs : List RunView)
@@ -152,9 +147,8 @@ ReadsText-runs styles (run ∷ runs) texts =
     subst (ReadsText (runs_bytes styles (run ∷ runs))) (safe_split run.text runs)
     (ReadsText-append (run_bytes styles run) shown_run (runs_bytes styles runs)
     (safe_characters (run_characters runs))
-    (ReadsText-append (ansi_spelling styles (style_mark_of run.style)) [] (safe_text run.text)
-    shown_run
-    (ReadsText-mark styles (style_mark_of run.style)) (ReadsText-safe run.text texts.0))
+    (ReadsText-append (ansi_spelling styles run.style) [] (safe_text run.text) shown_run
+    (ReadsText-mark styles run.style) (ReadsText-safe run.text texts.0))
     (ReadsText-runs styles runs texts.1))
 
 ReadsText-terminal : (styles : Styles) (runs : List RunView) → TextsAreUtf8 runs

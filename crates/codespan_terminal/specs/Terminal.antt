@@ -6,12 +6,9 @@ use Rattle.std.specs.List.{AllByRecursion, flat_map}
 use Rattle.std.specs.Str.{chars, encode_utf8_all}
 use Rattle.codespan_base.specs.StyleSpellings.{ansi_spelling}
 use Rattle.codespan_base.specs.declared.term.config.style_mark.StyleMark.{StyleMark}
-use Rattle.codespan_base.specs.declared.term.config.style_mark.StyleMark.TheVariants.{Header, HeaderMessage, LineNumber, NoteBullet, SourceBorder, Label, Reset}
 use Rattle.codespan_base.specs.declared.term.config.styles.Styles.{Styles}
 use Rattle.codespan_picture.specs.CharMetrics.{width_at}
-use Rattle.codespan_documents.specs.Runs.{RunView, run_characters}
-use Rattle.codespan_documents.specs.declared.style.Style.{Style}
-use Rattle.codespan_documents.specs.declared.style.Style.TheVariants as run_styles
+use Rattle.codespan_documents.specs.Runs.{RunView, is_plain, run_characters}
 
 -- ---- safe characters
 
@@ -36,28 +33,17 @@ safe_text text = encode_utf8_all (safe_characters (chars text))
 
 -- ---- the text for a terminal
 
--- the style mark that starts a run of this style
-abbrev pub style_mark_of : Style → StyleMark
-style_mark_of run_styles.Plain = Reset
-style_mark_of (run_styles.Header severity) = Header severity
-style_mark_of run_styles.HeaderMessage = HeaderMessage
-style_mark_of run_styles.LineNumber = LineNumber
-style_mark_of run_styles.NoteBullet = NoteBullet
-style_mark_of run_styles.SourceBorder = SourceBorder
-style_mark_of (run_styles.Label severity style) = Label severity style
-
 -- a run: the escape sequences of its style, and its safe text
 abbrev pub run_bytes : Styles → RunView → List ℕ
-run_bytes styles run = ansi_spelling styles (style_mark_of run.style) ++ safe_text run.text
+run_bytes styles run = ansi_spelling styles run.style ++ safe_text run.text
 
 -- the runs, one after another
 abbrev pub runs_bytes : Styles → List RunView → List ℕ
 runs_bytes styles runs = flat_map (run_bytes styles) runs
 
 -- the sequences before the first run: a terminal is in the style of plain text already
-abbrev pub first_sequences : Styles → Style → List ℕ
-first_sequences styles run_styles.Plain = []
-first_sequences styles style = ansi_spelling styles (style_mark_of style)
+abbrev pub first_sequences : Styles → StyleMark → List ℕ
+first_sequences styles style = if is_plain style then [] else ansi_spelling styles style
 
 -- the text for a terminal
 abbrev pub terminal_text : Styles → List RunView → List ℕ

@@ -1,21 +1,18 @@
 //! Text that is safe to print on a terminal.
 
 ghost use Rattle.std.specs.Prelude.{◌≡◌, ◌++◌, IfOk, OnOk, map, string_bytes};
-ghost use Rattle.codespan_base.specs.Streams.{style_mark};
-ghost use Rattle.codespan_base.specs.WriterLaw.{Writes};
 ghost use Rattle.codespan_documents.specs.Runs.{run_view, styled_runs};
 ghost use Rattle.codespan_base.specs.StyleSpellings.{ansi_spelling};
 ghost use Rattle.codespan_terminal.specs.Terminal.{ShowsSafe, is_directional_control, is_safe};
-ghost use Rattle.codespan_terminal.specs.Terminal.{style_mark_of, runs_bytes, safe_text};
-ghost use Rattle.codespan_terminal.specs.Terminal.{terminal_text};
+ghost use Rattle.codespan_terminal.specs.Terminal.{runs_bytes, safe_text, terminal_text};
 
 pub mod laws;
 
-use codespan_base::term::{Ansi, Styles, StylesWriter, WriteStyle};
-use codespan_documents::style::Style;
+use codespan_base::term::config::put_style::PutStyle;
+use codespan_base::term::config::style_mark::StyleMark;
+use codespan_base::term::{Ansi, Styles, StylesWriter};
 use codespan_documents::text::{Run, StyledText};
 use std::alloc::{AllocError, Global};
-use std::io;
 
 /// Returns a styled text as text for a terminal: each run after the escape sequences of its style.
 ///
@@ -100,7 +97,7 @@ fn push_text(
     let [first, rest @ ..] = runs else {
         return Ok(());
     };
-    if first.style != Style::Plain {
+    if !first.is_plain() {
         push_sequences(alloc, terminal, styles, first.style)?;
     }
     push_safe(terminal, first.text.as_str())?;
@@ -142,10 +139,10 @@ fn push_sequences(
     alloc: Global,
     terminal: &mut String,
     styles: &Styles,
-    style: Style,
+    style: StyleMark,
 ) -> Result<(), AllocError>
     ensures { OnOk result (string_bytes terminal.new
-        ≡ string_bytes terminal.old ++ ansi_spelling styles.now (style_mark_of style)) }
+        ≡ string_bytes terminal.old ++ ansi_spelling styles.now style) }
 {
     let bytes = sequences(alloc, styles, style)?;
     let Ok(text) = String::from_utf8(bytes) else {
@@ -155,28 +152,12 @@ fn push_sequences(
 }
 
 /// Returns the bytes of the sequences of a style.
-fn sequences(alloc: Global, styles: &Styles, style: Style) -> Result<Vec<u8>, AllocError>
-    ensures { IfOk result (λ bytes. bytes.items ≡ ansi_spelling styles.now (style_mark_of style)) }
+fn sequences(alloc: Global, styles: &Styles, style: StyleMark) -> Result<Vec<u8>, AllocError>
+    ensures { IfOk result (λ bytes. bytes.items ≡ ansi_spelling styles.now style) }
 {
     let mut writer = StylesWriter::new(Ansi::new(Vec::new(alloc)), styles);
-    match set_style(&mut writer, style) {
+    match writer.put_mark(style) {
         Ok(()) => Ok(writer.into_inner().into_inner()),
         Err(_) => Err(AllocError),
-    }
-}
-
-/// Writes the style mark that starts a run of a style.
-fn set_style<W: WriteStyle>(writer: &mut W, style: Style) -> io::Result<()>
-    ensures { Writes (W.sink writer.old) (style_mark (style_mark_of style)) result
-        (W.sink writer.new) }
-{
-    match style {
-        Style::Plain => writer.reset(),
-        Style::Header(severity) => writer.set_header(severity),
-        Style::HeaderMessage => writer.set_header_message(),
-        Style::LineNumber => writer.set_line_number(),
-        Style::NoteBullet => writer.set_note_bullet(),
-        Style::SourceBorder => writer.set_source_border(),
-        Style::Label(severity, label_style) => writer.set_label(severity, label_style),
     }
 }

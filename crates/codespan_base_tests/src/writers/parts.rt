@@ -2,8 +2,9 @@
 
 use crate::asserts::assert_same;
 use crate::writers::written::{Part, write_parts};
-use codespan_base::diagnostic::Severity;
+use codespan_base::diagnostic::{LabelStyle, Severity};
 use codespan_base::term::PlainWriter;
+use codespan_base::term::config::style_mark::StyleMark;
 use std::alloc::Global;
 use std::process::Abort;
 use test_writers::example::TagWriter;
@@ -18,14 +19,14 @@ static PARTS: [Part; 15] = [
     Part::Repeated('─', 2),
     Part::Text(""),
     Part::Spaces(0),
-    Part::Header(Severity::Bug),
-    Part::Message,
-    Part::LineNumber,
-    Part::Bullet,
-    Part::Border,
-    Part::Primary(Severity::Help),
-    Part::Secondary(Severity::Help),
-    Part::Reset,
+    Part::Mark(StyleMark::Header(Severity::Bug)),
+    Part::Mark(StyleMark::HeaderMessage),
+    Part::Mark(StyleMark::LineNumber),
+    Part::Mark(StyleMark::NoteBullet),
+    Part::Mark(StyleMark::SourceBorder),
+    Part::Mark(StyleMark::Label(Severity::Help, LabelStyle::Primary)),
+    Part::Mark(StyleMark::Label(Severity::Help, LabelStyle::Secondary)),
+    Part::Mark(StyleMark::Reset),
 ];
 
 /// These parts in plain text.
@@ -65,7 +66,7 @@ fn assert_is_right(rt: &impl Abort, inner: &StoppingWriter, is_ok: bool, whole: 
 /// Asserts what a writer that stops in this way holds of the parts in tags.
 fn assert_tags_stop(rt: &impl Abort, alloc: Global, case: &Case) {
     let mut inner = case.writer(alloc);
-    let is_ok = write_parts(&mut TagWriter::new(&mut inner), &PARTS, "").is_ok();
+    let is_ok = write_parts(&mut TagWriter::new(&mut inner), &PARTS).is_ok();
     assert_is_right(rt, &inner, is_ok, TAG_PARTS, case);
 }
 
@@ -73,7 +74,7 @@ fn assert_tags_stop(rt: &impl Abort, alloc: Global, case: &Case) {
 /// failed.
 fn assert_plain_stops(rt: &impl Abort, alloc: Global, case: &Case) {
     let mut plain = PlainWriter::new(case.writer(alloc));
-    let is_ok = write_parts(&mut plain, &PARTS, "").is_ok();
+    let is_ok = write_parts(&mut plain, &PARTS).is_ok();
     assert_same(rt, &plain.has_failed(), &!is_ok);
     assert_is_right(rt, &plain.into_inner(), is_ok, PLAIN_PARTS, case);
 }

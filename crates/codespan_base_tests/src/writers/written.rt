@@ -3,6 +3,8 @@
 use crate::asserts::assert_same;
 use codespan_base::diagnostic::{LabelStyle, Severity};
 use codespan_base::term::config::plain_ref::PlainWriterRef;
+use codespan_base::term::config::put_style::PutStyle;
+use codespan_base::term::config::style_mark::StyleMark;
 use codespan_base::term::config::writing::{
     put_all, put_char, put_number, put_repeated, put_spaces,
 };
@@ -18,22 +20,8 @@ use test_writers::example::{TagColor, TagWriter};
 /// What one call writes.
 #[derive(Clone, Copy)]
 pub enum Part {
-    /// The style mark of a severity's header.
-    Header(Severity),
-    /// That of its primary label.
-    Primary(Severity),
-    /// That of its secondary label.
-    Secondary(Severity),
-    /// That of a header's message.
-    Message,
-    /// That of a line number.
-    LineNumber,
-    /// That of a note's bullet.
-    Bullet,
-    /// That of a border.
-    Border,
-    /// That of plain text after the others.
-    Reset,
+    /// A style mark.
+    Mark(StyleMark),
     /// A text.
     Text(&'static str),
     /// A character.
@@ -53,14 +41,7 @@ pub enum Part {
 /// Writes a part.
 pub fn write_part<W: WriteStyle>(w: &mut W, part: Part) -> io::Result<()> {
     match part {
-        Part::Header(severity) => w.set_header(severity),
-        Part::Primary(severity) => w.set_label(severity, LabelStyle::Primary),
-        Part::Secondary(severity) => w.set_label(severity, LabelStyle::Secondary),
-        Part::Message => w.set_header_message(),
-        Part::LineNumber => w.set_line_number(),
-        Part::Bullet => w.set_note_bullet(),
-        Part::Border => w.set_source_border(),
-        Part::Reset => w.reset(),
+        Part::Mark(mark) => w.put_mark(mark),
         Part::Text(text) => put_all(w, text.as_bytes()),
         Part::Char(c) => put_char(w, c),
         Part::Repeated(c, count) => put_repeated(w, c, count),
@@ -71,51 +52,53 @@ pub fn write_part<W: WriteStyle>(w: &mut W, part: Part) -> io::Result<()> {
     }
 }
 
-/// Writes parts, and a text after each.
-pub fn write_parts<W: WriteStyle>(w: &mut W, parts: &[Part], ending: &str) -> io::Result<()> {
+/// Writes parts, one after another.
+pub fn write_parts<W: WriteStyle>(w: &mut W, parts: &[Part]) -> io::Result<()> {
     for part in parts {
         write_part(w, *part)?;
-        put_all(w, ending.as_bytes())?;
     }
     Ok(())
 }
 
 /// Every style mark but the reset.
-static STYLE_MARKS: [Part; 19] = [
-    Part::Header(Severity::Bug),
-    Part::Primary(Severity::Bug),
-    Part::Secondary(Severity::Bug),
-    Part::Header(Severity::Error),
-    Part::Primary(Severity::Error),
-    Part::Secondary(Severity::Error),
-    Part::Header(Severity::Warning),
-    Part::Primary(Severity::Warning),
-    Part::Secondary(Severity::Warning),
-    Part::Header(Severity::Note),
-    Part::Primary(Severity::Note),
-    Part::Secondary(Severity::Note),
-    Part::Header(Severity::Help),
-    Part::Primary(Severity::Help),
-    Part::Secondary(Severity::Help),
-    Part::Message,
-    Part::LineNumber,
-    Part::Bullet,
-    Part::Border,
+static STYLE_MARKS: [StyleMark; 19] = [
+    StyleMark::Header(Severity::Bug),
+    StyleMark::Label(Severity::Bug, LabelStyle::Primary),
+    StyleMark::Label(Severity::Bug, LabelStyle::Secondary),
+    StyleMark::Header(Severity::Error),
+    StyleMark::Label(Severity::Error, LabelStyle::Primary),
+    StyleMark::Label(Severity::Error, LabelStyle::Secondary),
+    StyleMark::Header(Severity::Warning),
+    StyleMark::Label(Severity::Warning, LabelStyle::Primary),
+    StyleMark::Label(Severity::Warning, LabelStyle::Secondary),
+    StyleMark::Header(Severity::Note),
+    StyleMark::Label(Severity::Note, LabelStyle::Primary),
+    StyleMark::Label(Severity::Note, LabelStyle::Secondary),
+    StyleMark::Header(Severity::Help),
+    StyleMark::Label(Severity::Help, LabelStyle::Primary),
+    StyleMark::Label(Severity::Help, LabelStyle::Secondary),
+    StyleMark::HeaderMessage,
+    StyleMark::LineNumber,
+    StyleMark::NoteBullet,
+    StyleMark::SourceBorder,
 ];
 
 /// Writes every style mark, each but the reset before a newline.
 pub fn write_style_marks<W: WriteStyle>(w: &mut W) -> io::Result<()> {
-    write_parts(w, &STYLE_MARKS, "\n")?;
+    for mark in &STYLE_MARKS {
+        w.put_mark(*mark)?;
+        put_char(w, '\n')?;
+    }
     w.reset()
 }
 
 /// The header of an error with the message `m`.
 static HEADER: [Part; 6] = [
-    Part::Header(Severity::Error),
+    Part::Mark(StyleMark::Header(Severity::Error)),
     Part::Text("error"),
-    Part::Message,
+    Part::Mark(StyleMark::HeaderMessage),
     Part::Text(": m"),
-    Part::Reset,
+    Part::Mark(StyleMark::Reset),
     Part::Text("\n"),
 ];
 
@@ -142,10 +125,10 @@ pub enum Rows {
 pub fn write_rows<W: WriteStyle>(w: &mut W, rows: Rows) -> io::Result<()> {
     match rows {
         Rows::StyleMarks => write_style_marks(w),
-        Rows::Header => write_parts(w, &HEADER, ""),
+        Rows::Header => write_parts(w, &HEADER),
         Rows::Flushed => {
             write_style_marks(w)?;
-            write_parts(w, &FLUSHED, "")
+            write_parts(w, &FLUSHED)
         }
     }
 }

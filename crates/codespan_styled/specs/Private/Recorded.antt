@@ -1,17 +1,22 @@
 -- How the law of writers, which knows only bytes, sees a `Recorder`: as a writer that holds, for
--- each run, a number above 255 that stands for its style, and then the run's bytes. Only contracts
--- of `Recorder` and proofs use these definitions.
+-- each run, a number above 255 that stands for its style mark, and then the run's bytes. Only
+-- contracts of `Recorder` and proofs use these definitions.
 use Rattle.std.specs.Prelude.{ℕ, ◌+◌, ◌<◌, Bool, List, [], ◌∷◌, ◌++◌, map, Some}
 use Rattle.std.specs.List.{AllByRecursion, flat_map}
 use Rattle.codespan_base.specs.declared.diagnostic.LabelStyle.TheVariants.{Primary, Secondary}
 use Rattle.codespan_base.specs.declared.diagnostic.Severity.{Severity}
 use Rattle.codespan_base.specs.declared.diagnostic.Severity.TheVariants.{Bug, Error, Warning, Note, Help}
+use Rattle.codespan_base.specs.declared.term.config.style_mark.StyleMark.{StyleMark}
+use Rattle.codespan_base.specs.declared.term.config.style_mark.StyleMark.TheVariants.{Header}
+use Rattle.codespan_base.specs.declared.term.config.style_mark.StyleMark.TheVariants.{HeaderMessage}
+use Rattle.codespan_base.specs.declared.term.config.style_mark.StyleMark.TheVariants.{LineNumber}
+use Rattle.codespan_base.specs.declared.term.config.style_mark.StyleMark.TheVariants.{NoteBullet}
+use Rattle.codespan_base.specs.declared.term.config.style_mark.StyleMark.TheVariants.{SourceBorder}
+use Rattle.codespan_base.specs.declared.term.config.style_mark.StyleMark.TheVariants.{Label, Reset}
 use Rattle.codespan_base.specs.Streams.{Spelling}
 use Rattle.codespan_base.specs.WriterLaw.{Sink}
 use Rattle.codespan_styled.specs.declared.recorder.Recorder.{Recorder}
-use Rattle.codespan_documents.specs.declared.style.Style.{Style}
-use Rattle.codespan_documents.specs.declared.style.Style.TheVariants.{Plain, Header, HeaderMessage, LineNumber, NoteBullet, SourceBorder, Label}
-use Rattle.codespan_documents.specs.Runs.{RunView, run_view, style_after}
+use Rattle.codespan_documents.specs.Runs.{RunView, run_view}
 
 -- ---- bytes
 
@@ -23,9 +28,9 @@ AreBytes bs = AllByRecursion (λ b. b < 256) bs
 abbrev pub TextsAreBytes : List RunView → Type 0
 TextsAreBytes runs = AllByRecursion (λ (run : RunView). AreBytes run.text) runs
 
--- ---- numbers of styles
+-- ---- numbers of style marks
 
--- the number of a severity among the styles that have one
+-- the number of a severity among the style marks that have one
 abbrev pub severity_offset : Severity → ℕ
 severity_offset Bug = 0
 severity_offset Error = 1
@@ -33,9 +38,9 @@ severity_offset Warning = 2
 severity_offset Note = 3
 severity_offset Help = 4
 
--- the number of a style, above 255
-abbrev pub style_number : Style → ℕ
-style_number Plain = 256
+-- the number of a style mark, above 255
+abbrev pub style_number : StyleMark → ℕ
+style_number Reset = 256
 style_number HeaderMessage = 257
 style_number LineNumber = 258
 style_number NoteBullet = 259
@@ -44,13 +49,13 @@ style_number (Header severity) = 261 + severity_offset severity
 style_number (Label severity Primary) = 266 + severity_offset severity
 style_number (Label severity Secondary) = 271 + severity_offset severity
 
--- each style mark is recorded as the number of the style that it starts
+-- each style mark is recorded as its number
 abbrev pub style_spelling : Spelling
-style_spelling style_mark = style_number (style_after style_mark) ∷ []
+style_spelling style_mark = style_number style_mark ∷ []
 
 -- ---- runs
 
--- how a run is recorded: the number of its style, and then its bytes
+-- how a run is recorded: the number of its style mark, and then its bytes
 abbrev pub recorded_run : RunView → List ℕ
 recorded_run run = style_number run.style ∷ run.text
 

@@ -7,17 +7,17 @@ use crate::styled::texts::text_of_runs;
 use codespan_base::diagnostic::{Diagnostic, Label, LabelStyle, Severity};
 use codespan_base::files::SimpleFile;
 use codespan_base::term::{Config, DisplayStyle};
-use codespan_styled::{Style, StyledText, styled_text, to_html};
+use codespan_styled::{StyleMark, StyledText, styled_text, to_html};
 use std::alloc::Global;
 use std::panic::Expect;
 use std::process::Abort;
 
 /// The runs of texts, by what is tested, and the document.
-static DOCUMENTS: [(&str, &[(Style, &str)], &str); 4] = [
+static DOCUMENTS: [(&str, &[(StyleMark, &str)], &str); 4] = [
     (
         "entities",
         &[(
-            Style::Label(Severity::Help, LabelStyle::Primary),
+            StyleMark::Label(Severity::Help, LabelStyle::Primary),
             "<script>alert(\"1\" & '2')</script>",
         )],
         "<pre class=\"diagnostic\">\n\
@@ -28,7 +28,7 @@ static DOCUMENTS: [(&str, &[(Style, &str)], &str); 4] = [
     (
         "excluded_characters",
         &[(
-            Style::Plain,
+            StyleMark::Reset,
             "\0\x1b[31m\r\x7f\u{9b}\u{fdd0}\u{fffe}\u{10ffff}\t\x0c\u{a0}\u{fdcf}\u{10fffd}",
         )],
         "<pre class=\"diagnostic\">\n\
@@ -46,7 +46,7 @@ static DOCUMENTS: [(&str, &[(Style, &str)], &str); 4] = [
     (
         "cells_of_plain_text",
         &[(
-            Style::Plain,
+            StyleMark::Reset,
             "\u{ff8a}\u{ff1c}<e\u{301}\u{1f980}\u{1f1e9}\u{17d8}\u{17d9}",
         )],
         "<pre class=\"diagnostic\">\n\
@@ -110,36 +110,36 @@ fn wide(rt: &impl Abort, alloc: Global) -> Diagnostic<()> {
 }
 
 /// The style of its label.
-const LABEL: Style = Style::Label(Severity::Warning, LabelStyle::Primary);
+const LABEL: StyleMark = StyleMark::Label(Severity::Warning, LabelStyle::Primary);
 
 /// The runs of its output in rich style, by hand from the definitions: the rows are those of
 /// `rich_rows`, each row's text and style marks those of `stream_of`, and a style mark starts a
 /// run.
-static RUNS: [(Style, &str); 20] = [
-    (Style::Plain, ""),
-    (Style::Header(Severity::Warning), "warning"),
-    (Style::HeaderMessage, ": wide"),
-    (Style::Plain, "\n  "),
-    (Style::SourceBorder, "┌─"),
-    (Style::Plain, " wide.txt:1:1\n  "),
-    (Style::SourceBorder, "│"),
-    (Style::Plain, "\n"),
-    (Style::LineNumber, "1"),
-    (Style::Plain, " "),
-    (Style::SourceBorder, "│"),
-    (Style::Plain, " "),
+static RUNS: [(StyleMark, &str); 20] = [
+    (StyleMark::Reset, ""),
+    (StyleMark::Header(Severity::Warning), "warning"),
+    (StyleMark::HeaderMessage, ": wide"),
+    (StyleMark::Reset, "\n  "),
+    (StyleMark::SourceBorder, "┌─"),
+    (StyleMark::Reset, " wide.txt:1:1\n  "),
+    (StyleMark::SourceBorder, "│"),
+    (StyleMark::Reset, "\n"),
+    (StyleMark::LineNumber, "1"),
+    (StyleMark::Reset, " "),
+    (StyleMark::SourceBorder, "│"),
+    (StyleMark::Reset, " "),
     (LABEL, "日本語"),
-    (Style::Plain, " = 1\n  "),
-    (Style::SourceBorder, "│"),
-    (Style::Plain, " "),
+    (StyleMark::Reset, " = 1\n  "),
+    (StyleMark::SourceBorder, "│"),
+    (StyleMark::Reset, " "),
     (LABEL, "^^^^^^"),
-    (Style::Plain, " "),
+    (StyleMark::Reset, " "),
     (LABEL, "名"),
-    (Style::Plain, "\n\n"),
+    (StyleMark::Reset, "\n\n"),
 ];
 
 /// Asserts that a text has these runs.
-fn assert_runs(rt: &impl Abort, text: &StyledText, expected: &[(Style, &str)]) {
+fn assert_runs(rt: &impl Abort, text: &StyledText, expected: &[(StyleMark, &str)]) {
     assert!(rt; text.runs.len() == expected.len());
     for (run, (style, part)) in text.runs.iter().zip(expected) {
         assert_text(rt, run.text.as_str(), part);

@@ -5,18 +5,18 @@ use crate::asserts::assert_text;
 use crate::styled::texts::text_of_runs;
 use codespan_base::diagnostic::{LabelStyle, Severity};
 use codespan_base::term::Styles;
-use codespan_styled::{Style, to_svg};
+use codespan_styled::{StyleMark, to_svg};
 use std::panic::Expect;
 
 /// The runs of a text.
-static RUNS: [(Style, &str); 7] = [
-    (Style::Plain, ""),
-    (Style::Label(Severity::Error, LabelStyle::Primary), "a<"),
-    (Style::Label(Severity::Bug, LabelStyle::Primary), "b"),
-    (Style::Plain, "  \n  "),
-    (Style::Header(Severity::Error), "世e\u{301}"),
-    (Style::Plain, " & \"\x1b[\x07"),
-    (Style::SourceBorder, "│"),
+static RUNS: [(StyleMark, &str); 7] = [
+    (StyleMark::Reset, ""),
+    (StyleMark::Label(Severity::Error, LabelStyle::Primary), "a<"),
+    (StyleMark::Label(Severity::Bug, LabelStyle::Primary), "b"),
+    (StyleMark::Reset, "  \n  "),
+    (StyleMark::Header(Severity::Error), "世e\u{301}"),
+    (StyleMark::Reset, " & \"\x1b[\x07"),
+    (StyleMark::SourceBorder, "│"),
 ];
 
 #[test]

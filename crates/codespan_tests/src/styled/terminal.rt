@@ -7,8 +7,8 @@ use codespan_base::diagnostic::{Diagnostic, Label, LabelStyle, Severity};
 use codespan_base::files::SimpleFile;
 use codespan_base::term::{Ansi, Config, Styles};
 use codespan_reporting::term::RichDiagnostic;
+use codespan_styled::StyleMark;
 use codespan_styled::render::styled_text;
-use codespan_styled::style::Style;
 use codespan_styled::terminal::{is_safe, safe_text, to_terminal};
 use std::alloc::Global;
 use std::panic::Expect;
@@ -123,57 +123,57 @@ fn first_and_last_of_each_range(rt: HostRuntime) {
 }
 
 /// The runs of a styled text, by what is tested, and the output.
-type WorkedOutput<'text> = (&'text str, &'text [(Style, &'text str)], &'text str);
+type WorkedOutput<'text> = (&'text str, &'text [(StyleMark, &'text str)], &'text str);
 
 /// A header with sequences of its own, an `a` in a style of each kind, and no text.
 static OUTPUTS: [WorkedOutput<'static>; 10] = [
     (
         "header_has_its_sequences_alone",
         &[
-            (Style::Plain, ""),
-            (Style::Header(Severity::Error), "error"),
-            (Style::HeaderMessage, ": \x1b[2Jbad \u{202e}name"),
-            (Style::Plain, "\n  "),
-            (Style::SourceBorder, "┌─"),
-            (Style::Plain, " \x1b]0;a.rs\x07\n"),
+            (StyleMark::Reset, ""),
+            (StyleMark::Header(Severity::Error), "error"),
+            (StyleMark::HeaderMessage, ": \x1b[2Jbad \u{202e}name"),
+            (StyleMark::Reset, "\n  "),
+            (StyleMark::SourceBorder, "┌─"),
+            (StyleMark::Reset, " \x1b]0;a.rs\x07\n"),
         ],
         "\x1b[0m\x1b[1m\x1b[38;5;9merror\x1b[0m\x1b[1m: [2Jbad name\x1b[0m\n  \
         \x1b[0m\x1b[36m┌─\x1b[0m ]0;a.rs\n",
     ),
-    ("plain", &[(Style::Plain, "a")], "a"),
+    ("plain", &[(StyleMark::Reset, "a")], "a"),
     (
         "header",
-        &[(Style::Header(Severity::Warning), "a")],
+        &[(StyleMark::Header(Severity::Warning), "a")],
         "\x1b[0m\x1b[1m\x1b[38;5;11ma",
     ),
     (
         "header message",
-        &[(Style::HeaderMessage, "a")],
+        &[(StyleMark::HeaderMessage, "a")],
         "\x1b[0m\x1b[1ma",
     ),
     (
         "line number",
-        &[(Style::LineNumber, "a")],
+        &[(StyleMark::LineNumber, "a")],
         "\x1b[0m\x1b[36ma",
     ),
     (
         "note bullet",
-        &[(Style::NoteBullet, "a")],
+        &[(StyleMark::NoteBullet, "a")],
         "\x1b[0m\x1b[36ma",
     ),
     (
         "source border",
-        &[(Style::SourceBorder, "a")],
+        &[(StyleMark::SourceBorder, "a")],
         "\x1b[0m\x1b[36ma",
     ),
     (
         "primary label",
-        &[(Style::Label(Severity::Note, LabelStyle::Primary), "a")],
+        &[(StyleMark::Label(Severity::Note, LabelStyle::Primary), "a")],
         "\x1b[0m\x1b[32ma",
     ),
     (
         "secondary label",
-        &[(Style::Label(Severity::Note, LabelStyle::Secondary), "a")],
+        &[(StyleMark::Label(Severity::Note, LabelStyle::Secondary), "a")],
         "\x1b[0m\x1b[36ma",
     ),
     ("no text", &[], ""),

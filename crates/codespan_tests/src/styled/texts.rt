@@ -1,12 +1,12 @@
 //! Styled texts.
 
-use codespan_styled::{Run, Style, StyledText};
+use codespan_styled::{Run, StyleMark, StyledText};
 use std::alloc::Global;
 use std::panic::Expect;
 use std::process::Abort;
 
 /// Returns the styled text whose runs have these styles and texts.
-pub fn text_of_runs(rt: &impl Abort, alloc: Global, parts: &[(Style, &str)]) -> StyledText {
+pub fn text_of_runs(rt: &impl Abort, alloc: Global, parts: &[(StyleMark, &str)]) -> StyledText {
     let mut runs = Vec::new(alloc);
     for (style, part) in parts {
         let text = part.to_string(alloc).expect(rt, "the part");

@@ -1,6 +1,6 @@
 use Rattle.std.proofs.Common.{ℕ, List, ◌++◌, ap, ◌∙◌, append_assoc, string_bytes}
 use Rattle.codespan_base.specs.StyleSpellings.{ansi_spelling}
-use Rattle.codespan_terminal.specs.Terminal.{run_bytes, safe_text, style_mark_of}
+use Rattle.codespan_terminal.specs.Terminal.{run_bytes, safe_text}
 use Rattle.codespan_documents.proofs.Appending.{run-more, run-end}
 use Rattle.codespan_terminal.proofs.terminal.push_runs.Goals as goal
 
@@ -13,7 +13,7 @@ loop-run-preserved c =
     ∙ ap (λ t. string_bytes c.push_sequences.new.terminal ++ safe_text t) c.as_str.ensures.value
     ∙ ap (λ (front : List ℕ). front ++ text) c.in_ok-push_sequences.ensures
     ∙ append_assoc (string_bytes c.loop-run.terminal)
-    (ansi_spelling c.args.styles.now (style_mark_of run.style)) text in
+    (ansi_spelling c.args.styles.now run.style) text in
     run-more (run_bytes c.args.styles.now) c.args.runs.now c.loop-run.run-index run
     (string_bytes c.loop-run.terminal) _ _ c.loop-run-test.true c.run-item.is appended
     c.loop-run.invariant
