@@ -59,4 +59,6 @@ pub mod TextRuns
 pub mod PlainText
 pub mod SkippedCells
 pub mod Widths
+pub mod SpacedPointers
+pub mod PointersBefore
 pub mod UnderlineRows

@@ -1,6 +1,9 @@
--- For `Messages::of` and `write_hanging_rows`: prefixes and suffixes of the labels of a line.
+-- For `Messages::of`, `write_pointer_and_hanging_rows` and `write_hanging_rows`: prefixes and
+-- suffixes of the labels of a line.
 use Rattle.std.proofs.Common.{◌≡◌, ℕ, ◌-◌, ◌≤◌, max, List, [], ◌∷◌, ◌++◌, length, length-drop, take, drop, fold, sym, ap, ◌∙◌, arith}
 use Rattle.std.proofs.Math.Seq.{take-length}
+use Rattle.std.proofs.Math.Logic.{∥∥₁_elim}
+use Rattle.std.proofs.Props.{props}
 use Rattle.std.proofs.lemmas.List.{map-append, take-append-drop}
 use Rattle.std.proofs.lemmas.List.Sums.{fold-append}
 use Rattle.codespan_core.specs.Labels.{LabelModel}
@@ -41,19 +44,21 @@ suffix-near xs ys = let more = grows 0 (max_label_start xs) ys (omega arith) in
 
 -- no label before the trailing one starts past all
 pub before-near : (labels before after : List SingleLabelTuple)
-    → ArePrefixAndSuffix labels before after
+    → ∥ ArePrefixAndSuffix labels before after ∥₁
     → max_label_start (single_label_views before) ≤ max_label_start (single_label_views labels)
-before-near labels before after p =
+before-near labels before after slices =
+    ∥∥₁_elim slices (Prim.hlevel props) (λ p.
     let e = ap max_label_start (whole before p.rest labels p.begins) in
-    omega (arith, e, prefix-near (single_label_views before) (single_label_views p.rest))
+    omega (arith, e, prefix-near (single_label_views before) (single_label_views p.rest)))
 
 -- nor does one after it
 pub after-near : (labels before after : List SingleLabelTuple)
-    → ArePrefixAndSuffix labels before after
+    → ∥ ArePrefixAndSuffix labels before after ∥₁
     → max_label_start (single_label_views after) ≤ max_label_start (single_label_views labels)
-after-near labels before after p =
+after-near labels before after slices =
+    ∥∥₁_elim slices (Prim.hlevel props) (λ p.
     let e = ap max_label_start (whole p.skipped after labels p.ends) in
-    omega (arith, e, suffix-near (single_label_views p.skipped) (single_label_views after))
+    omega (arith, e, suffix-near (single_label_views p.skipped) (single_label_views after)))
 
 -- ---- labels from the last one on
 

@@ -3,6 +3,7 @@
 pub mod LineViews
 pub mod WrittenParts
 pub mod CharCursors
+pub mod PointerLists
 pub mod LineCharacters
 pub mod RemainingLaneMarks
 pub mod PrimaryCover

@@ -13,6 +13,7 @@ pub mod line_rows;
 pub mod messages;
 pub mod notes;
 pub mod parts;
+pub mod pointer_cursor;
 pub mod pointers;
 pub mod primary_cover;
 pub mod runs;

@@ -2,11 +2,9 @@ pub mod MetricsSteps
 pub mod ThroughReference
 pub mod RowWriters
 pub mod PreferredStyles
-pub mod ScannedPointers
+pub mod PointerStyles
 pub mod LabelCursorSteps
 pub mod StartsPassed
-pub mod SpacedPointers
-pub mod PointersBefore
 pub mod PointerCursors
 pub mod WidthSearch
 pub mod CachedScans

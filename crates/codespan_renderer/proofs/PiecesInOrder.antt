@@ -1,5 +1,7 @@
--- For `cache_line`: prefixes and suffixes of labels in order are in order.
+-- For `find_pointers`: prefixes and suffixes of labels in order are in order.
 use Rattle.std.proofs.Common.{◌≡◌, ℕ, ◌≤◌, true, nat_le, List, [], ◌∷◌, ◌++◌, refl, ap, ◌∙◌, arith}
+use Rattle.std.proofs.Math.Logic.{∥∥₁_elim}
+use Rattle.std.proofs.Props.{props}
 use Rattle.std.proofs.lemmas.Bool.{and_parts}
 use Rattle.std.proofs.lemmas.Bool.Decides.{nat_tests}
 use Rattle.codespan_core.specs.Labels.{LabelModel}
@@ -25,16 +27,20 @@ back-ordered low (x ∷ xs) ys h =
 
 -- the labels before the trailing one keep the order
 pub before-ordered : (labels before after : List SingleLabelTuple)
-    → ArePrefixAndSuffix labels before after → starts_in_order (single_label_views labels) ≡ true
+    → ∥ ArePrefixAndSuffix labels before after ∥₁
+    → starts_in_order (single_label_views labels) ≡ true
     → starts_in_order (single_label_views before) ≡ true
-before-ordered labels before after p h =
+before-ordered labels before after slices h =
+    ∥∥₁_elim slices (Prim.hlevel props) (λ p.
     front-ordered 0 (single_label_views before) (single_label_views p.rest)
-    (ap starts_in_order (whole before p.rest labels p.begins) ∙ h)
+    (ap starts_in_order (whole before p.rest labels p.begins) ∙ h))
 
 -- so do those after it
 pub after-ordered : (labels before after : List SingleLabelTuple)
-    → ArePrefixAndSuffix labels before after → starts_in_order (single_label_views labels) ≡ true
+    → ∥ ArePrefixAndSuffix labels before after ∥₁
+    → starts_in_order (single_label_views labels) ≡ true
     → starts_in_order (single_label_views after) ≡ true
-after-ordered labels before after p h =
+after-ordered labels before after slices h =
+    ∥∥₁_elim slices (Prim.hlevel props) (λ p.
     back-ordered 0 (single_label_views p.skipped) (single_label_views after)
-    (ap starts_in_order (whole p.skipped after labels p.ends) ∙ h)
+    (ap starts_in_order (whole p.skipped after labels p.ends) ∙ h))

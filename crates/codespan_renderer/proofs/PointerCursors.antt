@@ -1,20 +1,24 @@
--- For `find_pointers`: a cursor that finds the pointers of a line.
-use Rattle.std.proofs.Common.{◌≡◌, ℕ, ◌+◌, ◌<◌, ◌≤◌, Bool, true, false, arith, List, [], ◌∷◌, ◌++◌, Option, Some, None, refl, ◌∙◌, append_assoc, filter}
+-- For `find_pointers` and `next_pointer`: what finds the pointers of a line.
+use Rattle.std.proofs.Common.{◌≡◌, ℕ, ◌+◌, ◌<◌, ◌≤◌, arith, List, [], ◌∷◌, ◌++◌, Option, Some, None, refl, ◌∙◌, append_assoc, filter}
 use Rattle.codespan_core.specs.declared.diagnostic.LabelStyle.{LabelStyle}
 use Rattle.codespan_core.specs.Labels.{LabelModel, has_message}
 use Rattle.codespan_picture.specs.declared.char_metrics.Metrics.{Metrics}
 use Rattle.codespan_renderer.specs.declared.term.renderer.cached.label_cursor.StartCursor.{StartCursor}
-use Rattle.codespan_renderer.specs.declared.term.renderer.cached.pointers.Pointer.{Pointer}
+use Rattle.codespan_renderer.specs.declared.term.renderer.char_metrics.CharMetrics.{CharMetrics}
+use Rattle.codespan_picture.specs.declared.rows.pointer_cursor.Pointer.{Pointer}
 use Rattle.codespan_picture.specs.Arguments.{SingleLabelTuple, single_label_views}
-use Rattle.codespan_renderer.specs.Private.PointerLists.{pointer_under, pointers_in, HasPassedStarts}
+use Rattle.codespan_picture.specs.Private.PointerLists.{pointer_style_if_any, pointer_under, pointers_in}
+use Rattle.codespan_renderer.specs.Private.LabelCursors.{HasPassedStarts}
+use Rattle.codespan_renderer.specs.Private.RemainingMetrics.{GoesOver, metrics_from, no_more}
 use Rattle.codespan_picture.specs.Rows.{hanging_labels}
 use Rattle.codespan_picture.specs.RowParts.{max_label_start, starts_in}
-use Rattle.codespan_picture.proofs.HangingStarts.{any-below, any-hanging_labels, starts_in-low}
-use Rattle.std.specs.List.{list_any}
-use Rattle.codespan_renderer.specs.Private.PreferredStyles.{preferred_style, pointer_style_if_any}
+use Rattle.codespan_renderer.specs.Private.PreferredStyles.{preferred_style}
 use Rattle.codespan_picture.specs.Private.RowLabels.{AreHanging}
-use Rattle.codespan_renderer.proofs.ScannedPointers.{pointer_is}
-use Rattle.codespan_picture.proofs.Consecutive.{AreConsecutive}
+use Rattle.codespan_renderer.proofs.PointerStyles.{pointer_is}
+use Rattle.codespan_picture.proofs.Consecutive.{AreConsecutive, char_metrics-consecutive}
+use Rattle.codespan_picture.proofs.SpacedPointers.{pointers-past}
+use Rattle.std.specs.Str.{chars}
+use Rattle.std.specs.Str.Iter.{chars_rest}
 
 -- two cursors have passed the labels of two lists that start before these characters
 pub record IsPassing (before after : List SingleLabelTuple) (s t : StartCursor)
@@ -120,33 +124,6 @@ passing-start before after s t cs early late same_early same_late consecutive = 
 
 -- ---- past the greatest start
 
--- the test of a character from which labels hang
-none-test : (labels : List LabelModel) (c : Metrics) (b : Bool)
-    → max_label_start labels < c.byte_index → list_any (starts_in c) (hanging_labels labels) ≡ b
-    → b ≡ false
-none-test labels c true past is =
-    let low = any-below 0 c.byte_index (starts_in c) labels (λ x. starts_in-low c x)
-    (any-hanging_labels (starts_in c) labels is) in
-    absurd (omega arith)
-none-test labels c false past is = refl
-
--- no label hangs from a character there
-none-past : (labels : List LabelModel) (c : Metrics) → max_label_start labels < c.byte_index
-    → pointer_style_if_any (hanging_labels labels) c ≡ None
-none-past labels c past =
-    rw (none-test labels c (list_any (starts_in c) (hanging_labels labels)) past refl) refl
-
--- where all characters begin there, there is no pointer
-pointers-past : (labels : List LabelModel) (byte_index column : ℕ) (cs : List Metrics)
-    → AreConsecutive byte_index column cs → max_label_start labels < byte_index
-    → pointers_in (hanging_labels labels) cs ≡ []
-pointers-past labels byte_index column [] consecutive past = refl
-pointers-past labels byte_index column (c ∷ cs) consecutive past =
-    let there : max_label_start labels < c.byte_index = omega (arith, consecutive.0) in
-    rw (none-past labels c there)
-    (pointers-past labels (byte_index + c.bytes) (column + c.unicode_width) cs consecutive.3
-    (omega arith))
-
 -- the next character begins past the starts, and so do all that follow
 pub pointers-past-at : (labels before after : List SingleLabelTuple) (s t : StartCursor)
     (greatest_start : ℕ) (cs left : List Metrics) (c : Metrics)
@@ -158,3 +135,20 @@ pointers-past-at labels before after s t greatest_start cs left c step w past e 
     let consecutive : AreConsecutive w.byte_index w.column (c ∷ left) = rw step at w.consecutive in
     pointers-past (single_label_views labels) w.byte_index w.column cs w.consecutive
     (omega (arith, e, past, consecutive.0))
+
+-- a scan has none left there
+scan-past : (labels : List LabelModel) (s : CharMetrics) → max_label_start labels < s.byte_index
+    → pointers_in (hanging_labels labels) (metrics_from no_more s) ≡ []
+scan-past labels s past =
+    pointers-past labels s.byte_index s.column (metrics_from no_more s)
+    (char_metrics-consecutive s.tab_width s.byte_index s.column (chars (chars_rest s.chars))) past
+
+-- nor has it after the next character
+pub scan-past-at : (labels : List LabelModel) (reach : ℕ) (c : Metrics) (old new : CharMetrics)
+    → GoesOver c old new → reach < c.byte_index → reach ≡ max_label_start labels
+    → (pointers_in (hanging_labels labels) (metrics_from no_more old) ≡ [])
+    × (pointers_in (hanging_labels labels) (metrics_from no_more new) ≡ [])
+scan-past-at labels reach c old new over past far = (
+  scan-past labels old (omega (arith, over.starts_at_byte, past, far)),
+  scan-past labels new (omega (arith, over.starts_at_byte, over.byte_index, past, far)),
+)

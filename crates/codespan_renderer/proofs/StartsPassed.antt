@@ -11,7 +11,7 @@ use Rattle.codespan_picture.specs.Arguments.{SingleLabelTuple, single_label_view
 use Rattle.codespan_picture.specs.RowParts.{starts_in}
 use Rattle.codespan_renderer.specs.Private.PreferredStyles.{prefer_primary, preferred_style}
 use Rattle.codespan_renderer.proofs.PreferredStyles.{preferred-cons}
-use Rattle.codespan_renderer.proofs.ScannedPointers.{preferred-step}
+use Rattle.codespan_renderer.proofs.PointerStyles.{preferred-step}
 
 -- a label that starts in the character
 pub start-here : (c : Metrics) (found best : Option LabelStyle) (ys xs : List SingleLabelTuple)

@@ -3,7 +3,6 @@
 pub mod RemainingMetrics
 pub mod CursorStates
 pub mod CachedMetrics
-pub mod PointerLists
 pub mod RowWriters
 pub mod PreferredStyles
 pub mod LabelCursors

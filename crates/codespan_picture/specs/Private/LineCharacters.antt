@@ -2,7 +2,10 @@
 use Rattle.std.specs.Prelude.{◌≡◌, ℕ, ◌+◌, ◌≤◌, List, [], ◌∷◌, ◌++◌}
 use Rattle.codespan_picture.specs.declared.char_metrics.Metrics.{Metrics}
 use Rattle.codespan_picture.specs.CharMetrics.{char_metrics, char_metrics_to_end, width_of}
-use Rattle.codespan_picture.specs.Arguments.{SingleLabelTuple}
+use Rattle.codespan_picture.specs.Arguments.{SingleLabelTuple, single_label_views}
+use Rattle.codespan_picture.specs.Rows.{hanging_labels}
+use Rattle.codespan_picture.specs.declared.rows.pointer_cursor.Pointer.{Pointer}
+use Rattle.codespan_picture.specs.Private.PointerLists.{pointers_in}
 use Rattle.codespan_picture.specs.declared.rows.line.RowContext as rust_context
 use Rattle.codespan_picture.specs.declared.rows.line.Line as rust_line
 
@@ -27,6 +30,10 @@ metrics_of x = char_metrics x.tab_width x.text
 -- the characters of the line, and the placeholder after the last one
 abbrev pub metrics_to_end_of : CharInput → List Metrics
 metrics_to_end_of x = char_metrics_to_end x.tab_width x.text
+
+-- the pointers of the line
+abbrev pub pointers_of : CharInput → List Pointer
+pointers_of x = pointers_in (hanging_labels (single_label_views x.labels)) (metrics_of x)
 
 -- the characters end at this byte index or before it
 abbrev pub EndBy : ℕ → List Metrics → Type 0

@@ -7,11 +7,11 @@ use Rattle.codespan_core.specs.Labels.{has_message}
 use Rattle.codespan_core.specs.Streams.{Stream, byte_stream, newline, style_mark, space}
 use Rattle.codespan_core.specs.declared.term.config.style_mark.StyleMark.TheVariants.{Header}
 use Rattle.codespan_picture.specs.declared.char_metrics.Metrics.{Metrics}
-use Rattle.codespan_picture.specs.CharMetrics.{char_metrics, char_metrics_to_end}
+use Rattle.codespan_picture.specs.CharMetrics.{char_metrics_to_end}
 use Rattle.codespan_picture.specs.Arguments.{SingleLabelTuple, LaneMarkTuple, single_label_view, single_label_views, lane_mark_view, locus_view, text_now}
 use Rattle.codespan_picture.specs.Lanes.{Source, Underline, crossing_characters, label_glyph}
 use Rattle.codespan_picture.specs.Rows.{caret_rows, hanging_labels, pointer_and_hanging_rows}
-use Rattle.codespan_picture.specs.RowParts.{border_left, carets, metrics_before, outer_gutter, label_message, leading_of, outer_gutter_number, pointers, inner_gutter, severity_name}
+use Rattle.codespan_picture.specs.RowParts.{border_left, carets, outer_gutter, label_message, leading_of, outer_gutter_number, inner_gutter, severity_name}
 use Rattle.codespan_picture.specs.RowStreams.{bracketed, header_locus, pointer_row, stream_of_rows}
 use Rattle.codespan_picture.specs.declared.arguments.Locus as rust_locus
 use Rattle.codespan_picture.specs.declared.rows.line.RowContext as rust_context
@@ -19,6 +19,8 @@ use Rattle.codespan_picture.specs.declared.rows.line.Line as rust_line
 use Rattle.codespan_picture.specs.declared.rows.messages.Messages as rust_messages
 use Rattle.codespan_picture.specs.Private.LineViews.{context_view, lanes_view, line_view}
 use Rattle.codespan_picture.specs.Private.RowLabels.{hanging_stream}
+use Rattle.codespan_picture.specs.Private.PointerLists.{pointers_before, spaced}
+use Rattle.codespan_picture.specs.Private.LineCharacters.{char_input, pointers_of}
 
 -- ---- the header
 
@@ -58,10 +60,6 @@ lane_glyph_stream x crossing style own =
 
 -- ---- the rows under a line
 
--- the characters of a line
-abbrev pub line_metrics_view : rust_context.RowContext → rust_line.Line → List Metrics
-line_metrics_view x line = char_metrics x.tab_width line.text.now
-
 -- the characters of a line, and the placeholder after the last one
 abbrev pub line_metrics_to_end_view : rust_context.RowContext → rust_line.Line → List Metrics
 line_metrics_to_end_view x line = char_metrics_to_end x.tab_width line.text.now
@@ -76,14 +74,11 @@ caret_rows_stream x line =
     stream_of_rows (context_view x)
     (caret_rows (line_view line) (single_label_views line.labels.now))
 
--- the pointers of a line's labels under characters
-abbrev pub pointers_stream : rust_context.RowContext → rust_line.Line → List Metrics → Stream
-pointers_stream x line cs = pointers (context_view x) (single_label_views line.labels.now) cs
-
--- the pointers under the characters that begin before a byte index
-abbrev pub pointers_before_stream : rust_context.RowContext → rust_line.Line → ℕ → Stream
-pointers_before_stream x line byte_index =
-    pointers_stream x line (metrics_before byte_index (line_metrics_view x line))
+-- the pointers under the characters that begin before a byte index, and spaces up to the column
+-- `edge`
+abbrev pub pointers_before_stream : rust_context.RowContext → rust_line.Line → ℕ → ℕ → Stream
+pointers_before_stream x line byte_index edge =
+    spaced (context_view x) edge 0 (pointers_before byte_index (pointers_of (char_input x line)))
 
 -- a label's message, in its style
 abbrev pub label_message_stream : Severity → SingleLabelTuple → Stream

@@ -11,14 +11,12 @@ ghost use Rattle.codespan_picture.specs.Private.LineViews.{context_view, line_vi
 ghost use Rattle.codespan_picture.specs.Private.WrittenParts.{carets_stream, line_metrics_to_end_view, label_message_stream};
 ghost use Rattle.codespan_picture.specs.RowParts.{carets, style_change, trailing_message};
 ghost use Rattle.codespan_picture.specs.RowStreams.{caret_row};
-ghost use Rattle.codespan_picture.specs.Rows.{trailing_label};
-ghost use Rattle.codespan_picture.specs.Private.LineCharacters.{char_input};
 
 use crate::arguments::SingleLabel;
 use crate::rows::char_cursor::CharCursor;
-use crate::rows::line::{Line, RowContext};
+use crate::rows::line::RowContext;
 use crate::rows::line_characters::LineCharacters;
-use crate::rows::messages::Messages;
+use crate::rows::line_rows::LineRows;
 use crate::rows::parts::{change_style, write_newline, write_row_start, write_space};
 use crate::rows::runs::{write_repeated, write_spaces};
 use codespan_core::diagnostic::{LabelStyle, Severity};
@@ -87,18 +85,15 @@ fn end_caret_run<W: PutStyle>(
 /// text.
 fn write_carets<W: PutStyle, S: LineCharacters>(
     w: &mut W,
-    context: RowContext<'_>,
-    line: Line<'_, '_>,
-    characters: &S,
+    rows: &LineRows<'_, '_, S>,
 ) -> Result<(), W::Error>
-    requires input { S.input characters.now ≡ char_input context line }
     ensures { Writes (W.sink w.old)
-        (carets_stream context.entry line.entry.labels.now
-        (line_metrics_to_end_view context.entry line.entry))
+        (carets_stream rows.now.context rows.now.line.labels.now
+        (line_metrics_to_end_view rows.now.context rows.now.line))
         result (W.sink w.new) }
 {
-    let end = max_label_end(line.labels);
-    let (mut run, mut cursor) = characters.characters_from_labels(end);
+    let end = max_label_end(rows.line.labels);
+    let (mut run, mut cursor) = rows.characters.characters_from_labels(end);
     let mut previous = None;
     while let Some(metrics) = cursor.next_metrics() {
         if metrics.byte_index >= end {
@@ -106,13 +101,13 @@ fn write_carets<W: PutStyle, S: LineCharacters>(
         }
         let style = cursor.style_under(metrics);
         if style != previous {
-            end_caret_run(w, context, previous, run, style)?;
+            end_caret_run(w, rows.context, previous, run, style)?;
             run = 0;
             previous = style;
         }
         run += metrics.unicode_width as u128;
     }
-    end_caret_run(w, context, previous, run, None)
+    end_caret_run(w, rows.context, previous, run, None)
 }
 
 /// Writes a label's message in its style.
@@ -159,27 +154,16 @@ fn write_trailing_message<W: PutStyle>(
 /// # Errors
 ///
 /// The writer's error; a prefix has then been written.
-///
-/// # Requires
-///
-/// - `characters` has the context's tab width, and the text and labels of `line`.
-/// - `messages.trailing_label` is the label of `line` whose message trails, where there is one.
 pub fn write_caret_row<W: PutStyle, S: LineCharacters>(
     w: &mut W,
-    context: RowContext<'_>,
-    line: Line<'_, '_>,
-    characters: &S,
-    messages: Messages<'_, '_>,
+    rows: &LineRows<'_, '_, S>,
 ) -> Result<(), W::Error>
-    requires input { S.input characters.now ≡ char_input context line }
-    requires trailing_label { optional_label_view messages.trailing_label
-        ≡ trailing_label (single_label_views line.labels.now) }
     ensures { Writes (W.sink w.old)
-        (caret_row (context_view context.entry) (line_view line.entry) ++ newline) result
+        (caret_row (context_view rows.now.context) (line_view rows.now.line) ++ newline) result
         (W.sink w.new) }
 {
-    write_row_start(w, context, line)?;
-    write_carets(w, context, line, characters)?;
-    write_trailing_message(w, context.severity, messages.trailing_label)?;
+    write_row_start(w, rows.context, rows.line)?;
+    write_carets(w, rows)?;
+    write_trailing_message(w, rows.context.severity, rows.messages.trailing_label)?;
     write_newline(w)
 }

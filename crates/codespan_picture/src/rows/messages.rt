@@ -5,8 +5,11 @@ ghost use Rattle.std.specs.List.{list_any};
 ghost use Rattle.std.specs.Option.{option_map_or};
 ghost use Rattle.codespan_core.specs.Labels.{has_message};
 ghost use Rattle.codespan_picture.specs.Arguments.{single_label_view, single_label_views};
-ghost use Rattle.codespan_picture.specs.Private.RowLabels.{optional_label_view, indexed_label_view, AreHanging, ArePrefixAndSuffix};
-ghost use Rattle.codespan_picture.specs.Rows.{trailing_label, last_with_end, overlaps_any, does_trail};
+ghost use Rattle.codespan_picture.specs.Private.RowLabels.{optional_label_view, indexed_label_view};
+ghost use Rattle.codespan_picture.specs.Private.RowLabels.{AreHanging, ArePrefixAndSuffix};
+ghost use Rattle.codespan_picture.specs.Rows.{last_with_end, overlaps_any, does_trail};
+ghost use Rattle.codespan_picture.specs.Rows as of_line;
+ghost use Rattle.std.proofs.Props.{props};
 
 use crate::arguments::SingleLabel;
 use crate::rows::carets::{is_overlapping, max_label_end};
@@ -15,6 +18,8 @@ use crate::rows::carets::{is_overlapping, max_label_end};
 /// it, of which those with a message hang.
 #[derive(Clone, Copy)]
 pub struct Messages<'row, 'd> {
+    /// All labels of the line.
+    pub labels: &'row [SingleLabel<'d>],
     /// The label whose message trails.
     pub trailing_label: Option<&'row SingleLabel<'d>>,
     /// The labels that may hang: those before the trailing one, or all where none trails.
@@ -22,24 +27,27 @@ pub struct Messages<'row, 'd> {
     /// The labels after the trailing one, or none. They may hang too, in the rows above those of
     /// `before`.
     pub after: &'row [SingleLabel<'d>],
+    ghost trails: { optional_label_view trailing_label
+        ≡ of_line.trailing_label (single_label_views labels.now) } by { Prim.hlevel props },
+    ghost hanging_labels: { AreHanging labels.now before.now after.now },
+    ghost slices: { ∥ ArePrefixAndSuffix labels.now before.now after.now ∥₁ },
 }
 
 impl<'row, 'd> Messages<'row, 'd> {
     /// Finds the trailing label: the last of those with the greatest end, where it has a message
     /// and overlaps no other label. Each other label with a message hangs.
     pub fn of(labels: &'row [SingleLabel<'d>]) -> Messages<'row, 'd>
-        ensures trailing_label { optional_label_view result.trailing_label
-            ≡ trailing_label (single_label_views labels.now) }
-        ensures hanging_labels { AreHanging labels.now result.before.now result.after.now }
-        ensures slices { ArePrefixAndSuffix labels.now result.before.now result.after.now }
+        ensures { result.labels.now ≡ labels.now }
     {
         match last_with_end(labels, max_label_end(labels)) {
             Some(index) if does_trail(labels, index) => Messages {
+                labels,
                 trailing_label: Some(&labels[index]),
                 before: &labels[..index],
                 after: &labels[index + 1..],
             },
             _ => Messages {
+                labels,
                 trailing_label: None,
                 before: labels,
                 after: &[],

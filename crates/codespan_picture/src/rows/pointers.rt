@@ -1,23 +1,26 @@
 //! The pointers under the carets of a line, and the messages that hang from them.
 
-ghost use Rattle.std.specs.Prelude.{◌≡◌, ◌≤◌, ◌++◌};
-ghost use Rattle.codespan_core.specs.Streams.{newline, spaces};
+ghost use Rattle.std.specs.Prelude.{◌≡◌, ◌≤◌, ◌<◌, ◌+◌, ◌^◌, ◌++◌};
+ghost use Rattle.codespan_core.specs.Streams.{newline};
 ghost use Rattle.codespan_core.specs.WriterLaw.{Writes};
 ghost use Rattle.codespan_picture.specs.Arguments.{single_label_view, single_label_views};
 ghost use Rattle.codespan_picture.specs.Private.LineViews.{context_view, line_view};
-ghost use Rattle.codespan_picture.specs.Private.WrittenParts.{hanging_rows_stream, pointer_and_hanging_rows_stream, unconditional_pointer_and_hanging_rows_stream};
-ghost use Rattle.codespan_picture.specs.Lanes.{label_glyph};
+ghost use Rattle.codespan_picture.specs.Private.PointerLists.{pointer_under};
+ghost use Rattle.codespan_picture.specs.Private.WrittenParts.{pointers_before_stream};
+ghost use Rattle.codespan_picture.specs.Private.WrittenParts.{hanging_rows_stream};
+ghost use Rattle.codespan_picture.specs.Private.WrittenParts.{pointer_and_hanging_rows_stream};
+ghost use Rattle.codespan_picture.specs.Private.WrittenParts.{unconditional_pointer_and_hanging_rows_stream};
 ghost use Rattle.codespan_picture.specs.RowParts.{max_label_start};
 ghost use Rattle.codespan_picture.specs.RowStreams.{pointer_row, hanging_row};
-ghost use Rattle.codespan_picture.specs.Private.RowLabels.{AreHanging, ArePrefixAndSuffix};
-ghost use Rattle.codespan_picture.specs.Private.LineCharacters.{char_input};
 
 use crate::arguments::SingleLabel;
+use crate::char_metrics::Metrics;
 use crate::rows::carets::write_message;
-use crate::rows::line::{Line, RowContext};
 use crate::rows::line_characters::LineCharacters;
-use crate::rows::messages::{Messages, has_any_message};
+use crate::rows::line_rows::LineRows;
+use crate::rows::messages::has_any_message;
 use crate::rows::parts::{write_label_glyph, write_newline, write_row_start};
+use crate::rows::pointer_cursor::{Pointer, PointerCursor};
 use crate::rows::runs::write_spaces;
 use codespan_core::diagnostic::LabelStyle;
 use codespan_core::term::config::put_style::PutStyle;
@@ -34,67 +37,75 @@ pub fn max_label_start(labels: &[SingleLabel<'_>]) -> usize
     greatest
 }
 
-/// Writes `pending` spaces, and then a pointer.
-///
-/// # Errors
-///
-/// The writer's error; a prefix has then been written.
+/// Returns the pointer of a style under a character.
 #[inline(always)]
-pub fn caret_pointer<W: PutStyle>(
-    w: &mut W,
-    context: RowContext<'_>,
-    pending: u128,
-    style: LabelStyle,
-) -> Result<(), W::Error>
-    ensures { Writes (W.sink w.old)
-        (spaces pending ++ label_glyph context.entry.severity style
-        context.entry.chars.now.pointer_left)
-        result (W.sink w.new) }
+pub fn pointer_under(metrics: Metrics, style: LabelStyle) -> Pointer
+    requires { metrics.column + metrics.unicode_width < 2 ^ 128 }
+    ensures { result ≡ pointer_under metrics style }
 {
-    write_spaces(w, pending)?;
-    write_label_glyph(w, context.severity, style, context.chars.pointer_left)
+    Pointer {
+        byte_index: metrics.byte_index,
+        column: metrics.column,
+        end_column: metrics.column + metrics.unicode_width.min(1) as u128,
+        style,
+    }
 }
 
-/// What the pointer row and the hanging rows of a line are written from.
-#[derive(Drop)]
-struct PointerAndHangingRows<'row, 'd, S> {
-    /// What all rows of the output are rendered by.
-    context: RowContext<'row>,
-    /// The line.
-    line: Line<'row, 'd>,
-    /// Its characters, their widths and its pointers.
-    characters: &'row S,
-    /// Which of its labels trails, and which may hang.
-    messages: Messages<'row, 'd>,
+/// Writes the pointers under the characters that begin before a byte index, with spaces between
+/// them and up to the column `edge`.
+#[inline(always)]
+fn write_caret_pointers<W: PutStyle, S: LineCharacters>(
+    w: &mut W,
+    rows: &LineRows<'_, '_, S>,
+    byte_index: usize,
+    edge: u128,
+) -> Result<(), W::Error>
+    ensures { Writes (W.sink w.old)
+        (pointers_before_stream rows.now.context rows.now.line byte_index edge)
+        result (W.sink w.new) }
+{
+    let context = rows.context;
+    let mut pointers = rows.characters.pointers();
+    let mut column = 0u128;
+    while let Some(pointer) = pointers.next_pointer() {
+        if pointer.byte_index >= byte_index {
+            break;
+        }
+        write_spaces(w, pointer.column.saturating_sub(column))?;
+        write_label_glyph(
+            w,
+            context.severity,
+            pointer.style,
+            context.chars.pointer_left,
+        )?;
+        column = pointer.end_column;
+    }
+    write_spaces(w, edge.saturating_sub(column))
 }
 
 /// Writes the pointer row of a line.
 fn write_pointer_row<W: PutStyle, S: LineCharacters>(
     w: &mut W,
-    rows: &PointerAndHangingRows<'_, '_, S>,
+    rows: &LineRows<'_, '_, S>,
 ) -> Result<(), W::Error>
-    requires input { S.input rows.now.characters.now ≡ char_input rows.now.context rows.now.line }
-    requires hanging_labels { AreHanging rows.now.line.labels.now
-        rows.now.messages.before.now rows.now.messages.after.now }
     ensures { Writes (W.sink w.old)
         (pointer_row (context_view rows.now.context) (line_view rows.now.line) ++ newline)
         result (W.sink w.new) }
 {
     write_row_start(w, rows.context, rows.line)?;
-    rows.characters
-        .caret_pointers(w, rows.context, rows.line, rows.messages)?;
+    let edge = rows
+        .characters
+        .width_up_to(max_label_start(rows.line.labels));
+    write_caret_pointers(w, rows, usize::MAX, edge)?;
     write_newline(w)
 }
 
 /// Writes a hanging message under its pointer.
 fn write_hanging_row<W: PutStyle, S: LineCharacters>(
     w: &mut W,
-    rows: &PointerAndHangingRows<'_, '_, S>,
+    rows: &LineRows<'_, '_, S>,
     label: &SingleLabel<'_>,
 ) -> Result<(), W::Error>
-    requires input { S.input rows.now.characters.now ≡ char_input rows.now.context rows.now.line }
-    requires hanging_labels { AreHanging rows.now.line.labels.now
-        rows.now.messages.before.now rows.now.messages.after.now }
     requires within_max_start { (single_label_view label.now).start
         ≤ max_label_start (single_label_views rows.now.line.labels.now) }
     ensures { Writes (W.sink w.old)
@@ -103,8 +114,8 @@ fn write_hanging_row<W: PutStyle, S: LineCharacters>(
         ++ newline) result (W.sink w.new) }
 {
     write_row_start(w, rows.context, rows.line)?;
-    rows.characters
-        .caret_pointers_before(w, rows.context, rows.line, rows.messages, label.1.start)?;
+    let edge = rows.characters.width_before(label.1.start);
+    write_caret_pointers(w, rows, label.1.start, edge)?;
     write_message(w, rows.context.severity, label)?;
     write_newline(w)
 }
@@ -112,12 +123,9 @@ fn write_hanging_row<W: PutStyle, S: LineCharacters>(
 /// Writes a row for each message of these labels, the last label's first.
 fn write_hanging_rows<W: PutStyle, S: LineCharacters>(
     w: &mut W,
-    rows: &PointerAndHangingRows<'_, '_, S>,
+    rows: &LineRows<'_, '_, S>,
     labels: &[SingleLabel<'_>],
 ) -> Result<(), W::Error>
-    requires input { S.input rows.now.characters.now ≡ char_input rows.now.context rows.now.line }
-    requires hanging_labels { AreHanging rows.now.line.labels.now
-        rows.now.messages.before.now rows.now.messages.after.now }
     requires within_max_start { max_label_start (single_label_views labels.now)
         ≤ max_label_start (single_label_views rows.now.line.labels.now) }
     ensures { Writes (W.sink w.old) (hanging_rows_stream rows.now.context rows.now.line labels.now)
@@ -136,13 +144,8 @@ fn write_hanging_rows<W: PutStyle, S: LineCharacters>(
 /// last label's first.
 fn write_pointer_and_hanging_rows_unconditionally<W: PutStyle, S: LineCharacters>(
     w: &mut W,
-    rows: &PointerAndHangingRows<'_, '_, S>,
+    rows: &LineRows<'_, '_, S>,
 ) -> Result<(), W::Error>
-    requires input { S.input rows.now.characters.now ≡ char_input rows.now.context rows.now.line }
-    requires hanging_labels { AreHanging rows.now.line.labels.now
-        rows.now.messages.before.now rows.now.messages.after.now }
-    requires slices { ArePrefixAndSuffix rows.now.line.labels.now
-        rows.now.messages.before.now rows.now.messages.after.now }
     ensures { Writes (W.sink w.old)
         (unconditional_pointer_and_hanging_rows_stream rows.now.context rows.now.line
         rows.now.messages)
@@ -159,33 +162,16 @@ fn write_pointer_and_hanging_rows_unconditionally<W: PutStyle, S: LineCharacters
 /// # Errors
 ///
 /// The writer's error; a prefix has then been written.
-///
-/// # Requires
-///
-/// - `characters` has the context's tab width, and the text and labels of `line`.
-/// - The labels with a message in `messages.before` and `messages.after` are those of `line` that
-///   hang, and the two are a prefix and a suffix of its labels.
 pub fn write_pointer_and_hanging_rows<W: PutStyle, S: LineCharacters>(
     w: &mut W,
-    context: RowContext<'_>,
-    line: Line<'_, '_>,
-    characters: &S,
-    messages: Messages<'_, '_>,
+    rows: &LineRows<'_, '_, S>,
 ) -> Result<(), W::Error>
-    requires input { S.input characters.now ≡ char_input context line }
-    requires hanging_labels { AreHanging line.labels.now messages.before.now messages.after.now }
-    requires slices { ArePrefixAndSuffix line.labels.now messages.before.now messages.after.now }
-    ensures { Writes (W.sink w.old) (pointer_and_hanging_rows_stream context.entry line.entry)
+    ensures { Writes (W.sink w.old)
+        (pointer_and_hanging_rows_stream rows.now.context rows.now.line)
         result (W.sink w.new) }
 {
-    if !has_any_message(messages.before) && !has_any_message(messages.after) {
+    if !has_any_message(rows.messages.before) && !has_any_message(rows.messages.after) {
         return Ok(());
     }
-    let rows = PointerAndHangingRows {
-        context,
-        line,
-        characters,
-        messages,
-    };
-    write_pointer_and_hanging_rows_unconditionally(w, &rows)
+    write_pointer_and_hanging_rows_unconditionally(w, rows)
 }

@@ -6,7 +6,6 @@ ghost use Rattle.codespan_core.specs.WriterLaw.{Writes};
 ghost use Rattle.codespan_picture.specs.CharMetrics.{char_metrics};
 ghost use Rattle.codespan_picture.specs.Private.LineViews.{context_view, line_view};
 ghost use Rattle.codespan_picture.specs.Private.WrittenParts.{source_row_start_stream};
-ghost use Rattle.codespan_picture.specs.Private.LineCharacters.{char_input};
 ghost use Rattle.codespan_picture.specs.RowParts.{style_change, colored_text};
 ghost use Rattle.codespan_picture.specs.RowStreams.{source_row};
 
@@ -14,6 +13,7 @@ use crate::rows::char_cursor::CharCursor;
 use crate::rows::lanes::{LaneRowKind, inner_gutter};
 use crate::rows::line::{Line, RowContext};
 use crate::rows::line_characters::LineCharacters;
+use crate::rows::line_rows::LineRows;
 use crate::rows::parts::{
     border_left, change_style, outer_gutter_number, write_newline, write_space,
 };
@@ -68,19 +68,16 @@ fn write_colored_text<W: PutStyle, C: CharCursor>(
 /// Writes the text of a line, by one call where it is known to be written unchanged.
 fn write_text<W: PutStyle, S: LineCharacters>(
     w: &mut W,
-    context: RowContext<'_>,
-    line: Line<'_, '_>,
-    characters: &S,
+    rows: &LineRows<'_, '_, S>,
 ) -> Result<(), W::Error>
-    requires input { S.input characters.now ≡ char_input context line }
     ensures { Writes (W.sink w.old)
-        (colored_text (context_view context.entry) (line_view line.entry))
+        (colored_text (context_view rows.now.context) (line_view rows.now.line))
         result (W.sink w.new) }
 {
-    if is_plain(line) {
-        put_all(w, line.text.as_bytes())?;
+    if is_plain(rows.line) {
+        put_all(w, rows.line.text.as_bytes())?;
     } else {
-        write_colored_text(w, context, line, characters.characters())?;
+        write_colored_text(w, rows.context, rows.line, rows.characters.characters())?;
     }
     Ok(())
 }
@@ -123,22 +120,15 @@ fn write_source_row_start<W: PutStyle>(
 /// # Errors
 ///
 /// The writer's error; a prefix has then been written.
-///
-/// # Requires
-///
-/// `characters` has the context's tab width, and the text and labels of `line`.
 pub fn write_source_row<W: PutStyle, S: LineCharacters>(
     w: &mut W,
-    context: RowContext<'_>,
-    line: Line<'_, '_>,
-    characters: &S,
+    rows: &LineRows<'_, '_, S>,
 ) -> Result<(), W::Error>
-    requires input { S.input characters.now ≡ char_input context line }
     ensures { Writes (W.sink w.old)
-        (source_row (context_view context.entry) (line_view line.entry) ++ newline)
+        (source_row (context_view rows.now.context) (line_view rows.now.line) ++ newline)
         result (W.sink w.new) }
 {
-    write_source_row_start(w, context, line)?;
-    write_text(w, context, line, characters)?;
+    write_source_row_start(w, rows.context, rows.line)?;
+    write_text(w, rows)?;
     write_newline(w)
 }

@@ -8,7 +8,7 @@ ghost use Rattle.codespan_picture.specs.Arguments.{lane_mark_view, multi_label_v
 ghost use Rattle.codespan_picture.specs.Private.LineViews.{context_view, line_view};
 ghost use Rattle.codespan_picture.specs.Private.WrittenParts.{underline_row_start_stream};
 ghost use Rattle.codespan_picture.specs.Private.Underlines.{underline_by_width, underline_width};
-ghost use Rattle.codespan_picture.specs.Private.LineCharacters.{char_input, metrics_of};
+ghost use Rattle.codespan_picture.specs.Private.LineCharacters.{metrics_of};
 ghost use Rattle.codespan_picture.specs.Rows.{has_underline, underline_rows};
 ghost use Rattle.codespan_picture.specs.RowParts.{underline_message, start_caret, end_caret, metrics_before, metrics_up_to};
 ghost use Rattle.codespan_picture.specs.RowStreams.{underline_row, stream_of_rows};
@@ -17,6 +17,7 @@ use crate::arguments::MultiLabel;
 use crate::rows::lanes::{LaneRowKind, inner_gutter};
 use crate::rows::line::{Line, RowContext};
 use crate::rows::line_characters::LineCharacters;
+use crate::rows::line_rows::LineRows;
 use crate::rows::parts::{border_left, outer_gutter, write_newline, write_space};
 use crate::rows::runs::write_repeated;
 use codespan_core::diagnostic::LabelStyle;
@@ -161,25 +162,18 @@ fn has_underline(leading: usize, multi_label: MultiLabel<'_>) -> bool
 /// # Errors
 ///
 /// The writer's error; a prefix has then been written.
-///
-/// # Requires
-///
-/// `characters` has the context's tab width, and the text and labels of `line`.
 pub fn write_underlines<W: PutStyle, S: LineCharacters>(
     w: &mut W,
-    context: RowContext<'_>,
-    line: Line<'_, '_>,
-    characters: &S,
+    rows: &LineRows<'_, '_, S>,
 ) -> Result<(), W::Error>
-    requires input { S.input characters.now ≡ char_input context line }
     ensures { Writes (W.sink w.old)
-        (stream_of_rows (context_view context.entry) (underline_rows (line_view line.entry)))
+        (stream_of_rows (context_view rows.now.context) (underline_rows (line_view rows.now.line)))
         result (W.sink w.new) }
 {
-    for lane_mark in line.lanes.lane_marks {
-        if has_underline(line.leading, lane_mark.2) {
-            let width = underline_width(characters, lane_mark.2);
-            write_underline_row(w, context, line, *lane_mark, width)?;
+    for lane_mark in rows.line.lanes.lane_marks {
+        if has_underline(rows.line.leading, lane_mark.2) {
+            let width = underline_width(rows.characters, lane_mark.2);
+            write_underline_row(w, rows.context, rows.line, *lane_mark, width)?;
         }
     }
     Ok(())

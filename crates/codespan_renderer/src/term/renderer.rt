@@ -18,6 +18,7 @@ use codespan_picture::rows::header::{write_header, write_snippet_start};
 use codespan_picture::rows::line::RowContext;
 pub use codespan_picture::rows::line::{Lanes, Line};
 use codespan_picture::rows::line_rows::write_line;
+use codespan_picture::rows::messages::Messages;
 use codespan_picture::rows::notes::{write_break, write_note, write_snippet_empty};
 use codespan_picture::rows::parts::write_newline;
 use row_writer::{RowWriter, with_saved_error, write_zero_error};
@@ -189,13 +190,14 @@ impl<'writer, 'config, W: WriteStyle> Renderer<'writer, 'config, W> {
         };
         let line = Line::new(line_number, source, single_labels, lanes);
         let context = self.context(severity, outer_padding);
+        let messages = Messages::of(single_labels);
         let scanned = ScannedLine {
             tab_width: context.tab_width,
             text: line.text,
-            labels: single_labels,
+            messages,
         };
         let mut rows = RowWriter::new(self.writer, &self.saved);
-        let written = write_line(&mut rows, context, line, &scanned);
+        let written = write_line(&mut rows, context, line, messages, &scanned);
         with_saved_error(written, &self.saved)
     }
 

@@ -7,8 +7,8 @@ ghost use Rattle.codespan_picture.specs.Carets.{covers, style_under};
 ghost use Rattle.codespan_picture.specs.RowParts.{starts_in};
 ghost use Rattle.codespan_picture.specs.Rows.{hanging_labels};
 ghost use Rattle.codespan_picture.specs.Private.CharCursors.{is_covered};
-ghost use Rattle.codespan_picture.specs.Private.RowLabels.{AreHanging};
-ghost use Rattle.codespan_renderer.specs.Private.PreferredStyles.{preferred_style, pointer_style_if_any, prefer_primary};
+ghost use Rattle.codespan_picture.specs.Private.PointerLists.{pointer_style_if_any};
+ghost use Rattle.codespan_renderer.specs.Private.PreferredStyles.{preferred_style, prefer_primary};
 
 use crate::term::renderer::SingleLabel;
 use crate::term::renderer::char_metrics::Metrics;
@@ -91,19 +91,9 @@ fn start_style(
 
 /// Returns the style of the pointer under a character, where a label hangs from it: a primary one
 /// takes precedence.
-///
-/// # Requires
-///
-/// The labels with a message in `messages.before` and `messages.after` are those of `labels` that
-/// hang.
-pub fn pointer_style_if_any(
-    labels: &[SingleLabel<'_>],
-    messages: Messages<'_, '_>,
-    metrics: Metrics,
-) -> Option<LabelStyle>
-    requires { AreHanging labels.now messages.before.now messages.after.now }
-    ensures { result
-        ≡ pointer_style_if_any (hanging_labels (single_label_views labels.now)) metrics }
+pub fn pointer_style_if_any(messages: Messages<'_, '_>, metrics: Metrics) -> Option<LabelStyle>
+    ensures { result ≡ pointer_style_if_any
+        (hanging_labels (single_label_views messages.entry.labels.now)) metrics }
 {
     start_style(
         start_style(None, messages.before, metrics),

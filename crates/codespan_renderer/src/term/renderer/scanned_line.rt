@@ -1,10 +1,9 @@
 //! A line whose text is scanned again for each row, and whose labels are all tested at each
 //! character.
 
-ghost use Rattle.std.specs.Prelude.{⊤};
-ghost use Rattle.codespan_core.specs.WriterLaw.{Writes};
-ghost use Rattle.codespan_picture.specs.Private.WrittenParts.{pointers_before_stream};
-ghost use Rattle.codespan_picture.specs.Private.RowLabels.{AreHanging};
+ghost use Rattle.std.specs.Prelude.{◌≡◌, ⊤};
+ghost use Rattle.codespan_picture.specs.Arguments.{single_label_views};
+ghost use Rattle.codespan_picture.specs.RowParts.{max_label_start};
 
 use crate::term::renderer::SingleLabel;
 use crate::term::renderer::char_metrics::{CharMetrics, Metrics};
@@ -12,13 +11,11 @@ use crate::term::renderer::label_styles::{
     is_covered_by_primary, pointer_style_if_any, style_under,
 };
 use codespan_core::diagnostic::LabelStyle;
-use codespan_core::term::config::put_style::PutStyle;
 use codespan_picture::rows::char_cursor::CharCursor;
-use codespan_picture::rows::line::{Line, RowContext};
 use codespan_picture::rows::line_characters::LineCharacters;
 use codespan_picture::rows::messages::Messages;
-use codespan_picture::rows::pointers::{caret_pointer, max_label_start};
-use codespan_picture::rows::runs::write_spaces;
+use codespan_picture::rows::pointer_cursor::{Pointer, PointerCursor};
+use codespan_picture::rows::pointers::{max_label_start, pointer_under};
 
 /// A cursor that scans the text of a line. It tests all labels at each character, so they may be in
 /// any order.
@@ -53,6 +50,38 @@ impl<'row, 'd> CharCursor for ScanCursor<'row, 'd> {
     }
 }
 
+/// A cursor that scans the text of a line for pointers. It tests each label that may hang at each
+/// character, and stops at the first one past the greatest start of a label.
+#[derive(Drop)]
+pub struct PointerScan<'row, 'd> {
+    char_metrics: CharMetrics<'row>,
+    messages: Messages<'row, 'd>,
+    greatest_start: usize,
+    ghost reach: { greatest_start ≡ max_label_start (single_label_views messages.labels.now) },
+}
+
+impl<'row, 'd> PointerCursor for PointerScan<'row, 'd> {
+    ghost use Rattle.codespan_picture.specs.Rows.{hanging_labels};
+    ghost use Rattle.codespan_picture.specs.Private.PointerLists.{pointers_in};
+    ghost use Rattle.codespan_renderer.specs.Private.RemainingMetrics.{metrics_from, no_more};
+
+    ghost remaining = { λ s. pointers_in (hanging_labels (single_label_views s.messages.labels.now))
+        (metrics_from no_more s.char_metrics) };
+
+    #[inline(always)]
+    fn next_pointer(&mut self) -> Option<Pointer> {
+        while let Some(metrics) = self.char_metrics.next_metrics() {
+            if metrics.byte_index > self.greatest_start {
+                return None;
+            }
+            if let Some(style) = pointer_style_if_any(self.messages, metrics) {
+                return Some(pointer_under(metrics, style));
+            }
+        }
+        None
+    }
+}
+
 /// A line whose text is scanned for each row. Its labels may be in any order, and nothing is
 /// allocated.
 #[derive(Clone, Copy)]
@@ -61,21 +90,23 @@ pub struct ScannedLine<'row, 'd> {
     pub tab_width: usize,
     /// The text of the line.
     pub text: &'row str,
-    /// The single-line labels of the line.
-    pub labels: &'row [SingleLabel<'d>],
+    /// The single-line labels of the line, by their messages.
+    pub messages: Messages<'row, 'd>,
 }
 
 impl<'row, 'd> LineCharacters for ScannedLine<'row, 'd> {
     type Cursor = ScanCursor<'row, 'd>;
 
+    type Pointers = PointerScan<'row, 'd>;
+
     ghost input = { λ s.
-        record { tab_width = s.tab_width; text = s.text.now; labels = s.labels.now } };
+        record { tab_width = s.tab_width; text = s.text.now; labels = s.messages.labels.now } };
 
     #[inline(always)]
     fn characters(&self) -> ScanCursor<'row, 'd> {
         ScanCursor {
             char_metrics: CharMetrics::new(self.text, self.tab_width),
-            labels: self.labels,
+            labels: self.messages.labels,
         }
     }
 
@@ -83,66 +114,22 @@ impl<'row, 'd> LineCharacters for ScannedLine<'row, 'd> {
     fn characters_from_labels(&self, _end: usize) -> (u128, ScanCursor<'row, 'd>) {
         let cursor = ScanCursor {
             char_metrics: CharMetrics::with_placeholder(self.text, self.tab_width),
-            labels: self.labels,
+            labels: self.messages.labels,
         };
         (0, cursor)
+    }
+
+    #[inline(always)]
+    fn pointers(&self) -> PointerScan<'row, 'd> {
+        PointerScan {
+            char_metrics: CharMetrics::new(self.text, self.tab_width),
+            messages: self.messages,
+            greatest_start: max_label_start(self.messages.labels),
+        }
     }
 
     #[inline(always)]
     fn width_up_to(&self, byte_index: usize) -> u128 {
         CharMetrics::new(self.text, self.tab_width).column_past(byte_index)
     }
-
-    #[inline(always)]
-    fn caret_pointers<W: PutStyle>(
-        &self,
-        w: &mut W,
-        context: RowContext<'_>,
-        line: Line<'_, '_>,
-        messages: Messages<'_, '_>,
-    ) -> Result<(), W::Error> {
-        scanned_caret_pointers(w, context, line, messages, usize::MAX)
-    }
-
-    #[inline(always)]
-    fn caret_pointers_before<W: PutStyle>(
-        &self,
-        w: &mut W,
-        context: RowContext<'_>,
-        line: Line<'_, '_>,
-        messages: Messages<'_, '_>,
-        byte_index: usize,
-    ) -> Result<(), W::Error> {
-        scanned_caret_pointers(w, context, line, messages, byte_index)
-    }
-}
-
-/// Writes the pointers of the characters of a line that begin before a byte index. It tests each
-/// label at each of them, and stops at the first character past the greatest start of a label.
-fn scanned_caret_pointers<W: PutStyle>(
-    w: &mut W,
-    context: RowContext<'_>,
-    line: Line<'_, '_>,
-    messages: Messages<'_, '_>,
-    byte_index: usize,
-) -> Result<(), W::Error>
-    requires { AreHanging line.labels.now messages.before.now messages.after.now }
-    ensures { Writes (W.sink w.old) (pointers_before_stream context.entry line.entry byte_index)
-        result (W.sink w.new) }
-{
-    let greatest_start = max_label_start(line.labels);
-    let mut pending = 0u128;
-    for metrics in CharMetrics::new(line.text, context.tab_width) {
-        if metrics.byte_index >= byte_index || metrics.byte_index > greatest_start {
-            break;
-        }
-        let mut width = metrics.unicode_width;
-        if let Some(style) = pointer_style_if_any(line.labels, messages, metrics) {
-            caret_pointer(w, context, pending, style)?;
-            pending = 0;
-            width = width.saturating_sub(1);
-        }
-        pending += width as u128;
-    }
-    write_spaces(w, pending)
 }

@@ -19,20 +19,20 @@ use Rattle.codespan_picture.proofs.rows.carets.write_carets.Goals as goal
 
 pub loop-metrics-init : goal.loop-metrics-init
 loop-metrics-init g c =
-    let tab = ap (λ (x : CharInput). x.tab_width) c.requires.input in
-    let text = ap (λ (x : CharInput). x.text) c.requires.input in
-    let labels = single_label_views c.args.line.labels.now in
-    let given = ap (λ (x : CharInput). x.labels) c.requires.input in
+    let tab = ap (λ (x : CharInput). x.tab_width) c.args.rows.now.input in
+    let text = ap (λ (x : CharInput). x.text) c.args.rows.now.input in
+    let labels = single_label_views c.args.rows.now.line.labels.now in
+    let given = ap (λ (x : CharInput). x.labels) c.args.rows.now.input in
     let out = rw (tab, text, given, c.max_label_end-end.ensures) at
     c.characters_from_labels-run.ensures.remaining in
-    let all = scan_state-to_end c.args.context.tab_width c.args.line.text.now
-    (IsUtf8-had _ c.args.line.utf8) in
+    let all = scan_state-to_end c.args.rows.now.context.tab_width c.args.rows.now.line.text.now
+    (IsUtf8-had _ c.args.rows.now.line.utf8) in
     record {
       written_so_far =
           StillToWrite-start _ _ _
-          (carets-prefix (context_view c.args.context) labels _ _ _ _ all out);
+          (carets-prefix (context_view c.args.rows.now.context) labels _ _ _ _ all out);
       scan_state =
-          scan_state-left c.args.context.tab_width c.args.line.text.now _ _ _ _ (omega arith) all
+          scan_state-left c.args.rows.now.context.tab_width c.args.rows.now.line.text.now _ _ _ _ (omega arith) all
           out;
       same = c.characters_from_labels-run.ensures.labels ∙ given;
     }
@@ -51,7 +51,7 @@ few g c =
 -- all its cells are counted, since it begins before the greatest end
 counted : (g : Over) (c : goal.After-row_known-1 g)
     → c.in-Some.metrics.unicode_width ≡ caret_count
-    (max_label_end (single_label_views c.args.line.labels.now)) c.style_under-style.result
+    (max_label_end (single_label_views c.args.rows.now.line.labels.now)) c.style_under-style.result
     c.in-Some.metrics
 counted g c =
     counts-all c.style_under-style.result _ c.in-Some.metrics
@@ -60,7 +60,7 @@ counted g c =
 
 pub overflow_add-run : goal.overflow_add-run
 overflow_add-run g c =
-    let l : ScanState (length c.args.line.text.now + 1) c.loop-metrics.run
+    let l : ScanState (length c.args.rows.now.line.text.now + 1) c.loop-metrics.run
     (c.in-Some.metrics ∷ g.S.Cursor.CharCursor.remaining c.next_metrics.new.self) =
     rw c.in-Some.ensures.next at c.loop-metrics.invariant.scan_state in
     let fits = scan_state-fits _ _ c.in-Some.metrics _ (omega arith) (omega arith) l in
@@ -73,7 +73,7 @@ returns-in_err-end_caret_run g c =
     rw p.1
     (StillToWrite-failed _ _ _ _ _ _ _ c.loop-metrics.invariant.written_so_far
     c.in_err-end_caret_run.ensures
-    (carets-turn (context_view c.args.context) (single_label_views c.args.line.labels.now) _ _ _ _
+    (carets-turn (context_view c.args.rows.now.context) (single_label_views c.args.rows.now.line.labels.now) _ _ _ _
     c.in-Some.metrics _ (g.S.Cursor.CharCursor.remaining c.next_metrics.new.self)
     c.in-Some.ensures.next
     (c.style_under-style.ensures.style
@@ -83,11 +83,11 @@ returns-in_err-end_caret_run g c =
 
 pub loop-metrics-preserved : goal.loop-metrics-preserved
 loop-metrics-preserved g c =
-    let l : ScanState (length c.args.line.text.now + 1) c.loop-metrics.run
+    let l : ScanState (length c.args.rows.now.line.text.now + 1) c.loop-metrics.run
     (c.in-Some.metrics ∷ g.S.Cursor.CharCursor.remaining c.next_metrics.new.self) =
     rw c.in-Some.ensures.next at c.loop-metrics.invariant.scan_state in
-    let context = context_view c.args.context in
-    let labels = single_label_views c.args.line.labels.now in
+    let context = context_view c.args.rows.now.context in
+    let labels = single_label_views c.args.rows.now.line.labels.now in
     let count = counted g c in
     let sum = overflow_add-run g c in
     let style = c.style_under-style.ensures.style
@@ -120,8 +120,8 @@ loop-metrics-preserved g c =
 pub returns : goal.returns
 returns g c =
     let at = c.loop-metrics in
-    let context = context_view c.args.context in
-    let labels = single_label_views c.args.line.labels.now in
+    let context = context_view c.args.rows.now.context in
+    let labels = single_label_views c.args.rows.now.line.labels.now in
     let end : caret_run context.chars at.previous at.run ++ style_change context.severity at.previous None
     ≡ carets_left context labels at.previous at.run (g.S.Cursor.CharCursor.remaining at.cursor) =
     elim c.match-next_metrics.branch [

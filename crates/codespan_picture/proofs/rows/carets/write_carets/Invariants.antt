@@ -11,13 +11,13 @@ use Rattle.codespan_picture.proofs.rows.carets.write_carets.Given as goal
 abbrev pub invariant-loop-metrics : goal.invariant-loop-metrics
 invariant-loop-metrics g l = record {
   written_so_far : StillToWrite (g.W.PutStyle.sink l.fn.w)
-      (carets (context_view l.context) (single_label_views l.line.labels.now)
-      (char_metrics_to_end l.context.tab_width l.line.text.now))
-      (carets_left (context_view l.context) (single_label_views l.line.labels.now) l.previous l.run
+      (carets (context_view l.rows.context) (single_label_views l.rows.line.labels.now)
+      (char_metrics_to_end l.rows.context.tab_width l.rows.line.text.now))
+      (carets_left (context_view l.rows.context) (single_label_views l.rows.line.labels.now) l.previous l.run
       (g.S.Cursor.CharCursor.remaining l.cursor))
       (g.W.PutStyle.sink l.w);
-  scan_state : ScanState (length l.line.text.now + 1) l.run (g.S.Cursor.CharCursor.remaining l.cursor);
-  same : g.S.Cursor.CharCursor.labels l.cursor ≡ l.line.labels.now;
+  scan_state : ScanState (length l.rows.line.text.now + 1) l.run (g.S.Cursor.CharCursor.remaining l.cursor);
+  same : g.S.Cursor.CharCursor.labels l.cursor ≡ l.rows.line.labels.now;
 }
 
 abbrev pub decreases-loop-metrics : goal.decreases-loop-metrics

@@ -12,8 +12,6 @@ loop-label-init g c =
 
 pub write_hanging_row-requires : goal.write_hanging_row-requires
 write_hanging_row-requires g c = record {
-  input = c.requires.input;
-  hanging_labels = c.requires.hanging_labels;
   within_max_start = (near-last _ _ _ _ c.in-Some.ensures.steps c.loop-label.invariant.within_max_start).here;
 }
 

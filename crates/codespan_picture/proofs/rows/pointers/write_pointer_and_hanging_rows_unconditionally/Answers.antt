@@ -7,11 +7,17 @@ returns-in_err-write_pointer_row g c =
     failed _ _ _ _ _ c.from_residual.ensures.1
     (failed-before _ (failed-before _ c.in_err-write_pointer_row.ensures))
 
-pub write_hanging_rows-requires-clause-within_max_start : goal.write_hanging_rows-requires-clause-within_max_start
-write_hanging_rows-requires-clause-within_max_start g c = after-near _ _ _ c.requires.slices
+pub write_hanging_rows-requires : goal.write_hanging_rows-requires
+write_hanging_rows-requires g c = record {
+  within_max_start = rw c.args.rows.now.labels at
+      (after-near _ _ _ c.args.rows.now.messages.slices);
+}
 
-pub write_hanging_rows-requires-2-clause-within_max_start : goal.write_hanging_rows-requires-2-clause-within_max_start
-write_hanging_rows-requires-2-clause-within_max_start g c = before-near _ _ _ c.requires.slices
+pub write_hanging_rows-requires-2 : goal.write_hanging_rows-requires-2
+write_hanging_rows-requires-2 g c = record {
+  within_max_start = rw c.args.rows.now.labels at
+      (before-near _ _ _ c.args.rows.now.messages.slices);
+}
 
 pub returns-in_err-write_hanging_rows : goal.returns-in_err-write_hanging_rows
 returns-in_err-write_hanging_rows g c =

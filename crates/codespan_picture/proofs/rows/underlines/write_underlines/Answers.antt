@@ -15,8 +15,8 @@ returns-in_err-write_underline_row g c =
     rw p.1
     (StillToWrite-failed _ _ _ _ _ _ _ c.loop-lane_mark.invariant
     c.in_err-write_underline_row.ensures
-    (underlines-in _ _ c.args.line.leading c.args.line.lanes.lane_marks.now
-    c.loop-lane_mark.lane_mark-index _ (omega arith) c.args.line.measured
+    (underlines-in _ _ c.args.rows.now.line.leading c.args.rows.now.line.lanes.lane_marks.now
+    c.loop-lane_mark.lane_mark-index _ (omega arith) c.args.rows.now.line.measured
     (sym c.has_underline.ensures ∙ c.if-has_underline.true)))
 
 pub loop-lane_mark-preserved : goal.loop-lane_mark-preserved
@@ -24,12 +24,12 @@ loop-lane_mark-preserved g c = elim c.if-has_underline.branch [
   | then-has_underline+in_ok-write_underline_row w ↦ rw w.w-is
       (StillToWrite-more _ _ _ _ _ _ _ c.loop-lane_mark.invariant
       w.in_ok-write_underline_row.ensures
-      (underlines-in _ _ c.args.line.leading c.args.line.lanes.lane_marks.now
-      c.loop-lane_mark.lane_mark-index _ (omega arith) c.args.line.measured
+      (underlines-in _ _ c.args.rows.now.line.leading c.args.rows.now.line.lanes.lane_marks.now
+      c.loop-lane_mark.lane_mark-index _ (omega arith) c.args.rows.now.line.measured
       (sym c.has_underline.ensures ∙ w.if-has_underline.true)))
   | else-has_underline w ↦ rw w.w-is (StillToWrite-same _ _ _ _ _
-      (underlines-out _ _ c.args.line.leading c.args.line.lanes.lane_marks.now
-      c.loop-lane_mark.lane_mark-index _ (omega arith) c.args.line.measured
+      (underlines-out _ _ c.args.rows.now.line.leading c.args.rows.now.line.lanes.lane_marks.now
+      c.loop-lane_mark.lane_mark-index _ (omega arith) c.args.rows.now.line.measured
       (sym c.has_underline.ensures ∙ w.if-has_underline.false))
       c.loop-lane_mark.invariant)
 ]
@@ -37,5 +37,5 @@ loop-lane_mark-preserved g c = elim c.if-has_underline.branch [
 pub returns : goal.returns
 returns g c =
     StillToWrite-end _ _ _ _ c.loop-lane_mark.invariant
-    (let e : drop c.loop-lane_mark.lane_mark-index c.args.line.lanes.lane_marks.now ≡ [] =
+    (let e : drop c.loop-lane_mark.lane_mark-index c.args.rows.now.line.lanes.lane_marks.now ≡ [] =
     grind (arith, common_steps) in rw e refl)

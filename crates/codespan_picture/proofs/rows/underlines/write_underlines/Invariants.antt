@@ -9,7 +9,7 @@ use Rattle.codespan_picture.proofs.rows.underlines.write_underlines.Given as goa
 abbrev pub invariant-loop-lane_mark : goal.invariant-loop-lane_mark
 invariant-loop-lane_mark g l =
     StillToWrite (g.W.PutStyle.sink l.fn.w)
-    (stream_of_rows (context_view l.context) (underline_rows (line_view l.line)))
-    (underlines_of (context_view l.context) (line_view l.line)
+    (stream_of_rows (context_view l.rows.context) (underline_rows (line_view l.rows.line)))
+    (underlines_of (context_view l.rows.context) (line_view l.rows.line)
     (drop l.lane_mark-index l.lane_mark-items))
     (g.W.PutStyle.sink l.w)

@@ -10,25 +10,24 @@ ghost use Rattle.codespan_renderer.specs.Private.RemainingMetrics.{after_last};
 ghost use Rattle.codespan_renderer.specs.Private.CursorStates.{IsBefore, HasReturned};
 ghost use Rattle.codespan_renderer.specs.Private.CachedMetrics.{AreCached, ReachesPast, remaining_from_cache, reach_of};
 ghost use Rattle.codespan_picture.specs.Private.LineCharacters.{EndBy};
-ghost use Rattle.codespan_renderer.specs.Private.PointerLists.{pointers_in};
+ghost use Rattle.codespan_picture.specs.Private.PointerLists.{pointers_in};
 ghost use Rattle.codespan_picture.specs.Private.RowLabels.{least_start};
 
 use crate::term::renderer::Renderer;
 use crate::term::renderer::cached::cached_metrics::MetricsFromCache;
 use crate::term::renderer::cached::label_cursor::LabelCursor;
-use crate::term::renderer::cached::pointers::{Pointer, write_pointers};
+use crate::term::renderer::cached::pointers::CachedPointers;
 use crate::term::renderer::char_metrics::{CharMetrics, Metrics};
 use crate::term::renderer::row_writer::{RowWriter, with_saved_error};
 use codespan_core::diagnostic::{LabelStyle, Severity};
 use codespan_core::files::Error;
 use codespan_core::term::WriteStyle;
-use codespan_core::term::config::put_style::PutStyle;
 use codespan_picture::rows::char_cursor::CharCursor;
-use codespan_picture::rows::line::{Line, RowContext};
+use codespan_picture::rows::line::Line;
 use codespan_picture::rows::line_characters::LineCharacters;
 use codespan_picture::rows::line_rows::write_line;
 use codespan_picture::rows::messages::Messages;
-use codespan_picture::rows::pointers::max_label_start;
+use codespan_picture::rows::pointer_cursor::Pointer;
 
 /// A cursor over the characters of a cached line. It goes through the labels in the order of their
 /// starts, each of them once.
@@ -70,6 +69,8 @@ pub struct CachedLine<'cache, 'row, 'd> {
     pub tab_width: usize,
     /// The line, whose labels are in the order of their starts.
     pub line: Line<'row, 'd>,
+    /// Its labels, by their messages.
+    pub messages: Messages<'row, 'd>,
     /// Its first characters, up to the first one past the reach of the rows under it.
     pub cached: &'cache [Metrics],
     /// The iterator over those after them.
@@ -79,6 +80,7 @@ pub struct CachedLine<'cache, 'row, 'd> {
     ghost are_cached: { AreCached tab_width line.text.now cached.now rest },
     ghost reaches_past: { ReachesPast (reach_of (single_label_views line.labels.now)
         (map lane_mark_view line.lanes.lane_marks.now)) rest },
+    ghost labels: { messages.labels.now ≡ line.labels.now },
     ghost ordered: { IsTrue (starts_in_order (single_label_views line.labels.now)) },
     ghost found: { pointers.now ≡ pointers_in (hanging_labels (single_label_views line.labels.now))
         (char_metrics tab_width line.text.now) },
@@ -111,7 +113,7 @@ impl<'cache, 'row, 'd> CachedLine<'cache, 'row, 'd> {
     {
         let context = renderer.context(severity, outer_padding);
         let mut rows = RowWriter::new(renderer.writer, &renderer.saved);
-        let written = write_line(&mut rows, context, self.line, self);
+        let written = write_line(&mut rows, context, self.line, self.messages, self);
         with_saved_error(written, &renderer.saved)
     }
 
@@ -168,6 +170,8 @@ impl<'cache, 'row, 'd> CachedLine<'cache, 'row, 'd> {
 impl<'cache, 'row, 'd> LineCharacters for CachedLine<'cache, 'row, 'd> {
     type Cursor = CachedCursor<'cache, 'row, 'd>;
 
+    type Pointers = CachedPointers<'cache>;
+
     ghost input = { λ s. record {
       tab_width = s.tab_width;
       text = s.line.text.now;
@@ -186,6 +190,13 @@ impl<'cache, 'row, 'd> LineCharacters for CachedLine<'cache, 'row, 'd> {
     }
 
     #[inline(always)]
+    fn pointers(&self) -> CachedPointers<'cache> {
+        CachedPointers {
+            pointers: self.pointers,
+        }
+    }
+
+    #[inline(always)]
     fn width_up_to(&self, byte_index: usize) -> u128 {
         let count = self
             .cached
@@ -194,30 +205,5 @@ impl<'cache, 'row, 'd> LineCharacters for CachedLine<'cache, 'row, 'd> {
             Some(next) => next.column,
             None => self.rest.column_past(byte_index),
         }
-    }
-
-    #[inline(always)]
-    fn caret_pointers<W: PutStyle>(
-        &self,
-        w: &mut W,
-        context: RowContext<'_>,
-        _line: Line<'_, '_>,
-        _messages: Messages<'_, '_>,
-    ) -> Result<(), W::Error> {
-        let edge = self.width_up_to(max_label_start(self.line.labels));
-        write_pointers(w, context, self.pointers, usize::MAX, edge)
-    }
-
-    #[inline(always)]
-    fn caret_pointers_before<W: PutStyle>(
-        &self,
-        w: &mut W,
-        context: RowContext<'_>,
-        _line: Line<'_, '_>,
-        _messages: Messages<'_, '_>,
-        byte_index: usize,
-    ) -> Result<(), W::Error> {
-        let edge = self.width_before(byte_index);
-        write_pointers(w, context, self.pointers, byte_index, edge)
     }
 }

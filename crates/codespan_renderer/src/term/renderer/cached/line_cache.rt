@@ -8,13 +8,14 @@ ghost use Rattle.codespan_renderer.specs.Renderers.{config_of};
 use crate::term::renderer::Renderer;
 use crate::term::renderer::cached::cached_line::CachedLine;
 use crate::term::renderer::cached::cached_metrics::MetricsFromCache;
-use crate::term::renderer::cached::pointers::{Pointer, find_pointers};
+use crate::term::renderer::cached::pointers::find_pointers;
 use crate::term::renderer::cached::reach::reach_of;
 use crate::term::renderer::char_metrics::{CharMetrics, Metrics};
 use codespan_core::files::Error;
 use codespan_core::term::WriteStyle;
 use codespan_picture::rows::line::Line;
 use codespan_picture::rows::messages::Messages;
+use codespan_picture::rows::pointer_cursor::Pointer;
 use std::alloc::Global;
 
 /// The characters of a line and the pointers under them, cached for all its rows.
@@ -71,6 +72,7 @@ impl LineCache {
         Ok(CachedLine {
             tab_width,
             line,
+            messages,
             cached: self.cached.as_slice(),
             rest,
             pointers: self.pointers.as_slice(),

@@ -1,54 +1,56 @@
-use Rattle.std.proofs.Common.{◌+◌, Some, None, [], refl, sym, ◌∙◌, append-nil, drop, take}
+use Rattle.std.proofs.Common.{◌≡◌, ◌+◌, Some, None, [], refl, sym, ◌∙◌, append-nil, drop, take}
 use Rattle.std.proofs.lemmas.List.{take-append-drop}
+use Rattle.codespan_picture.specs.Arguments.{single_label_views}
+use Rattle.codespan_picture.specs.Private.RowLabels.{AreHanging}
+use Rattle.codespan_picture.specs.Rows.{trailing_label}
 use Rattle.codespan_picture.proofs.Hanging.{trailing_here, hanging_here, nothing_trails, none_trails}
 use Rattle.codespan_picture.proofs.Pieces.{taken-dropped}
-use Rattle.codespan_picture.proofs.rows.messages.Messages.of.Goals.{in_default-via-in-Some+else-does_trail, in_default-via-in_default}
+use Rattle.codespan_picture.proofs.rows.messages.Messages.of.Goals.{in-Some, in_default, in_default-via-in-Some+else-does_trail, in_default-via-in_default}
 use Rattle.codespan_picture.proofs.rows.messages.Messages.of.Goals as goal
 
-pub returns-in-Some-clause-trailing_label : goal.returns-in-Some-clause-trailing_label
-returns-in-Some-clause-trailing_label c =
-    trailing_here c.args.labels.now c.in-Some.index _ _ c.in-Some.ensures.within
-    c.max_label_end.ensures c.in-Some.ensures.value
-    (sym c.does_trail.ensures ∙ c.if-does_trail.true)
-
-pub returns-in-Some-clause-hanging_labels : goal.returns-in-Some-clause-hanging_labels
-returns-in-Some-clause-hanging_labels c =
-    hanging_here c.args.labels.now c.in-Some.index _ c.in-Some.ensures.within
-    c.max_label_end.ensures c.in-Some.ensures.value
-    (sym c.does_trail.ensures ∙ c.if-does_trail.true)
-
-pub returns-in_default-clause-trailing_label : goal.returns-in_default-clause-trailing_label
-returns-in_default-clause-trailing_label c =
-    elim c.in_default.branch [
-      | in_default-via-in-Some+else-does_trail w ↦
-          nothing_trails c.args.labels.now (Some w.in-Some.index) _ c.max_label_end.ensures
-          w.in-Some.ensures.value (sym w.does_trail.ensures ∙ w.if-does_trail.false)
-      | in_default-via-in_default w ↦ nothing_trails c.args.labels.now None _
-          c.max_label_end.ensures w.in_default.ensures.value refl
+pub invariant_of-result : goal.invariant_of-result
+invariant_of-result c =
+    let labels = c.args.labels.now in
+    elim c.match-last_with_end.branch [
+      | in-Some w ↦
+          let index = w.in-Some.index in
+          let holds = sym w.does_trail.ensures ∙ w.if-does_trail.true in
+          rw w.result-is record {
+            trails = trailing_here labels index _ _ w.in-Some.ensures.within
+                c.max_label_end.ensures w.in-Some.ensures.value holds;
+            hanging_labels = hanging_here labels index _ w.in-Some.ensures.within
+                c.max_label_end.ensures w.in-Some.ensures.value holds;
+            slices = ∣ record {
+              rest = drop index labels;
+              begins = take-append-drop index labels;
+              skipped = take (index + 1) labels;
+              ends = taken-dropped (index + 1) labels;
+            } ∣₁;
+          }
+      | in_default w ↦
+          let none : (None ≡ trailing_label (single_label_views labels))
+          × AreHanging labels labels [] =
+          elim w.in_default.branch [
+            | in_default-via-in-Some+else-does_trail w' ↦
+                let fails = sym w'.does_trail.ensures ∙ w'.if-does_trail.false in
+                let last = w'.in-Some.ensures.value in (
+                  nothing_trails labels (Some w'.in-Some.index) _ c.max_label_end.ensures last fails,
+                  none_trails labels (Some w'.in-Some.index) _ c.max_label_end.ensures last fails,
+                )
+            | in_default-via-in_default w' ↦
+                let last = w'.in_default.ensures.value in (
+                  nothing_trails labels None _ c.max_label_end.ensures last refl,
+                  none_trails labels None _ c.max_label_end.ensures last refl,
+                )
+          ] in
+          rw w.result-is record {
+            trails = none.0;
+            hanging_labels = none.1;
+            slices = ∣ record {
+              rest = [];
+              begins = append-nil labels;
+              skipped = labels;
+              ends = append-nil labels;
+            } ∣₁;
+          }
     ]
-
-pub returns-in_default-clause-hanging_labels : goal.returns-in_default-clause-hanging_labels
-returns-in_default-clause-hanging_labels c =
-    elim c.in_default.branch [
-      | in_default-via-in-Some+else-does_trail w ↦
-          none_trails c.args.labels.now (Some w.in-Some.index) _ c.max_label_end.ensures
-          w.in-Some.ensures.value (sym w.does_trail.ensures ∙ w.if-does_trail.false)
-      | in_default-via-in_default w ↦ none_trails c.args.labels.now None _ c.max_label_end.ensures
-          w.in_default.ensures.value refl
-    ]
-
-pub returns-in-Some-clause-slices : goal.returns-in-Some-clause-slices
-returns-in-Some-clause-slices c = record {
-  rest = drop c.in-Some.index c.args.labels.now;
-  begins = take-append-drop c.in-Some.index c.args.labels.now;
-  skipped = take (c.in-Some.index + 1) c.args.labels.now;
-  ends = taken-dropped (c.in-Some.index + 1) c.args.labels.now;
-}
-
-pub returns-in_default-clause-slices : goal.returns-in_default-clause-slices
-returns-in_default-clause-slices c = record {
-  rest = [];
-  begins = append-nil c.args.labels.now;
-  skipped = c.args.labels.now;
-  ends = append-nil c.args.labels.now;
-}

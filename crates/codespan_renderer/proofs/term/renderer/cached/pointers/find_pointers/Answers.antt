@@ -7,6 +7,7 @@ use Rattle.codespan_picture.proofs.Consecutive.{char_metrics-consecutive}
 use Rattle.codespan_renderer.specs.Private.CachedMetrics.{remaining_from_cache}
 use Rattle.codespan_picture.proofs.Hanging.{none_hangs}
 use Rattle.codespan_picture.proofs.ScanState.{scan_state-char_metrics, scan_state-more}
+use Rattle.codespan_renderer.proofs.PiecesInOrder.{before-ordered, after-ordered}
 use Rattle.codespan_renderer.proofs.PointerCursors.{no-pointers, passing-start, passing-at, passing-more, found-style, found-some, found-none, pointers-past-at}
 use Rattle.codespan_renderer.proofs.term.renderer.cached.pointers.find_pointers.Goals as goal
 
@@ -15,8 +16,14 @@ returns-then-not-has_any_message-2-clause-found c =
     let early = sym c.has_any_message.ensures ∙ c.if-not-has_any_message.true in
     let late =
     sym c.has_any_message-then-not-has_any_message.ensures ∙ c.if-not-has_any_message-2.true in
-    rw (c.clear.ensures.items, none_hangs _ _ _ c.requires.hanging_labels early late)
+    rw (c.clear.ensures.items, none_hangs _ _ _ c.args.messages.hanging_labels early late)
     (sym (no-pointers (char_metrics c.args.tab_width c.args.line.text.now)))
+
+pub new-before_trailing-requires : goal.new-before_trailing-requires
+new-before_trailing-requires c = before-ordered _ _ _ c.args.messages.slices c.requires.ordered
+
+pub new-after_trailing-requires : goal.new-after_trailing-requires
+new-after_trailing-requires c = after-ordered _ _ _ c.args.messages.slices c.requires.ordered
 
 pub loop-metrics-init : goal.loop-metrics-init
 loop-metrics-init c =
@@ -36,7 +43,7 @@ loop-metrics-init c =
 pub returns-then-metrics-greatest_start-clause-found : goal.returns-then-metrics-greatest_start-clause-found
 returns-then-metrics-greatest_start-clause-found c =
     let i = c.loop-metrics.invariant in
-    let none = pointers-past-at c.args.line.labels.now _ _ _ _ c.max_label_start-greatest_start.result _ _
+    let none = pointers-past-at c.args.messages.labels.now _ _ _ _ c.max_label_start-greatest_start.result _ _
     c.in-Some.metrics c.in-Some.ensures.steps i.cursor c.if-metrics-greatest_start.true
     c.max_label_start-greatest_start.ensures in
     sym (append-nil c.loop-metrics.pointers.items)
@@ -49,7 +56,7 @@ loop-metrics-preserved-in-Continue-1 c =
     let early = c.start_style-early.ensures in
     let late = c.start_style.ensures in
     let style =
-    found-style c.args.line.labels.now _ _ _ _ c.in-Some.metrics _ _ c.requires.hanging_labels
+    found-style c.args.messages.labels.now _ _ _ _ c.in-Some.metrics _ _ c.args.messages.hanging_labels
     i.cursor.same_early i.cursor.same_late early.style late.style in
     record {
       cursor =
@@ -59,7 +66,7 @@ loop-metrics-preserved-in-Continue-1 c =
           scan_state-more _ _ _ c.in-Some.metrics _ (omega arith) (omega arith)
           (rw step at i.scan_state);
       found = rw (c.in_ok-push.ensures.items, c.pointer_under.ensures)
-          (found-some (single_label_views c.args.line.labels.now) c.loop-metrics.pointers.items _ _
+          (found-some (single_label_views c.args.messages.labels.now) c.loop-metrics.pointers.items _ _
           c.in-Some.metrics _ step (sym style ∙ c.in-Some-start_style.is) ∙ i.found);
     }
 
@@ -70,7 +77,7 @@ loop-metrics-preserved c =
     let early = c.start_style-early.ensures in
     let late = c.start_style.ensures in
     let style =
-    found-style c.args.line.labels.now _ _ _ _ c.in-Some.metrics _ _ c.requires.hanging_labels
+    found-style c.args.messages.labels.now _ _ _ _ c.in-Some.metrics _ _ c.args.messages.hanging_labels
     i.cursor.same_early i.cursor.same_late early.style late.style in
     record {
       cursor =
@@ -80,7 +87,7 @@ loop-metrics-preserved c =
           scan_state-more _ _ _ c.in-Some.metrics _ (omega arith) (omega arith)
           (rw step at i.scan_state);
       found =
-          found-none (single_label_views c.args.line.labels.now) c.loop-metrics.pointers.items _ _
+          found-none (single_label_views c.args.messages.labels.now) c.loop-metrics.pointers.items _ _
           c.in-Some.metrics step (sym style ∙ c.in_default.is)
           ∙ i.found;
     }

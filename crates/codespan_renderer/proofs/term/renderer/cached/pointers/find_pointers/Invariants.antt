@@ -2,7 +2,7 @@ use Rattle.std.proofs.Common.{◌≡◌, ◌++◌, length}
 use Rattle.codespan_picture.specs.CharMetrics.{char_metrics}
 use Rattle.codespan_picture.specs.Arguments.{single_label_views}
 use Rattle.codespan_renderer.specs.Private.CachedMetrics.{remaining_from_cache}
-use Rattle.codespan_renderer.specs.Private.PointerLists.{pointers_in}
+use Rattle.codespan_picture.specs.Private.PointerLists.{pointers_in}
 use Rattle.codespan_picture.specs.Rows.{hanging_labels}
 use Rattle.codespan_picture.proofs.ScanState.{ScanState}
 use Rattle.codespan_renderer.proofs.PointerCursors.{IsPassing}
@@ -14,8 +14,8 @@ invariant-loop-metrics l = record {
   cursor : IsPassing l.messages.before.now l.messages.after.now l.before_trailing l.after_trailing
       (remaining_from_cache l.metrics-iterator);
   scan_state : ScanState (length l.line.text.now) 0 (remaining_from_cache l.metrics-iterator);
-  found : l.pointers.items ++ pointers_in (hanging_labels (single_label_views l.line.labels.now))
+  found : l.pointers.items ++ pointers_in (hanging_labels (single_label_views l.messages.labels.now))
       (remaining_from_cache l.metrics-iterator)
-      ≡ pointers_in (hanging_labels (single_label_views l.line.labels.now))
+      ≡ pointers_in (hanging_labels (single_label_views l.messages.labels.now))
       (char_metrics l.tab_width l.line.text.now);
 }

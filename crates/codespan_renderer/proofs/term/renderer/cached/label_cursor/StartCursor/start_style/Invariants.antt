@@ -3,7 +3,7 @@ use Rattle.codespan_core.specs.declared.diagnostic.LabelStyle.{LabelStyle}
 use Rattle.codespan_core.specs.Labels.{has_message}
 use Rattle.codespan_picture.specs.declared.char_metrics.Metrics.{Metrics}
 use Rattle.codespan_picture.specs.Arguments.{single_label_views, starts_from}
-use Rattle.codespan_renderer.specs.Private.PointerLists.{remaining_start_labels}
+use Rattle.codespan_renderer.specs.Private.LabelCursors.{remaining_start_labels}
 use Rattle.codespan_picture.specs.RowParts.{starts_in}
 use Rattle.codespan_renderer.specs.Private.PreferredStyles.{preferred_style}
 use Rattle.codespan_renderer.proofs.term.renderer.cached.label_cursor.StartCursor.start_style.Given as goal
