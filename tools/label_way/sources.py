@@ -122,7 +122,7 @@ class Sources:
         return function.source.crate in crates
 
     def candidates(self, caller, dot, of, name):
-        """The functions that a call may be one of. Methods of traits of std are called by the names of their types alone."""
+        """The functions that a call may be one of, among them the one that is meant. Methods of traits of std are called by the names of their types alone."""
         found = [it for it in self.named.get(name, ()) if self.is_possible(it, self.below(caller.source.crate))]
         words = caller.source.words
         if of and of[0].isupper():
@@ -131,8 +131,8 @@ class Sources:
             return [it for it in own if of in (it.type, it.trait) or of not in (*self.types, *self.traits) and it.trait]
         if not dot:
             return [it for it in found if not it.type and not it.trait]
-        methods = [it for it in found if it.type or it.trait]
-        near = [it for it in methods if (it.trait if it.trait in self.traits else it.type) in words]
+        methods, meant = [it for it in found if it.type or it.trait], self.known(self.meant.get(str(caller)))
+        near = [it for it in methods if it == meant or (it.trait if it.trait in self.traits else it.type) in words]
         if near or any(it.trait in words for it in self.named.get(name, ()) if it.trait in self.traits):
             return near
         return [it for it in methods if not it.trait]

@@ -7,8 +7,11 @@ from way_tree import CACHED, EMITTING, FILES, LEMMAS, MORE_LEMMAS, RICH, ROWS, S
 WAY = f'''\
 {EMITTING}:7: emit_into_string calls emit_to_write_style
 {EMITTING}:12: emit_to_write_style calls RichDiagnostic::render
-{RICH}:9: RichDiagnostic::render calls Snippet::render_line
-{SNIPPET}:12: Snippet::render_line calls CachedLine::render
+{RICH}:9: RichDiagnostic::render calls RichDiagnostic::render_snippets
+{RICH}:14: RichDiagnostic::render_snippets calls Snippet::render
+{SNIPPET}:11: Snippet::render calls Snippet::render_lines
+{SNIPPET}:16: Snippet::render_lines calls Snippet::render_line
+{SNIPPET}:25: Snippet::render_line calls CachedLine::render
 {CACHED}:23: CachedLine::render calls write_caret
 {ROWS}:17: write_caret calls put_repeated
 {ROWS}:27: put_repeated calls put_char
@@ -18,15 +21,15 @@ WAY = f'''\
 {WRITING}:29: forward_put calls write
 '''
 FIGURES = '''\
-calls from emit_into_string to the writer: 11
+calls from emit_into_string to the writer: 14
 files of the whole way: 6
-functions of the whole way: 16
+functions of the whole way: 20
 types of the whole way: 6
 modules of codespan_views: 4
 carrier types of codespan_views: 1
 places that hold the padding width: 3
-functions of views, renderer and rows: 18
-lines of code of codespan_views: 35
+functions of views, renderer and rows: 22
+lines of code of codespan_views: 49
 lines of specs of codespan_views: 1
 lines of proofs of codespan_views: 11
 lemmas that nothing cites: 0
@@ -58,14 +61,14 @@ class LabelWay(TreeCase):
     def test_way_with_one_more_call(self):
         self.change(ROWS, 'fn put_char<W: PutStyle>(w: &mut W, c: char) {\n    w.put(c)', 'fn put_char(w: &mut W, c: char) {\n    put_glyph(w, c)')
         self.put(ROWS, f'{self.text(ROWS)}\nfn put_glyph<W: PutStyle>(w: &mut W, c: char) {{\n    w.put(c)\n}}\n')
-        self.assert_figure('calls from emit_into_string to the writer', 12)
+        self.assert_figure('calls from emit_into_string to the writer', 15)
 
     def test_files(self):
-        self.assert_prints('--files', f'{WRITING}: 2', f'{ROWS}: 5', f'{CACHED}: 4', f'{EMITTING}: 2', f'{RICH}: 2', f'{SNIPPET}: 1')
+        self.assert_prints('--files', f'{WRITING}: 2', f'{ROWS}: 5', f'{CACHED}: 4', f'{EMITTING}: 2', f'{RICH}: 3', f'{SNIPPET}: 4')
 
     def test_one_more_function_of_the_whole_way(self):
         self.change(ROWS, "    c != '{'\n}\n", "    is_ascii(c)\n}\n\nfn is_ascii(c: char) -> bool {\n    c != '{'\n}\n")
-        self.assert_figure('functions of the whole way', 17)
+        self.assert_figure('functions of the whole way', 21)
 
     def test_an_implementation_that_is_not_meant(self):
         self.put('crates/codespan_renderer/src/other.rt', '''\
@@ -81,8 +84,8 @@ fn other_width() -> usize {
     1
 }
 ''')
-        self.assert_figure('functions of the whole way', 16)
-        self.assert_figure('functions of views, renderer and rows', 20)
+        self.assert_figure('functions of the whole way', 20)
+        self.assert_figure('functions of views, renderer and rows', 24)
 
     def test_types(self):
         status, output, _ = self.run_tool('--types')
@@ -96,11 +99,11 @@ fn other_width() -> usize {
         self.assert_prints('--carriers', f'{SNIPPET}:4: Snippet')
 
     def test_one_more_carrier_type(self):
-        self.put('crates/codespan_views/src/plan.rt', 'pub(crate) enum Gap<T> {\n    Break(T),\n}\n')
+        self.put('crates/codespan_views/src/lines.rt', 'pub(crate) enum Shown<T> {\n    Line(T),\n}\n')
         self.assert_figure('carrier types of codespan_views', 2)
 
     def test_padding(self):
-        self.assert_prints('--padding', f'{ROWS}:4: padding', f'{SNIPPET}:5: spanned_padding', f'{SNIPPET}:11: padding')
+        self.assert_prints('--padding', f'{ROWS}:4: padding', f'{SNIPPET}:5: spanned_padding', f'{SNIPPET}:24: padding')
 
     def test_padding_by_its_type(self):
         self.change(CACHED, '    cursor: CachedCursor,\n', '    cursor: CachedCursor,\n    pub widest: PaddingWidth,\n')
@@ -108,8 +111,9 @@ fn other_width() -> usize {
 
     def test_lines_that_are_no_code(self):
         self.change(SNIPPET, '/// A snippet.\n', '/// A snippet,\n/// and more.\n\npub use std::fmt::{\n    Debug,\n};\n')
-        self.change(SNIPPET, '&mut W) {\n', '&mut W)\n        requires one { n\n            ≡ 1 }\n        ensures { result ≡ n }\n    {\n')
-        self.assert_figure('lines of code of codespan_views', 36)
+        self.change(SNIPPET, 'fn render_line(&self, w: &mut W) {\n',
+                    'fn render_line(&self, w: &mut W)\n        requires one { n\n            ≡ 1 }\n        ensures { result ≡ n }\n    {\n')
+        self.assert_figure('lines of code of codespan_views', 50)
 
     def test_a_public_lemma_that_nothing_cites(self):
         self.change(LEMMAS, 'product n\n', 'refl\n')
@@ -141,6 +145,10 @@ fn other_width() -> usize {
         self.change(EMITTING, 'fn emit_to_write_style', 'fn emit_styled')
         self.assert_fails('MEANT: there is no function emit_to_write_style')
 
+    def test_a_meant_call_whose_type_the_file_names(self):
+        self.change(SNIPPET, 'cached.render(w, padding)', 'let cached: CachedLine = cached;\n        cached.render(w, padding)')
+        self.assert_figure('calls from emit_into_string to the writer', 14)
+
     def test_a_meant_call_that_is_not_made(self):
         self.change(ROWS, '1 => put_char', '1 => put_runs')
         self.assert_fails('MEANT: put_repeated does not call put_char')
@@ -154,12 +162,12 @@ fn other_width() -> usize {
         self.assert_fails('IMPLEMENTATIONS: RowWriter does not implement PutStyle')
 
     def test_two_calls_that_lead_on(self):
-        self.change(RICH, 'snippet.render_line(w)', 'snippet.render_line(w);\n        write_caret(w)')
+        self.change(RICH, 'self.render_snippets(w)', 'self.render_snippets(w);\n        write_caret(w)')
         self.assert_fails('MEANT does not say which is meant of the calls of RichDiagnostic::render that lead to a call that is passed '
-                          'single_primary_caret: Snippet::render_line, write_caret')
+                          'single_primary_caret: RichDiagnostic::render_snippets, write_caret')
 
     def test_no_call_that_leads_on(self):
-        self.change(RICH, 'snippet.render_line(w)', 'snippet.render(w)')
+        self.change(RICH, 'self.render_snippets(w)', 'self.render_headers(w)')
         self.assert_fails('no call of emit_into_string leads to a call that is passed single_primary_caret')
 
     def test_no_call_that_leads_to_the_writer(self):

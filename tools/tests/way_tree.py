@@ -151,7 +151,12 @@ impl RichDiagnostic {
     }
 
     pub fn render(&self, w: &mut W) {
-        snippet.render_line(w)
+        self.render_snippets(w)
+    }
+
+    fn render_snippets(&self, w: &mut W) {
+        let snippet = Snippet::new();
+        snippet.render(w)
     }
 }
 ''',
@@ -176,6 +181,19 @@ pub struct Snippet {
 }
 
 impl Snippet {
+    pub fn render(&self, w: &mut W) {
+        self.render_lines(w)
+    }
+
+    fn render_lines(&self, w: &mut W) {
+        self.render_filled(w);
+        self.render_line(w)
+    }
+
+    fn render_filled(&self, w: &mut W) {
+        self.render_line(w)
+    }
+
     fn render_line(&self, w: &mut W) {
         let padding = self.spanned_padding;
         cached.render(w, padding)

@@ -1,14 +1,19 @@
 -- `lines_from` makes of annotations in order the snippet lines of the lines that have annotations,
--- from the first on: for the clause `added` of `push_lines` and the clause `planned` of
--- `plan_output`.
-use Rattle.std.proofs.Common.{◌≡◌, ℕ, zero, suc, ◌+◌, ◌<◌, ◌≤◌, Bool, true, false, cond, ◌==◌, nat_lt, if◌then◌else◌, List, [], ◌∷◌, ◌++◌, take, drop, filter, Option, Some, None, ⊎_elim, refl, sym, ◌∙◌, ap, subst, arith}
+-- from the first on: for the clauses of `render_lines` and `render_snippets`.
+use Rattle.std.proofs.Common.{◌≡◌, ℕ, zero, suc, ◌+◌, ◌<◌, ◌≤◌, Bool, true, false, cond, ◌==◌}
+use Rattle.std.proofs.Common.{nat_lt, if◌then◌else◌, List, [], ◌∷◌, ◌++◌, take, drop, filter}
+use Rattle.std.proofs.Common.{Option, Some, None, ⊎_elim, refl, sym, ◌∙◌, ap, subst, arith}
 use Rattle.std.specs.List.{prefix_len, range_with_len, AllByRecursion}
-use Rattle.std.proofs.lemmas.Bool.{cases_Bool, eqb-true, eqb-false, eq-eqb, ltb-true, ltb-false, lt-ltb, le-ltb}
+use Rattle.std.proofs.lemmas.Bool.{cases_Bool, eqb-true, eqb-false, eq-eqb, ltb-true, ltb-false}
+use Rattle.std.proofs.lemmas.Bool.{lt-ltb, le-ltb}
 use Rattle.codespan_picture.specs.Snippets.{has_any}
 use Rattle.codespan_views.specs.Private.Annotations.{Annotation, is_on_line, shows_line}
 use Rattle.codespan_picture.specs.Sequences.{before_line, break_between, gap_between, in_sequence}
-use Rattle.codespan_views.specs.Private.SnippetLines.{SnippetLine, Labeled, Filled, Break, Group, are_shown, group_of, join_group, groups, lines_between, lines_to, lines_from, lines_of}
-use Rattle.codespan_picture.proofs.ListElements.{all-weaker, all-filter, filter-whole, filter-nothing}
+use Rattle.codespan_views.specs.Private.SnippetLines.{SnippetLine, Labeled, Filled, Break, Group}
+use Rattle.codespan_views.specs.Private.SnippetLines.{are_shown, group_of, join_group, groups}
+use Rattle.codespan_views.specs.Private.SnippetLines.{lines_between, lines_to, lines_from, lines_of}
+use Rattle.codespan_picture.proofs.ListElements.{all-weaker, all-filter, filter-whole}
+use Rattle.codespan_picture.proofs.ListElements.{filter-nothing}
 
 -- ---- groups
 

@@ -1,5 +1,8 @@
 -- The annotations of all labels on one line of one file, for the clause `planned` of `plan_output`.
-use Rattle.std.proofs.Common.{◌≡◌, ℕ, ◌+◌, ◌<◌, ◌≤◌, Bool, true, false, not, cond, if◌then◌else◌, ◌==◌, nat_lt, ◌&&◌, ◌||◌, List, [], ◌∷◌, ◌++◌, length, map, filter, Option, Some, None, ⊎_elim, refl, sym, ◌∙◌, ap, subst, arith, length-append}
+use Rattle.std.proofs.Common.{◌≡◌, ℕ, ◌+◌, ◌<◌, ◌≤◌, Bool, true, false, not, cond, if◌then◌else◌}
+use Rattle.std.proofs.Common.{◌==◌, nat_lt, ◌&&◌, ◌||◌, List, [], ◌∷◌, ◌++◌, length, map, filter}
+use Rattle.std.proofs.Common.{Option, Some, None, ⊎_elim, refl, sym, ◌∙◌, ap, subst, arith}
+use Rattle.std.proofs.Common.{length-append}
 use Rattle.std.specs.Option.{option_map}
 use Rattle.std.specs.List.{cons_option, list_any, AllByRecursion}
 use Rattle.std.proofs.lemmas.Bool.{cases_Bool, eqb-true, eq-eqb, ltb-false}
@@ -9,8 +12,11 @@ use Rattle.std.proofs.lemmas.List.Folds.{list_any-append}
 use Rattle.std.proofs.Math.Bool.{and-false}
 use Rattle.codespan_core.specs.declared.term.config.Config.{Config}
 use Rattle.codespan_core.specs.FileModel.{FileModel, line_count}
-use Rattle.codespan_core.specs.Labels.{LaneMark, LabelModel, first_line, last_line, is_single, drawn_label, lane_mark_of, multi_line_labels, multi_label_on}
-use Rattle.codespan_views.specs.Private.Annotations.{Annotation, Single, Multi, is_before, is_on_line, is_of_file, annotation_if_any, shows_line}
+use Rattle.codespan_core.specs.Labels.{LaneMark, LabelModel, first_line, last_line, is_single}
+use Rattle.codespan_core.specs.Labels.{drawn_label, lane_mark_of, multi_line_labels, multi_label_on}
+use Rattle.codespan_views.specs.Private.Annotations.{Annotation, Single, Multi, is_before}
+use Rattle.codespan_views.specs.Private.Annotations.{is_on_line, is_of_file, annotation_if_any}
+use Rattle.codespan_views.specs.Private.Annotations.{shows_line}
 use Rattle.codespan_views.specs.Private.LabelAnnotations.{line_annotations, annotations_of}
 use Rattle.codespan_picture.specs.Lines.{shows}
 use Rattle.codespan_views.specs.Private.FileIndices.{index_of_file}
@@ -20,12 +26,15 @@ use Rattle.codespan_views.specs.Private.LabeledFiles.{num_multi_labels_of}
 use Rattle.codespan_views.specs.Private.SnippetLines.{single_labels_in}
 use Rattle.codespan_views.proofs.AnnotationOrder.{lane_mark_annotation, index_below}
 use Rattle.codespan_views.proofs.LinesOfLabels.{is_kind}
-use Rattle.codespan_views.proofs.LabelAnnotations.{all-of_file, all-below, annotations-on_line, lane_marks-on_line, single_labels-on_line, shown-on_line}
+use Rattle.codespan_views.proofs.LabelAnnotations.{all-of_file, all-below, annotations-on_line}
+use Rattle.codespan_views.proofs.LabelAnnotations.{lane_marks-on_line, single_labels-on_line}
+use Rattle.codespan_views.proofs.LabelAnnotations.{shown-on_line}
 use Rattle.codespan_views.proofs.LabelIndexing.{num_multi_labels_of-more, label_lanes}
 use Rattle.codespan_views.proofs.LaneMarks.{marks_from}
 use Rattle.codespan_picture.proofs.OrderSorts.{has_range}
 use Rattle.codespan_core.specs.Lemmas.Lines.{line_of_below}
-use Rattle.codespan_picture.proofs.ListElements.{all-append, all-weaker, filter-whole, filter-nothing}
+use Rattle.codespan_picture.proofs.ListElements.{all-append, all-weaker, filter-whole}
+use Rattle.codespan_picture.proofs.ListElements.{filter-nothing}
 use Rattle.codespan_picture.proofs.SortedFilters.{Falls}
 use Rattle.codespan_views.proofs.FileLabels.{is_of_range, HasFileIndex}
 

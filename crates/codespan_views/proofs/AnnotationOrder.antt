@@ -1,6 +1,8 @@
 -- The order of annotations, for the clauses `sorted` of `put_in_order` and `lane_marks_end`, and
 -- that of `are_in_order`.
-use Rattle.std.proofs.Common.{◌≡◌, ℕ, ◌+◌, ◌-◌, ◌<◌, ◌≤◌, ◌==◌, Bool, cond, length, get_or, subst, true, false, List, ⊎_elim, refl, sym, ◌∙◌, ap, arith, true≢false, Ordering}
+use Rattle.std.proofs.Common.{◌≡◌, ℕ, ◌+◌, ◌-◌, ◌<◌, ◌≤◌, ◌==◌, Bool, cond, length, get_or, subst}
+use Rattle.std.proofs.Common.{true, false, List, ⊎_elim, refl, sym, ◌∙◌, ap, arith, true≢false}
+use Rattle.std.proofs.Common.{Ordering}
 use Rattle.std.specs.Cmp.{IsStrictWeakOrder}
 use Rattle.std.specs.Ordering.{is_lt, nat_cmp, ordering_then}
 use Rattle.std.specs.declared.cmp.Ordering.TheVariants.{Less, Equal, Greater}
@@ -11,7 +13,9 @@ use Rattle.std.proofs.lemmas.List.{get_or_default}
 use Rattle.std.proofs.lemmas.List.Sorted.{ranks_by}
 use Rattle.std.specs.List.Sorted.{IsSortedWithin}
 use Rattle.codespan_core.specs.Labels.{LaneMark, LabelModel, range_precedes}
-use Rattle.codespan_views.specs.Private.Annotations.{Annotation, Single, Multi, rank_of, first_of, second_of, index_in_list, IsLaneMarkOn, is_before}
+use Rattle.codespan_views.specs.Private.Annotations.{Annotation, Single, Multi, rank_of, first_of}
+use Rattle.codespan_views.specs.Private.Annotations.{second_of, index_in_list, IsLaneMarkOn}
+use Rattle.codespan_views.specs.Private.Annotations.{is_before}
 
 -- the order of annotations is a strict weak order
 pub below_order : IsStrictWeakOrder is_before

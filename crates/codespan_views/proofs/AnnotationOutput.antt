@@ -1,16 +1,19 @@
 -- From all annotations of a diagnostic in order `lines_of` makes, for each file, the rows of its
--- snippet: for the clause `planned` of `plan_output`.
-use Rattle.std.proofs.Common.{◌≡◌, ℕ, ◌<◌, Bool, true, ◌==◌, ◌&&◌, List, [], map, filter, reverse, None, refl, sym, ◌∙◌, ap, subst}
+-- snippet: for the clauses of `render_snippets` and `render_labels`.
+use Rattle.std.proofs.Common.{◌≡◌, ℕ, ◌<◌, Bool, true, ◌==◌, ◌&&◌, List, [], map, filter, reverse}
+use Rattle.std.proofs.Common.{None, refl, sym, ◌∙◌, ap, subst}
 use Rattle.std.specs.List.{list_any, range_with_len, AllByRecursion}
 use Rattle.std.proofs.lemmas.Bool.{eqb-true}
 use Rattle.std.proofs.lemmas.List.Elements.{recursion_from_All, All-from_recursion}
 use Rattle.std.proofs.lemmas.List.Sorted.{All-permutation, list_any-IsPermutation}
 use Rattle.codespan_core.specs.declared.term.config.Config.{Config}
 use Rattle.codespan_core.specs.FileModel.{FileDatabase, FileModel, line_count}
-use Rattle.codespan_core.specs.Labels.{LaneMark, LabelModel, is_single, first_line, drawn_label, lane_marks_on, single_labels, sorted}
+use Rattle.codespan_core.specs.Labels.{LaneMark, LabelModel, is_single, first_line, drawn_label}
+use Rattle.codespan_core.specs.Labels.{lane_marks_on, single_labels, sorted}
 use Rattle.codespan_picture.specs.Arguments.{ascend_from, starts_in_order}
 use Rattle.codespan_views.specs.declared.collected.Collected.{Collected}
-use Rattle.codespan_views.specs.Private.Annotations.{Annotation, is_before, is_on_line, is_of_file, shows_line}
+use Rattle.codespan_views.specs.Private.Annotations.{Annotation, is_before, is_on_line, is_of_file}
+use Rattle.codespan_views.specs.Private.Annotations.{shows_line}
 use Rattle.codespan_views.specs.Private.AnnotationViews.{annotation_view}
 use Rattle.codespan_views.specs.Private.Collections.{IsCollected}
 use Rattle.codespan_picture.specs.Lines as lines
@@ -19,8 +22,14 @@ use Rattle.codespan_picture.specs.Lookups.{filled_lines}
 use Rattle.codespan_picture.specs.Sequences.{break_between, in_sequence}
 use Rattle.codespan_views.specs.Private.FileIndices.{IsIdAt}
 use Rattle.codespan_views.specs.Private.IndexedLabels.{all_annotations}
-use Rattle.codespan_picture.specs.Snippets.{LabelInFile, LabeledFileModel, labeled_file_model, num_multi_labels, line_at, line_rows, break_rows, rows_of_drawn, file_ids}
-use Rattle.codespan_views.specs.Private.SnippetLines.{are_shown, lane_marks_in, lines_of, single_labels_in, line_of_group, rows_of_lines, filled_lines_of, are_lane_marks_in_order, is_line_in_order}
+use Rattle.codespan_picture.specs.Snippets.{LabelInFile, LabeledFileModel, labeled_file_model}
+use Rattle.codespan_picture.specs.Snippets.{num_multi_labels, line_at, line_rows, break_rows}
+use Rattle.codespan_picture.specs.Snippets.{rows_of_drawn, file_ids}
+use Rattle.codespan_views.specs.Private.SnippetLines.{are_shown, lane_marks_in, lines_of}
+use Rattle.codespan_views.specs.Private.SnippetLines.{single_labels_in, line_of_group}
+use Rattle.codespan_views.specs.Private.SnippetLines.{rows_of_lines, filled_lines_of}
+use Rattle.codespan_views.specs.Private.SnippetLines.{drawn_lines_of, are_lane_marks_in_order}
+use Rattle.codespan_views.specs.Private.SnippetLines.{is_line_in_order}
 use Rattle.codespan_views.proofs.AnnotationGroups.{lines_after, snippet_lines-by_line, all-on_line}
 use Rattle.codespan_views.proofs.AnnotationLines as annotation_lines
 use Rattle.codespan_views.proofs.FileLabels.{HasFileIndex, is_of_range}
@@ -31,13 +40,19 @@ use Rattle.codespan_views.proofs.LaneMarks.{ascend-climbs, lane_marks-ascend}
 use Rattle.codespan_picture.proofs.FillLemmas.{none_past}
 use Rattle.codespan_views.proofs.LinesOfLabels.{is_kind}
 use Rattle.codespan_views.proofs.LabelIndexing.{AreFiles, num_multi_labels_of-equal}
-use Rattle.codespan_picture.proofs.OrderSorts.{has_range, ascending-same, sorted-ascends, sorted-keeps}
-use Rattle.codespan_picture.proofs.ListElements.{all-weaker, all-filter, all-both, all-pass, filter-filter, any-filtered}
+use Rattle.codespan_picture.proofs.OrderSorts.{has_range, ascending-same, sorted-ascends}
+use Rattle.codespan_picture.proofs.OrderSorts.{sorted-keeps}
+use Rattle.codespan_picture.proofs.ListElements.{all-weaker, all-filter, all-both, all-pass}
+use Rattle.codespan_picture.proofs.ListElements.{filter-filter, any-filtered}
 use Rattle.codespan_picture.proofs.SortedLists.{Rises, Climbs, rises-filter, rises-from_sorted}
-use Rattle.codespan_picture.proofs.SortedFilters.{Falls, filter-reverse, filter-sorted_climbs, filter-sorted_falls}
+use Rattle.codespan_picture.proofs.SortedFilters.{Falls, filter-reverse, filter-sorted_climbs}
+use Rattle.codespan_picture.proofs.SortedFilters.{filter-sorted_falls}
 use Rattle.codespan_views.proofs.LabelStarts.{ascends-starts}
-use Rattle.codespan_views.proofs.SnippetLineRows.{lines_of_snippet_lines, snippet_lines-rows, snippet_lines-fit, snippet_lines-lines, snippet_lines-fills}
-use Rattle.codespan_views.proofs.GroupAnnotations.{single_labels-of_range, range-rank, lane_marks-rank, lane_marks-of_annotations, single_labels-reverse, first-shows, lines-rise}
+use Rattle.codespan_views.proofs.SnippetLineRows.{snippet_lines-rows, snippet_lines-fit}
+use Rattle.codespan_views.proofs.SnippetLineRows.{snippet_lines-lines, snippet_lines-fills}
+use Rattle.codespan_views.proofs.GroupAnnotations.{single_labels-of_range, range-rank}
+use Rattle.codespan_views.proofs.GroupAnnotations.{lane_marks-rank, lane_marks-of_annotations}
+use Rattle.codespan_views.proofs.GroupAnnotations.{single_labels-reverse, first-shows, lines-rise}
 
 -- ---- the annotations of a file
 
@@ -262,9 +277,9 @@ module _ {Id : Type 0} {database : FileDatabase Id} (lawful : AreFiles database)
       ∙ snippet_lines-fills own_on_line is_shown (line_count (file id)) (none_past config s)
 
   -- they render the drawn lines
-  pub snippet-lines : lines_of_snippet_lines (lines_of own) ≡ drawn_lines config s.file s.labels
+  pub snippet-lines : drawn_lines_of (lines_of own) ≡ drawn_lines config s.file s.labels
   snippet-lines =
-      ap lines_of_snippet_lines snippet_lines-are
+      ap drawn_lines_of snippet_lines-are
       ∙ snippet_lines-lines own_on_line is_shown (line_count (file id)) (none_past config s)
 
   -- a line's labels are in the order of their starts

@@ -24,13 +24,7 @@ collected-in_order {Id} {database} {config} {xs} {was} annotations g perm up =
     let of_files = IsOfFiles database.file (ids_view was.files.items) in
     let of_all_labels = all_annotations database.same database.file config xs in
     record {
-      files =
-          record {
-            ids_are =
-                g.files.ids_are;
-            labels_are = g.files.labels_are;
-            padding_is = g.files.padding_is;
-          };
+      files = record { ids_are = g.files.ids_are; labels_are = g.files.labels_are };
       sorted = up;
       permutation =
           collected-sorted of_all_labels was.annotations.items annotations.items

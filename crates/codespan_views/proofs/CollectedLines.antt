@@ -8,9 +8,11 @@ use Rattle.codespan_picture.specs.Lookups.{is_around, is_looked_up, line_lookups
 use Rattle.codespan_picture.specs.Padding.{spans}
 use Rattle.codespan_picture.specs.Types.{Config}
 use Rattle.codespan_views.specs.declared.annotation.Annotation.{Annotation as RustAnnotation}
-use Rattle.codespan_views.specs.Private.LabelAnnotations.{line_annotations, annotations_if_looked_up}
+use Rattle.codespan_views.specs.Private.LabelAnnotations.{line_annotations}
+use Rattle.codespan_views.specs.Private.LabelAnnotations.{annotations_if_looked_up}
 use Rattle.codespan_views.specs.Private.AnnotationViews.{AppendsAnnotationsOf}
-use Rattle.codespan_views.specs.Private.LabelsToCollect.{AppendsLineAnnotations, LabelToCollect, failure_if_looked_up}
+use Rattle.codespan_views.specs.Private.LabelsToCollect.{AppendsLineAnnotations, LabelToCollect}
+use Rattle.codespan_views.specs.Private.LabelsToCollect.{failure_if_looked_up}
 use Rattle.codespan_views.specs.Private.FileLookups.{failure_in}
 use Rattle.codespan_views.specs.Private.LabelSpans.{IsFarInside, spans_line}
 use Rattle.codespan_views.specs.Private.SpannedDigitCounts.{digit_count_if_spanned}

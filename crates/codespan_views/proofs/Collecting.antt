@@ -1,6 +1,7 @@
 -- Annotations that are added, one after another, for the clauses `added` of `push_line` and
 -- `push_far_line`.
-use Rattle.std.proofs.Common.{◌≡◌, ℕ, Bool, true, false, List, [], ◌++◌, Option, Some, None, refl, sym, subst, ap, ◌∙◌, arith, Bor, ◌&&◌, ◌==◌, map}
+use Rattle.std.proofs.Common.{◌≡◌, ℕ, Bool, true, false, List, [], ◌++◌, Option, Some, None, refl}
+use Rattle.std.proofs.Common.{sym, subst, ap, ◌∙◌, arith, Bor, ◌&&◌, ◌==◌, map}
 use Rattle.std.specs.Prelude.{if◌then◌else◌}
 use borrow.Author.Tests.{eqb-true}
 use Rattle.std.specs.List.{AllByRecursion}
@@ -9,13 +10,17 @@ use Rattle.std.proofs.lemmas.List.{append-nil, append_assoc, map-append}
 use Rattle.std.proofs.lemmas.List.Elements.{All-from_recursion, recursion_from_All}
 use Rattle.std.proofs.lemmas.List.Sorted.{All-permutation, IsPermutation-map}
 use Rattle.codespan_core.specs.FileModel.{line_start}
-use Rattle.codespan_core.specs.Labels.{LabelModel, drawn_label, first_line, from_line_start, last_line}
+use Rattle.codespan_core.specs.Labels.{LabelModel, drawn_label, first_line, from_line_start}
+use Rattle.codespan_core.specs.Labels.{last_line}
 use Rattle.codespan_views.specs.declared.annotation.Annotation.{Annotation as RustAnnotation}
 use Rattle.codespan_views.specs.declared.annotation.LineInfo.{LineInfo}
 use Rattle.codespan_views.specs.Private.LabelsToCollect.{LabelToCollect}
-use Rattle.codespan_views.specs.Private.Annotations.{Annotation, AnnotationKind, Single, annotation_if_any}
-use Rattle.codespan_views.specs.Private.LabelAnnotations.{line_annotations, kind_on, multi_kind_by_ends, kind_by_ends}
-use Rattle.codespan_views.specs.Private.AnnotationViews.{AppendsAnnotations, IsLineOf, annotation_view, kind_view}
+use Rattle.codespan_views.specs.Private.Annotations.{Annotation, AnnotationKind, Single}
+use Rattle.codespan_views.specs.Private.Annotations.{annotation_if_any}
+use Rattle.codespan_views.specs.Private.LabelAnnotations.{line_annotations, kind_on}
+use Rattle.codespan_views.specs.Private.LabelAnnotations.{multi_kind_by_ends, kind_by_ends}
+use Rattle.codespan_views.specs.Private.AnnotationViews.{AppendsAnnotations, IsLineOf}
+use Rattle.codespan_views.specs.Private.AnnotationViews.{annotation_view, kind_view}
 use Rattle.codespan_views.specs.Private.LabelSpans.{IsFarInside}
 use Rattle.codespan_views.specs.declared.annotation.AnnotationKind.TheVariants as rust
 use Rattle.codespan_views.specs.declared.annotation.MultiLabelKind.TheVariants as label_kind

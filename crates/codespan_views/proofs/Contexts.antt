@@ -1,33 +1,50 @@
 -- The lines that are looked up for a label, one after another, for the clauses of `collect_lines`.
-use Rattle.std.proofs.Common.{◌≡◌, ℕ, ◌+◌, ◌-◌, ◌^◌, ◌<◌, ◌≤◌, Bool, true, false, not, ◌&&◌, ◌||◌, List, [], ◌∷◌, ◌++◌, length, Option, Some, None, refl, sym, ap, ◌∙◌, arith, ⊎_elim, true≢false}
+use Rattle.std.proofs.Common.{◌≡◌, ℕ, ◌+◌, ◌-◌, ◌^◌, ◌<◌, ◌≤◌, Bool, true, false, not, ◌&&◌, ◌||◌}
+use Rattle.std.proofs.Common.{List, [], ◌∷◌, ◌++◌, length, Option, Some, None, refl, sym, ap, ◌∙◌}
+use Rattle.std.proofs.Common.{arith, ⊎_elim, true≢false}
 use Rattle.std.specs.Prelude.{nat_lt, nat_le, if◌then◌else◌, flat_map, fold, max, min}
 use Rattle.std.specs.List.{range_with_len}
 use Rattle.std.proofs.lemmas.Bool.{le-leb, lt-leb, lt-ltb, cases_Bool, cases_lt}
 use borrow.Author.Tests.{le-ltb}
 use Rattle.std.proofs.lemmas.List.{append-nil, map-append}
 use Rattle.codespan_core.specs.declared.files.Error.{Error}
-use Rattle.codespan_core.specs.declared.files.Error.TheVariants.{FileMissing, IndexTooLarge, LineTooLarge, ColumnTooLarge, InvalidCharBoundary, Io, FormatError, OutOfMemory}
+use Rattle.codespan_core.specs.declared.files.Error.TheVariants.{FileMissing, IndexTooLarge}
+use Rattle.codespan_core.specs.declared.files.Error.TheVariants.{LineTooLarge, ColumnTooLarge}
+use Rattle.codespan_core.specs.declared.files.Error.TheVariants.{InvalidCharBoundary, Io}
+use Rattle.codespan_core.specs.declared.files.Error.TheVariants.{FormatError, OutOfMemory}
 use Rattle.codespan_core.specs.FileModel.{Lookup, line_count, or_failure}
 use Rattle.codespan_core.specs.LawfulFiles.{IsLawful, FailsPastLastLine, IsPastLastLineError}
 use Rattle.codespan_core.specs.FileModel.Lookup.{LineRange, LineNumber}
 use Rattle.codespan_core.specs.Labels.{first_line, last_line}
 use Rattle.codespan_core.specs.Lemmas.Lines.{lines_have_indices, lines_within_text}
-use Rattle.codespan_views.specs.Private.LabelsToCollect.{LabelToCollect, IsLookedUp, FindsLineAnnotations, FindsLabelAnnotations, HasLineIfLookedUp, WidensPadding, WidensPaddingForLine, lines_failure, failure_if_looked_up}
+use Rattle.codespan_views.specs.Private.LabelsToCollect.{LabelToCollect, IsLookedUp}
+use Rattle.codespan_views.specs.Private.LabelsToCollect.{FindsLineAnnotations}
+use Rattle.codespan_views.specs.Private.LabelsToCollect.{FindsLabelAnnotations, HasLineIfLookedUp}
+use Rattle.codespan_views.specs.Private.LabelsToCollect.{WidensPadding, WidensPaddingForLine}
+use Rattle.codespan_views.specs.Private.LabelsToCollect.{lines_failure, failure_if_looked_up}
 use Rattle.codespan_views.specs.Private.SourceFiles.{line_failure_unless_past_end}
 use Rattle.codespan_views.specs.Private.Annotations.{Annotation}
-use Rattle.codespan_views.specs.Private.LabelAnnotations.{annotations_of, line_annotations, annotations_if_looked_up, lookups_if_looked_up}
+use Rattle.codespan_views.specs.Private.LabelAnnotations.{annotations_of, line_annotations}
+use Rattle.codespan_views.specs.Private.LabelAnnotations.{annotations_if_looked_up}
+use Rattle.codespan_views.specs.Private.LabelAnnotations.{lookups_if_looked_up}
 use Rattle.codespan_views.specs.declared.annotation.Annotation.{Annotation as RustAnnotation}
 use Rattle.codespan_views.specs.Private.FileLookups.{failure_in}
 use Rattle.codespan_views.specs.Private.AnnotationViews.{AppendsAnnotationsOf}
-use Rattle.codespan_views.specs.Private.SpannedDigitCounts.{digit_count_if_spanned, label_digit_counts}
-use Rattle.codespan_picture.specs.Lookups.{looked_up_lines, lookups_of_file, ends_context_lines, first_error, is_around, is_looked_up, line_lookups, lookup_past_end}
+use Rattle.codespan_views.specs.Private.SpannedDigitCounts.{digit_count_if_spanned}
+use Rattle.codespan_views.specs.Private.SpannedDigitCounts.{label_digit_counts}
+use Rattle.codespan_picture.specs.Lookups.{looked_up_lines, lookups_of_file, ends_context_lines}
+use Rattle.codespan_picture.specs.Lookups.{first_error, is_around, is_looked_up, line_lookups}
+use Rattle.codespan_picture.specs.Lookups.{lookup_past_end}
 use Rattle.codespan_picture.specs.Padding.{count_digits, spans}
 use Rattle.codespan_picture.specs.declared.padding.PaddingWidth.{PaddingWidth}
 use Rattle.codespan_picture.proofs.Greatest.{greatest-append}
-use Rattle.codespan_views.proofs.Collecting.{AppendsAnnotations-as, AppendsAnnotations-both, AppendsAnnotations-none}
+use Rattle.codespan_views.proofs.Collecting.{AppendsAnnotations-as, AppendsAnnotations-both}
+use Rattle.codespan_views.proofs.Collecting.{AppendsAnnotations-none}
 use Rattle.codespan_views.proofs.FirstErrors.{first_error-none, first_error-some}
-use Rattle.codespan_views.proofs.NearLines.{flat_map_filtered, after_both, above_both, below_both, near_after}
-use Rattle.codespan_views.proofs.RangeMaps.{flat_map_none, flat_map_more, flat_map_same, flat_map_split}
+use Rattle.codespan_views.proofs.NearLines.{flat_map_filtered, after_both, above_both, below_both}
+use Rattle.codespan_views.proofs.NearLines.{near_after}
+use Rattle.codespan_views.proofs.RangeMaps.{flat_map_none, flat_map_more, flat_map_same}
+use Rattle.codespan_views.proofs.RangeMaps.{flat_map_split}
 
 module _ {Id : Type 0} (x : LabelToCollect Id) where
   -- what some lookups of the file fail with

@@ -1,5 +1,6 @@
 -- Emitting an output as text, for the clauses of `emit_into_string` and `emit_to_io_write`.
-use Rattle.std.proofs.Common.{◌≡◌, ℕ, true, List, [], ◌∷◌, Option, Some, Ok, Err, Result, ⊎_elim, inl, inr, refl, sym, subst, ap, ◌∙◌}
+use Rattle.std.proofs.Common.{◌≡◌, ℕ, true, List, [], ◌∷◌, Option, Some, Ok, Err, Result, ⊎_elim}
+use Rattle.std.proofs.Common.{inl, inr, refl, sym, subst, ap, ◌∙◌}
 use Rattle.std.specs.Borrow.{GName}
 use Rattle.codespan_core.specs.declared.term.config.DisplayStyle.{DisplayStyle}
 use Rattle.codespan_core.specs.declared.term.config.DisplayStyle.TheVariants.{Rich, Medium, Short}
@@ -10,9 +11,11 @@ use Rattle.std.specs.Str.{IsUtf8}
 use Rattle.codespan_core.specs.FileModel.{FileDatabase}
 use Rattle.codespan_core.specs.LawfulFiles.{IsLawful}
 use Rattle.codespan_core.specs.Streams.{Stream, Spelling, spelled, text_of, plain_spelling}
-use Rattle.codespan_core.specs.WriterLaw.{Frame, Sink, with_written, is_known, are_known, extended, PrefixWritten, PrefixAppended}
+use Rattle.codespan_core.specs.WriterLaw.{Frame, Sink, with_written, is_known, are_known, extended}
+use Rattle.codespan_core.specs.WriterLaw.{PrefixWritten, PrefixAppended}
 use Rattle.codespan_core.specs.declared.term.config.plain_ref.PlainWriterRef.{PlainWriterRef}
-use Rattle.codespan_core.specs.Writers.{fresh_plain_ref_sink, fresh_sink, plain_reference, plain_ref_sink, borrowed_writer}
+use Rattle.codespan_core.specs.Writers.{fresh_plain_ref_sink, fresh_sink, plain_reference}
+use Rattle.codespan_core.specs.Writers.{plain_ref_sink, borrowed_writer}
 use Rattle.codespan_picture.specs.Rows.{Locus}
 use Rattle.codespan_picture.specs.Utf8Laws.{CharsAreScalars}
 use Rattle.codespan_picture.proofs.PictureTexts.{text-output}

@@ -1,6 +1,8 @@
--- A loop over the files takes the annotations of each file in order, for the clause `plans`
--- of `plan_snippets`.
-use Rattle.std.proofs.Common.{◌≡◌, ℕ, ◌+◌, ◌-◌, ◌≤◌, Bool, true, false, ◌&&◌, cond, ◌==◌, nat_lt, nat_le, List, [], ◌∷◌, ◌++◌, length, take, drop, map, filter, refl, sym, ◌∙◌, ap, arith, length-drop}
+-- A loop over the files takes the annotations of each file in order, for the clauses of
+-- `find_numbers` and `render_snippets`.
+use Rattle.std.proofs.Common.{◌≡◌, ℕ, ◌+◌, ◌-◌, ◌≤◌, Bool, true, false, ◌&&◌, cond, ◌==◌, nat_lt}
+use Rattle.std.proofs.Common.{nat_le, List, [], ◌∷◌, ◌++◌, length, take, drop, map, filter, refl}
+use Rattle.std.proofs.Common.{sym, ◌∙◌, ap, arith, length-drop}
 use Rattle.std.specs.List.{prefix_len, AllByRecursion}
 use Rattle.std.specs.List.Sorted.{IsSortedBy}
 use Rattle.std.proofs.Math.Nat.{add-sub_cancel_left}
@@ -27,7 +29,8 @@ from_file f xs = filter (λ (e : Annotation). nat_le f e.file_index) xs
 files-rise : (xs : List Annotation) → Rises is_before xs → IsRising (λ e. e.file_index) xs
 files-rise [] a = tt
 files-rise (x ∷ xs) a = (
-  all-weaker (λ y. is_before y x ≡ false) (λ y. x.file_index ≤ y.file_index) (λ y h. file_rises x y h) xs a.0,
+  all-weaker (λ y. is_before y x ≡ false) (λ y. x.file_index ≤ y.file_index)
+      (λ y h. file_rises x y h) xs a.0,
   files-rise xs a.1,
 )
 
@@ -46,8 +49,9 @@ from_file-next xs f up =
     split_at (λ (e : Annotation). e.file_index) f (from_file f xs)
     (rising-filter (λ (e : Annotation). e.file_index) (λ e. nat_le f e.file_index) xs
     (files-rise xs (rises-from_sorted is_before below_order xs up)))
-    (all-weaker (λ e. nat_le f e.file_index ≡ true) (λ e. f ≤ e.file_index) (λ e t. leb-true f e.file_index t)
-    (from_file f xs) (all-pass (λ (e : Annotation). nat_le f e.file_index) xs))
+    (all-weaker (λ e. nat_le f e.file_index ≡ true) (λ e. f ≤ e.file_index)
+    (λ e t. leb-true f e.file_index t) (from_file f xs)
+    (all-pass (λ (e : Annotation). nat_le f e.file_index) xs))
     ∙ (λ i. own i ++ later i)
   where
     own : filter (is_of_file f) (from_file f xs) ≡ filter (is_of_file f) xs
@@ -55,7 +59,8 @@ from_file-next xs f up =
         filter-filter (is_of_file f) (λ (e : Annotation). nat_le f e.file_index) xs
         ∙ filter_agree _ (is_of_file f) (λ (e : Annotation). from_own f e.file_index) xs
 
-    later : filter (λ (e : Annotation). nat_lt f e.file_index) (from_file f xs) ≡ from_file (f + 1) xs
+    later : filter (λ (e : Annotation). nat_lt f e.file_index) (from_file f xs)
+        ≡ from_file (f + 1) xs
     later = filter-filter (λ (e : Annotation). nat_lt f e.file_index)
         (λ (e : Annotation). nat_le f e.file_index) xs
         ∙ filter_agree _ (λ (e : Annotation). nat_le (f + 1) e.file_index)

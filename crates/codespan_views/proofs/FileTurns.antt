@@ -1,28 +1,27 @@
--- The turn of a file when plans are made, by the index of its id, for the clauses `plans` and
--- `failed` of `plan_snippets`.
-use Rattle.std.proofs.Common.{◌≡◌, ℕ, suc, ◌+◌, ◌-◌, ◌≤◌, true, List, [], ◌∷◌, ◌++◌, length, take, drop, map, filter, refl, sym, ap, ◌∙◌, subst, arith}
+-- The turn of a file in a loop over the files, by the index of its id, for the clauses of
+-- `find_numbers` and `render_snippets`.
+use Rattle.std.proofs.Common.{◌≡◌, ℕ, suc, ◌+◌, ◌-◌, ◌≤◌, true, List, [], ◌∷◌, ◌++◌, length, take}
+use Rattle.std.proofs.Common.{drop, map, filter, refl, sym, ap, ◌∙◌, subst, arith}
 use Rattle.std.specs.Prelude.{All, flat_map}
 use Rattle.std.specs.List.{AllByRecursion, prefix_len}
 use Rattle.std.specs.List.Sorted.{IsSortedBy}
 use Rattle.std.proofs.lemmas.Bool.{eqb-true}
 use Rattle.std.proofs.lemmas.List.{append-nil, append_assoc, get_or-map, length-map}
 use Rattle.std.proofs.lemmas.List.Elements.{All-from_recursion}
-use Rattle.codespan_core.specs.declared.term.config.Layout.{Layout}
 use Rattle.codespan_core.specs.FileModel.{FileModel}
-use Rattle.codespan_picture.specs.Lookups.{Failures, lookups_of_file, first_error}
 use Rattle.codespan_views.specs.declared.annotation.Annotation.{Annotation as RustAnnotation}
 use Rattle.codespan_views.specs.declared.labeled_files.LabeledFile.{LabeledFile as RustFile}
 use Rattle.codespan_views.specs.Private.Annotations.{Annotation, is_before, is_of_file}
 use Rattle.codespan_views.specs.Private.AnnotationViews.{IsLineOf, IsOfFiles, annotation_view}
-use Rattle.codespan_views.specs.Private.SnippetLineViews.{numbers_looked_up}
 use Rattle.codespan_views.specs.Private.LabeledFiles.{ids_view}
 use Rattle.codespan_views.specs.Private.FileIndices.{IsIdAt}
-use Rattle.codespan_views.specs.Private.SnippetPlans.{flat_map_indexed, lines_at}
-use Rattle.codespan_views.specs.Private.SnippetLines.{filled_lines_of, lines_of}
+use Rattle.codespan_views.specs.Private.EarlyLookups.{flat_map_indexed, lines_at}
+use Rattle.codespan_views.specs.Private.SnippetLines.{lines_of}
 use Rattle.codespan_views.proofs.FileSlices.{IsFileSlice, from_file, next-file, next_slice}
 use Rattle.codespan_views.proofs.FileIndices.{at-get}
 use Rattle.codespan_views.proofs.IndexedElements.{IsElementAt}
-use Rattle.codespan_picture.proofs.ListElements.{all-both, all-mapped, all-slice, all-pass, all-weaker}
+use Rattle.codespan_picture.proofs.ListElements.{all-both, all-mapped, all-slice, all-pass}
+use Rattle.codespan_picture.proofs.ListElements.{all-weaker}
 
 -- ---- ids at their indices
 
@@ -133,21 +132,6 @@ module _ {Id : Type 0} {files : List (RustFile Id)} {xs : List (RustAnnotation I
     pub own_snippet_lines : lines_of (map annotation_view (next_slice zs at n)) ≡ lines_at
         (map annotation_view xs) k
     own_snippet_lines = ap lines_of own_annotations
-
-    -- and what they look up
-    pub own_lookups : (layout : Layout) (failure : Failures Id)
-        → first_error failure
-        (lookups_of_file f.file_id
-        (numbers_looked_up layout
-        (filled_lines_of (lines_of (map annotation_view (next_slice zs at n))))))
-        ≡ first_error failure
-        (lookups_of_file f.file_id
-        (numbers_looked_up layout (filled_lines_of (lines_at (map annotation_view xs) k))))
-    own_lookups layout failure =
-        ap
-        (λ snippet_lines. first_error failure
-        (lookups_of_file f.file_id (numbers_looked_up layout (filled_lines_of snippet_lines))))
-        own_snippet_lines
 
   -- the next file's turn is after it
   pub next_inside : at + n ≤ length xs

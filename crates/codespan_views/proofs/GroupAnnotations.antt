@@ -1,13 +1,17 @@
 -- The annotations of a line, for the rows that are made of them and so for the clause `planned` of
 -- `plan_output`.
-use Rattle.std.proofs.Common.{◌≡◌, ℕ, ◌≤◌, Bool, true, false, cond, ◌==◌, ◌&&◌, ◌||◌, List, [], ◌∷◌, ◌++◌, map, filter, reverse, Option, Some, None, refl, sym, ◌∙◌, ap, arith}
+use Rattle.std.proofs.Common.{◌≡◌, ℕ, ◌≤◌, Bool, true, false, cond, ◌==◌, ◌&&◌, ◌||◌, List, [], ◌∷◌}
+use Rattle.std.proofs.Common.{◌++◌, map, filter, reverse, Option, Some, None, refl, sym, ◌∙◌, ap}
+use Rattle.std.proofs.Common.{arith}
 use Rattle.std.specs.List.{list_any, cons_option, AllByRecursion}
 use Rattle.std.proofs.lemmas.Bool.{le-ltb, ltb-false}
 use Rattle.std.proofs.lemmas.List.{append-nil}
 use Rattle.std.proofs.lemmas.List.Elements.{filter_map-append, filter_agree}
 use Rattle.codespan_core.specs.Labels.{LaneMark, LabelModel}
-use Rattle.codespan_views.specs.Private.Annotations.{Annotation, AnnotationKind, Shown, Single, Multi, rank_of, is_before, shows_line}
-use Rattle.codespan_views.specs.Private.SnippetLines.{are_shown, lane_mark_of_kind, lane_marks_in, single_label_of, single_labels_in}
+use Rattle.codespan_views.specs.Private.Annotations.{Annotation, AnnotationKind, Shown, Single}
+use Rattle.codespan_views.specs.Private.Annotations.{Multi, rank_of, is_before, shows_line}
+use Rattle.codespan_views.specs.Private.SnippetLines.{are_shown, lane_mark_of_kind, lane_marks_in}
+use Rattle.codespan_views.specs.Private.SnippetLines.{single_label_of, single_labels_in}
 use Rattle.codespan_views.proofs.AnnotationGroups.{IsRising}
 use Rattle.codespan_views.proofs.FileLabels.{has_label_range, is_of_range}
 use Rattle.codespan_views.proofs.AnnotationOrder.{kind_rises, line_rises, lane_mark_annotation}

@@ -1,6 +1,8 @@
 -- Headers of labels, one after another, for the clauses `renders` of `render_headers` and
 -- `render_medium`.
-use Rattle.std.proofs.Common.{◌≡◌, ◌≢◌, ◌<◌, true, false, List, [], ◌∷◌, ◌++◌, length, map, flat_map, take, None, Some, Result, Ok, Err, ⊎_elim, inl, inr, sym, subst, ap, ◌∙◌, append-nil, arith}
+use Rattle.std.proofs.Common.{◌≡◌, ◌≢◌, ◌<◌, true, false, List, [], ◌∷◌, ◌++◌, length, map}
+use Rattle.std.proofs.Common.{flat_map, take, None, Some, Result, Ok, Err, ⊎_elim, inl, inr, sym}
+use Rattle.std.proofs.Common.{subst, ap, ◌∙◌, append-nil, arith}
 use Rattle.std.specs.Prelude.{IfErr}
 use Rattle.std.specs.List.{AllZip}
 use Rattle.std.proofs.lemmas.Grind.{flat_map-append}
@@ -13,10 +15,13 @@ use Rattle.codespan_core.specs.declared.term.config.DisplayStyle.TheVariants.{Sh
 use Rattle.codespan_core.specs.Errors.{IsIo}
 use Rattle.codespan_core.specs.FileModel.{FileDatabase, Lookup}
 use Rattle.codespan_core.specs.Streams.{Stream}
-use Rattle.codespan_core.specs.WriterLaw.{Sink, with_written, is_known, PrefixWritten, Writes, failed_frame}
-use Rattle.codespan_core.proofs.Writes.{is_known-with_written, with_written-append, with_written-nil, PrefixWritten-first, PrefixWritten-last}
+use Rattle.codespan_core.specs.WriterLaw.{Sink, with_written, is_known, PrefixWritten, Writes}
+use Rattle.codespan_core.specs.WriterLaw.{failed_frame}
+use Rattle.codespan_core.proofs.Writes.{is_known-with_written, with_written-append}
+use Rattle.codespan_core.proofs.Writes.{with_written-nil, PrefixWritten-first, PrefixWritten-last}
 use Rattle.codespan_picture.specs.Lookups.{first_error, header_lookups_of}
-use Rattle.codespan_picture.specs.OutputStreams.{AreLoci, IsLocus, header_text_of, label_locus_byte, notes_of}
+use Rattle.codespan_picture.specs.OutputStreams.{AreLoci, IsLocus, header_text_of, label_locus_byte}
+use Rattle.codespan_picture.specs.OutputStreams.{notes_of}
 use Rattle.codespan_views.specs.Private.Utf8Loci.{IsLocusOfLabel}
 use Rattle.codespan_picture.specs.Rows.{Locus, Row}
 use Rattle.codespan_picture.specs.RowStreams.{stream_of_rows}
@@ -25,12 +30,17 @@ use Rattle.codespan_views.specs.Output.{Succeeds}
 use Rattle.codespan_views.specs.WriteCalls.{WritesOutput}
 use Rattle.codespan_views.proofs.OutputLoci.{label_loci, label_texts}
 use Rattle.std.proofs.Math.Seq.{take-append_seam}
-use Rattle.codespan_views.specs.Private.Headers.{HeaderLookupFailed, HeadersWritten, HeadersFailed, HeaderWriteFailed}
-use Rattle.codespan_picture.proofs.Loci.{locus_there, zip_append, zip_each, zip_length, zip_map, zip_weaker}
+use Rattle.codespan_views.specs.Private.Headers.{HeaderLookupFailed, HeadersWritten, HeadersFailed}
+use Rattle.codespan_views.specs.Private.Headers.{HeaderWriteFailed}
+use Rattle.codespan_picture.proofs.Loci.{locus_there, zip_append, zip_each, zip_length, zip_map}
+use Rattle.codespan_picture.proofs.Loci.{zip_weaker}
 use Rattle.codespan_views.proofs.Renderings.{PrefixWritten-none}
 use Rattle.codespan_views.proofs.FirstErrors.{all_succeed, first_error-none, first_error-some}
 use Rattle.codespan_views.proofs.SnippetParts.{write_at}
-use Rattle.codespan_views.proofs.HeaderStreams.{none_of_empty, no_loci, some_headers, stated_of, primary_labels, context, headers_stream, headers_stream-append, header, short, short-some, noted, noted-after}
+use Rattle.codespan_views.proofs.HeaderStreams.{none_of_empty, no_loci, some_headers, stated_of}
+use Rattle.codespan_views.proofs.HeaderStreams.{primary_labels, context, headers_stream}
+use Rattle.codespan_views.proofs.HeaderStreams.{headers_stream-append, header, short, short-some}
+use Rattle.codespan_views.proofs.HeaderStreams.{noted, noted-after}
 
 -- ---- all of them
 

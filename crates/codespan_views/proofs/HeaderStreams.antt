@@ -1,6 +1,7 @@
 -- The header of the label at an index, as a stream, for the clauses `renders` of `render_headers`
 -- and `render_located_headers`.
-use Rattle.std.proofs.Common.{◌≡◌, ℕ, ◌+◌, Bool, true, false, ◌||◌, List, [], ◌∷◌, ◌++◌, map, take, drop, Option, Some, refl, sym, ap, ap₂, ◌∙◌}
+use Rattle.std.proofs.Common.{◌≡◌, ℕ, ◌+◌, Bool, true, false, ◌||◌, List, [], ◌∷◌, ◌++◌, map, take}
+use Rattle.std.proofs.Common.{drop, Option, Some, refl, sym, ap, ap₂, ◌∙◌}
 use Rattle.std.specs.List.{AllZip}
 use Rattle.std.proofs.lemmas.Grind.{flat_map-append}
 use Rattle.std.proofs.lemmas.List.{map-append, map_more, take-append-drop}
@@ -11,11 +12,13 @@ use Rattle.codespan_core.specs.declared.term.config.Config.{Config}
 use Rattle.codespan_core.specs.FileModel.{FileModel}
 use Rattle.codespan_core.specs.Labels.{is_primary}
 use Rattle.codespan_core.specs.Streams.{Stream, newline}
-use Rattle.codespan_picture.specs.OutputStreams.{header_text_of, label_of, label_locus_byte, labels_of, context_of, notes_of}
+use Rattle.codespan_picture.specs.OutputStreams.{header_text_of, label_of, label_locus_byte}
+use Rattle.codespan_picture.specs.OutputStreams.{labels_of, context_of, notes_of}
 use Rattle.codespan_picture.specs.Picture.{stated_locus, headers}
 use Rattle.codespan_picture.specs.Rows.{HeaderRow, HeaderText, RowContext, Locus, Row}
 use Rattle.codespan_picture.specs.RowStreams.{header_row, stream_of, stream_of_rows}
-use Rattle.codespan_picture.specs.Snippets.{LabelInFile, has_any, header_rows, note_rows, primary_of}
+use Rattle.codespan_picture.specs.Snippets.{LabelInFile, has_any, header_rows, note_rows}
+use Rattle.codespan_picture.specs.Snippets.{primary_of}
 use Rattle.codespan_views.proofs.IndexedElements.{IsElementAt}
 
 -- a list that has none is empty

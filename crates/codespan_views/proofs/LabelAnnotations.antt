@@ -1,5 +1,6 @@
 -- The annotations of one label on one line, for the clause `collected` of `collect_unsorted`.
-use Rattle.std.proofs.Common.{◌≡◌, ℕ, ◌<◌, Bool, true, false, cond, ◌==◌, nat_lt, ◌&&◌, ◌||◌, List, [], ◌∷◌, ◌++◌, filter, Some, None, ⊎_elim, refl, sym, ◌∙◌, ap, arith}
+use Rattle.std.proofs.Common.{◌≡◌, ℕ, ◌<◌, Bool, true, false, cond, ◌==◌, nat_lt, ◌&&◌, ◌||◌, List}
+use Rattle.std.proofs.Common.{[], ◌∷◌, ◌++◌, filter, Some, None, ⊎_elim, refl, sym, ◌∙◌, ap, arith}
 use Rattle.std.specs.Prelude.{Option}
 use Rattle.std.specs.Option.{option_map}
 use Rattle.std.specs.List.{list_any, AllByRecursion}
@@ -10,13 +11,17 @@ use Rattle.std.proofs.lemmas.List.Elements.{filter-append}
 use Rattle.std.proofs.lemmas.List.Folds.{list_any-append}
 use Rattle.codespan_core.specs.declared.term.config.Config.{Config}
 use Rattle.codespan_core.specs.FileModel.{FileModel, line_count, line_start}
-use Rattle.codespan_core.specs.Labels.{LaneMark, LabelModel, first_line, last_line, is_single, drawn_label, lane_mark_of, multi_label_on}
-use Rattle.codespan_views.specs.Private.Annotations.{Annotation, AnnotationKind, Shown, Single, Multi, is_on_line, annotation_if_any, shows_line}
+use Rattle.codespan_core.specs.Labels.{LaneMark, LabelModel, first_line, last_line, is_single}
+use Rattle.codespan_core.specs.Labels.{drawn_label, lane_mark_of, multi_label_on}
+use Rattle.codespan_views.specs.Private.Annotations.{Annotation, AnnotationKind, Shown, Single}
+use Rattle.codespan_views.specs.Private.Annotations.{Multi, is_on_line, annotation_if_any}
+use Rattle.codespan_views.specs.Private.Annotations.{shows_line}
 use Rattle.codespan_views.specs.Private.LabelAnnotations.{line_annotations, annotations_of}
 use Rattle.codespan_picture.specs.Lines.{shows}
 use Rattle.codespan_picture.specs.Lookups.{is_looked_up}
 use Rattle.codespan_picture.proofs.ListElements.{all-append}
-use Rattle.codespan_views.proofs.LinesOfLabels.{is_kind, among-below, all-range, on-line, not_shown, not_first, no_multi_label, own_shown}
+use Rattle.codespan_views.proofs.LinesOfLabels.{is_kind, among-below, all-range, on-line, not_shown}
+use Rattle.codespan_views.proofs.LinesOfLabels.{not_first, no_multi_label, own_shown}
 
 -- ---- the annotations of a label
 

@@ -1,6 +1,8 @@
 -- The header of one label, and one run of headers after another, for the clauses `renders` of
 -- `render_header_if_primary` and `render_located_headers`.
-use Rattle.std.proofs.Common.{◌≡◌, ◌≢◌, ℕ, ◌+◌, ◌≤◌, Bool, true, false, List, [], ◌∷◌, ◌++◌, length, map, flat_map, take, drop, None, Some, Ok, Err, inl, inr, refl, sym, subst, ap, ◌∙◌, append_assoc, append-nil}
+use Rattle.std.proofs.Common.{◌≡◌, ◌≢◌, ℕ, ◌+◌, ◌≤◌, Bool, true, false, List, [], ◌∷◌, ◌++◌, length}
+use Rattle.std.proofs.Common.{map, flat_map, take, drop, None, Some, Ok, Err, inl, inr, refl, sym}
+use Rattle.std.proofs.Common.{subst, ap, ◌∙◌, append_assoc, append-nil}
 use Rattle.std.proofs.lemmas.Grind.{flat_map-append}
 use Rattle.std.proofs.lemmas.List.{take_all}
 use Rattle.codespan_core.specs.declared.diagnostic.Diagnostic.{Diagnostic}
@@ -13,7 +15,8 @@ use Rattle.codespan_core.specs.FileModel.{FileModel}
 use Rattle.codespan_core.specs.Labels.{is_primary}
 use Rattle.codespan_core.specs.Streams.{Stream}
 use Rattle.codespan_core.specs.WriterLaw.{Sink, with_written, is_known, PrefixWritten, Writes}
-use Rattle.codespan_core.proofs.Writes.{is_known-with_written, with_written-append, with_written-nil}
+use Rattle.codespan_core.proofs.Writes.{is_known-with_written, with_written-append}
+use Rattle.codespan_core.proofs.Writes.{with_written-nil}
 use Rattle.codespan_picture.specs.Lookups.{Failures, first_error, header_lookups_of}
 use Rattle.codespan_picture.specs.OutputStreams.{label_of}
 use Rattle.codespan_views.specs.Private.Utf8Loci.{IsLocusOfLabel}
@@ -23,7 +26,8 @@ use Rattle.codespan_views.specs.Private.Headers.{HeadersWritten, HeadersFailed}
 use Rattle.codespan_picture.proofs.Loci.{zip_append}
 use Rattle.codespan_views.proofs.IndexedElements.{IsElementAt}
 use Rattle.codespan_views.proofs.FirstErrors.{first_error-none}
-use Rattle.codespan_views.proofs.HeaderStreams.{primary_next, primary_cut, primary_labels, headers_stream, headers_stream-append, header}
+use Rattle.codespan_views.proofs.HeaderStreams.{primary_next, primary_cut, primary_labels}
+use Rattle.codespan_views.proofs.HeaderStreams.{headers_stream, headers_stream-append, header}
 
 -- ---- one run of headers after another
 

@@ -1,6 +1,8 @@
 -- The files of ids, and the indices and lanes of labels, one label after another, for the clause
 -- `collected` of `collect_unsorted`.
-use Rattle.std.proofs.Common.{◌≡◌, ℕ, ◌+◌, ◌<◌, ◌≤◌, Bool, true, false, not, ◌||◌, cond, List, [], ◌∷◌, ◌++◌, length, get_or, set, map, refl, sym, ap, subst, ◌∙◌, arith, ⊎_elim, true≢false}
+use Rattle.std.proofs.Common.{◌≡◌, ℕ, ◌+◌, ◌<◌, ◌≤◌, Bool, true, false, not, ◌||◌, cond, List, []}
+use Rattle.std.proofs.Common.{◌∷◌, ◌++◌, length, get_or, set, map, refl, sym, ap, subst, ◌∙◌, arith}
+use Rattle.std.proofs.Common.{⊎_elim, true≢false}
 use Rattle.std.specs.Prelude.{filter, if◌then◌else◌}
 use Rattle.std.specs.Cmp.{IsEquivalence}
 use Rattle.std.specs.List.{AllByRecursion}
@@ -11,7 +13,8 @@ use Rattle.std.proofs.lemmas.List.Filters.{length-filter_both}
 use Rattle.codespan_core.specs.declared.term.config.Config.{Config}
 use Rattle.codespan_core.specs.FileModel.{FileDatabase, FileModel, line_count}
 use Rattle.codespan_core.specs.LawfulFiles.{IsLawful}
-use Rattle.codespan_core.specs.Labels.{LabelModel, first_line, is_single, last_line, multi_line_labels}
+use Rattle.codespan_core.specs.Labels.{LabelModel, first_line, is_single, last_line}
+use Rattle.codespan_core.specs.Labels.{multi_line_labels}
 use Rattle.codespan_views.specs.declared.label_span.LabelSpan.{LabelSpan}
 use Rattle.codespan_views.specs.Private.Annotations.{Annotation}
 use Rattle.codespan_views.specs.Private.LabeledFiles.{lanes_of_span, num_multi_labels_of}

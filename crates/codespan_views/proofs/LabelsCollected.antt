@@ -1,12 +1,15 @@
 -- The annotations of the labels of a diagnostic, collected one label after another, for the clauses
 -- `collected` and `failed` of `collect_unsorted`.
-use Rattle.std.proofs.Common.{◌≡◌, ℕ, ◌+◌, ◌<◌, ◌≤◌, Bool, true, List, [], ◌∷◌, ◌++◌, length, take, drop, get_or, set, map, Option, Some, None, refl, sym, ap, ◌∙◌, subst, subst₂, ◌^◌, arith}
+use Rattle.std.proofs.Common.{◌≡◌, ℕ, ◌+◌, ◌<◌, ◌≤◌, Bool, true, List, [], ◌∷◌, ◌++◌, length, take}
+use Rattle.std.proofs.Common.{drop, get_or, set, map, Option, Some, None, refl, sym, ap, ◌∙◌, subst}
+use Rattle.std.proofs.Common.{subst₂, ◌^◌, arith}
 use Rattle.std.specs.Prelude.{flat_map, fold, max, if◌then◌else◌}
 use Rattle.std.specs.Cmp.{IsEquivalence}
 use Rattle.std.specs.List.{AllByRecursion}
 use Rattle.std.proofs.lemmas.Bool.{eq-eqb}
 use Rattle.std.proofs.lemmas.Grind.{flat_map-append}
-use Rattle.std.proofs.lemmas.List.{append-nil, length-map, length-take-le, map-append, set-get_or, take-append-drop, take_all}
+use Rattle.std.proofs.lemmas.List.{append-nil, length-map, length-take-le, map-append, set-get_or}
+use Rattle.std.proofs.lemmas.List.{take-append-drop, take_all}
 use Rattle.codespan_core.specs.declared.term.config.Config.{Config}
 use Rattle.codespan_core.specs.declared.diagnostic.Label.{Label}
 use Rattle.codespan_core.specs.declared.files.Error.{Error}
@@ -15,14 +18,21 @@ use Rattle.codespan_core.specs.FileModel.Lookup.{LineIndex}
 use Rattle.codespan_views.specs.declared.annotation.Annotation.{Annotation as RustAnnotation}
 use Rattle.codespan_views.specs.declared.labeled_files.LabeledFile.{LabeledFile as RustFile}
 use Rattle.codespan_views.specs.declared.least_starts.LeastStarts.{LeastStarts}
-use Rattle.codespan_views.specs.Private.LabelsToCollect.{FindsLabelAnnotations, LabelToCollect, WidensPadding, labels_failure, lines_failure, lookups_of_label}
+use Rattle.codespan_views.specs.Private.LabelsToCollect.{FindsLabelAnnotations, LabelToCollect}
+use Rattle.codespan_views.specs.Private.LabelsToCollect.{WidensPadding, labels_failure}
+use Rattle.codespan_views.specs.Private.LabelsToCollect.{lines_failure, lookups_of_label}
 use Rattle.codespan_views.specs.Private.Annotations.{Annotation}
 use Rattle.codespan_views.specs.Private.LabelSpans.{ends_failure}
 use Rattle.codespan_views.specs.Private.LabelAnnotations.{annotations_of}
-use Rattle.codespan_views.specs.Private.AnnotationViews.{AppendsAnnotations, AppendsAnnotationsOf, IsLineOf, IsOfFiles, annotation_view}
-use Rattle.codespan_views.specs.Private.LabeledFiles.{HasLabels, ids_view, lane_counts, num_multi_labels_of, lane_counts_with, all_least_starts_with, all_least_starts, with_file}
+use Rattle.codespan_views.specs.Private.AnnotationViews.{AppendsAnnotations, AppendsAnnotationsOf}
+use Rattle.codespan_views.specs.Private.AnnotationViews.{IsLineOf, IsOfFiles, annotation_view}
+use Rattle.codespan_views.specs.Private.LabeledFiles.{HasLabels, ids_view, lane_counts}
+use Rattle.codespan_views.specs.Private.LabeledFiles.{num_multi_labels_of, lane_counts_with}
+use Rattle.codespan_views.specs.Private.LabeledFiles.{all_least_starts_with, all_least_starts}
+use Rattle.codespan_views.specs.Private.LabeledFiles.{with_file}
 use Rattle.codespan_views.specs.Private.LocusBytes.{file_least_starts, least_starts_with, no_starts}
-use Rattle.codespan_picture.specs.Lookups.{lookups_of_file, first_error, label_lookups, label_line_lookups}
+use Rattle.codespan_picture.specs.Lookups.{lookups_of_file, first_error, label_lookups}
+use Rattle.codespan_picture.specs.Lookups.{label_line_lookups}
 use Rattle.codespan_picture.specs.OutputStreams.{label_of}
 use Rattle.codespan_views.specs.Private.FileIndices.{IsIdAt, index_of_file}
 use Rattle.codespan_views.specs.Private.IndexedLabels.{annotations_after, annotations_of_next}
@@ -35,11 +45,15 @@ use Rattle.codespan_views.proofs.FileOrder.{file_ids-more}
 use Rattle.codespan_views.proofs.FileIndices.{index_of_file-at}
 use Rattle.codespan_views.proofs.Collecting.{AppendsAnnotations-as, AppendsAnnotations-both}
 use Rattle.codespan_views.proofs.LabelAnnotations.{all-of_file}
-use Rattle.codespan_views.proofs.LabelIndexing.{AreFiles, IsChanged, annotations_after-more, unchanged-at, label_lanes, num_multi_labels_of-equal, num_multi_labels_of-more, num_multi_labels_of-none, lanes-within, set-at}
+use Rattle.codespan_views.proofs.LabelIndexing.{AreFiles, IsChanged, annotations_after-more}
+use Rattle.codespan_views.proofs.LabelIndexing.{unchanged-at, label_lanes}
+use Rattle.codespan_views.proofs.LabelIndexing.{num_multi_labels_of-equal, num_multi_labels_of-more}
+use Rattle.codespan_views.proofs.LabelIndexing.{num_multi_labels_of-none, lanes-within, set-at}
 use Rattle.codespan_views.proofs.IndexedElements.{IsElementAt, map-changed}
 use Rattle.codespan_views.proofs.LabelFiles.{added-with_file, known-more}
 use Rattle.codespan_views.proofs.LocusBytes.{start-unknown, starts-set}
-use Rattle.codespan_views.proofs.LabelsBefore.{before, before-more, file-inside, has-file, ids-differ}
+use Rattle.codespan_views.proofs.LabelsBefore.{before, before-more, file-inside, has-file}
+use Rattle.codespan_views.proofs.LabelsBefore.{ids-differ}
 use Rattle.codespan_views.proofs.FirstErrors.{first_error-none, first_error-some}
 
 -- these labels are done with: each file has what they add, their annotations are there, the padding

@@ -7,7 +7,7 @@ pub mod AnnotationOrder
 pub mod FileLengths
 pub mod KeptElements
 pub mod Utf8Loci
--- what is collected, planned and rendered
+-- what is collected, looked up and rendered
 pub mod FirstErrors
 pub mod LabelIndexing
 pub mod LabelsBefore
@@ -32,17 +32,16 @@ pub mod AnnotationOutput
 pub mod FileSlices
 pub mod LabelStarts
 pub mod LaneMarks
-pub mod LinesFound
+pub mod FilledNumbers
+pub mod NumbersFound
+pub mod LociFound
 pub mod GroupLines
 pub mod SnippetLineViews
-pub mod PlannedLoci
-pub mod PlanFiles
-pub mod SnippetLineLookups
-pub mod PlansFound
+pub mod SnippetStarts
+pub mod CollectedFiles
 pub mod FileTurns
-pub mod PlanPadding
 pub mod SpannedPadding
-pub mod OutputPlanned
+pub mod EarlyErrors
 pub mod RendererRuns
 pub mod EmitErrors
 pub mod OutputLoci
@@ -51,8 +50,8 @@ pub mod EmittedOutputs
 pub mod LookupRuns
 pub mod StyleCalls
 pub mod SnippetParts
-pub mod PlannedFiles
-pub mod OutputPlanRendering
+pub mod FilesInOrder
+pub mod SnippetsRendered
 pub mod LinesRendered
 pub mod NoteRows
 pub mod RichParts

@@ -1,6 +1,8 @@
 -- The lines of a range, and those that are not looked up for a label, for the clause `collected`
 -- of `collect_unsorted`.
-use Rattle.std.proofs.Common.{◌≡◌, ◌≢◌, ℕ, zero, suc, ◌+◌, ◌<◌, Bool, true, false, cond, ◌==◌, nat_lt, nat_le, ◌&&◌, ◌||◌, List, [], ◌∷◌, ◌++◌, filter, flat_map, None, ⊎_elim, refl, sym, ◌∙◌, ap, arith}
+use Rattle.std.proofs.Common.{◌≡◌, ◌≢◌, ℕ, zero, suc, ◌+◌, ◌<◌, Bool, true, false, cond, ◌==◌}
+use Rattle.std.proofs.Common.{nat_lt, nat_le, ◌&&◌, ◌||◌, List, [], ◌∷◌, ◌++◌, filter, flat_map}
+use Rattle.std.proofs.Common.{None, ⊎_elim, refl, sym, ◌∙◌, ap, arith}
 use Rattle.std.specs.List.{range_with_len, AllByRecursion}
 use Rattle.std.proofs.lemmas.Bool.{cases_eq, cond_both, eq-eqb, ne_eqb}
 use Rattle.std.proofs.lemmas.Bool.Decides.{nat_tests}
@@ -11,7 +13,8 @@ use Rattle.codespan_core.specs.Labels.{LabelModel, multi_label_at}
 use Rattle.codespan_views.specs.Private.Annotations.{Annotation, rank_of, is_on_line}
 use Rattle.codespan_picture.specs.Lines.{shows}
 use Rattle.codespan_picture.specs.Lookups.{is_around}
-use Rattle.codespan_picture.proofs.ListElements.{all-append, filter-whole, filter-nothing, all-weaker}
+use Rattle.codespan_picture.proofs.ListElements.{all-append, filter-whole, filter-nothing}
+use Rattle.codespan_picture.proofs.ListElements.{all-weaker}
 
 -- the annotation is of this kind
 abbrev pub is_kind : ℕ → Annotation → Bool

@@ -1,35 +1,47 @@
 -- Snippet lines that are rendered one after another, what is written and what is looked up, for the
--- clauses of `render_lines`, `render_snippet_line` and `render_line`.
-use Rattle.std.proofs.Common.{◌≡◌, ℕ, ◌+◌, ◌≤◌, List, [], ◌∷◌, ◌++◌, length, take, drop, map, Option, None, Result, Ok, Err, sym, subst, ap, ◌∙◌, append-nil}
-use Rattle.std.proofs.lemmas.List.{map-append, take-append-drop, take_all}
+-- clauses of `render_lines`, `render_filled` and `render_line`.
+use Rattle.std.proofs.Common.{◌≡◌, ℕ, List, [], ◌∷◌, ◌++◌, length, drop, map, Option, None}
+use Rattle.std.proofs.Common.{Result, Ok, Err, sym, subst, ap, ◌∙◌, append-nil, append_assoc}
+use Rattle.std.specs.Prelude.{slice_get, slice_range, true}
+use Rattle.std.specs.List.{AllByRecursion}
+use Rattle.std.proofs.lemmas.List.{drop-drop, length-append}
 use Rattle.std.proofs.lemmas.Grind.{flat_map-append}
 use Rattle.codespan_core.specs.declared.files.Error.{Error}
 use Rattle.codespan_core.specs.declared.term.config.Config.{Config}
 use Rattle.codespan_core.specs.FileModel.{FileDatabase, FileModel, Lookup, or_failure}
 use Rattle.codespan_core.specs.Streams.{Stream, newline}
 use Rattle.codespan_core.specs.WriterLaw.{Sink}
+use Rattle.codespan_picture.specs.Arguments.{LaneMarkTuple, SingleLabelTuple, lane_mark_view}
+use Rattle.codespan_picture.specs.Arguments.{single_label_views}
 use Rattle.codespan_picture.specs.OutputStreams.{context_of}
+use Rattle.codespan_picture.specs.RenderedRows.{source_line}
 use Rattle.codespan_picture.specs.Rows.{Line, RowContext, Row, rows_of}
 use Rattle.codespan_picture.specs.RowStreams.{stream_of, stream_of_rows}
-use Rattle.codespan_views.specs.declared.snippet.lines.Snippet.{Snippet}
-use Rattle.codespan_views.specs.declared.plan.snippet_lines.SnippetLine.{SnippetLine as RustLine}
-use Rattle.codespan_views.specs.Private.LookupsWhileRendering.{WritesWithLookups}
-use Rattle.codespan_views.specs.Private.SourceFiles.{failure_of, model_of}
-use Rattle.codespan_views.specs.Private.SnippetLineViews.{lookups_of_line, lookups_of_lines, snippet_line_view}
-use Rattle.codespan_views.specs.Private.SnippetLines.{SnippetLine, Filled, Labeled, lane_marks_in, line_of_group, rows_of_line, rows_of_lines, single_labels_in}
-use Rattle.codespan_views.specs.Private.Annotations.{Annotation}
 use Rattle.codespan_renderer.specs.declared.term.renderer.Renderer.{Renderer}
 use Rattle.codespan_renderer.specs.Renderers.{Renders, config_of}
-use Rattle.codespan_picture.specs.RenderedRows.{source_line}
-use Rattle.codespan_picture.specs.Arguments.{LaneMarkTuple, SingleLabelTuple, lane_mark_view, single_label_views}
 use Rattle.codespan_views.specs.declared.annotation.LineInfo.{LineInfo}
+use Rattle.codespan_views.specs.declared.snippet.Snippet.{Snippet}
+use Rattle.codespan_views.specs.Private.Annotations.{Annotation}
 use Rattle.codespan_views.specs.Private.AnnotationViews.{IsLineOf}
-use Rattle.std.specs.Prelude.{slice_range}
-use Rattle.codespan_views.specs.Private.LineRendering.{RendersLine}
-use Rattle.codespan_views.proofs.RendererRuns.{renders_after, renders_alone, renders_as}
-use Rattle.codespan_views.proofs.LookupRuns.{IsLookupRun, run_as, run_cut, run_of_nothing, run_then}
+use Rattle.codespan_views.specs.Private.FilledLines.{AreNumbersOf, lookups_with}
+use Rattle.codespan_views.specs.Private.LineRendering.{HasLines, RendersLine}
+use Rattle.codespan_views.specs.Private.LookupsWhileRendering.{WritesWithLookups}
+use Rattle.codespan_views.specs.Private.SnippetLines.{Filled, Labeled, SnippetLine}
+use Rattle.codespan_views.specs.Private.SnippetLines.{filled_line_of, filled_lines_of}
+use Rattle.codespan_views.specs.Private.SnippetLines.{is_line_in_order, lane_marks_in}
+use Rattle.codespan_views.specs.Private.SnippetLines.{line_of_group, rows_of_line, rows_of_lines}
+use Rattle.codespan_views.specs.Private.SnippetLines.{single_labels_in}
+use Rattle.codespan_views.specs.Private.SourceFiles.{failure_of, lookups_of_filled, model_of}
+use Rattle.codespan_views.proofs.FilledNumbers.{filled-append, lookups_with-append, numbers-later}
 use Rattle.codespan_views.proofs.FirstErrors.{first_error-lookups}
-use Rattle.codespan_views.proofs.IndexedElements.{IsElementAt, take-at}
+use Rattle.codespan_views.proofs.LookupRuns.{IsLookupRun, run_as, run_cut, run_of_nothing, run_then}
+use Rattle.codespan_views.proofs.RendererRuns.{renders_after, renders_alone, renders_as}
+
+-- what is known of all elements is known of the later ones
+all-later : {X : Type 0} (P : X → Type 0) (xs ys : List X) → AllByRecursion P (xs ++ ys)
+    → AllByRecursion P ys
+all-later P [] ys h = h
+all-later P (x ∷ xs) ys h = all-later P xs ys h.1
 
 module _ {F Id Name Source : Type 0} (database : F → FileDatabase Id)
     (snippet : Snippet F Id Name Source) (config : Config) where
@@ -43,125 +55,225 @@ module _ {F Id Name Source : Type 0} (database : F → FileDatabase Id)
 
   -- what its rows share
   abbrev row_context : RowContext
-  row_context = context_of config snippet.context.now.severity snippet.context.now.padding
+  row_context = context_of config snippet.severity snippet.padding
 
   -- the rows of these snippet lines
-  abbrev rows : List (RustLine Id) → Stream
-  rows snippet_lines =
-      stream_of_rows row_context
-      (rows_of_lines f snippet.num_multi_labels (map snippet_line_view snippet_lines))
+  abbrev rows : List SnippetLine → Stream
+  rows xs = stream_of_rows row_context (rows_of_lines f snippet.num_multi_labels xs)
 
-  -- what their lookups fail with
-  abbrev lookups_all : List (RustLine Id) → Option Error
-  lookups_all snippet_lines = lookups (lookups_of_lines snippet_lines)
+  -- what the lookups of the filled ones fail with, where these are their known numbers
+  abbrev lookups_all : List ℕ → List SnippetLine → Option Error
+  lookups_all numbers xs = lookups (lookups_with numbers (filled_lines_of xs))
 
-  -- the call renders a snippet line, with its lookups
-  abbrev RendersOne : RustLine Id → Sink → Result (Unit {0}) Error → Sink → Type 0
-  RendersOne snippet_line old r new =
-      WritesWithLookups (lookups (lookups_of_line snippet_line)) old
-      (stream_of_rows row_context
-      (rows_of_line f snippet.num_multi_labels (snippet_line_view snippet_line)))
-      r new
+  -- the call renders a snippet line, with these lookups
+  abbrev RendersOne : List Lookup → SnippetLine → Sink → Result (Unit {0}) Error → Sink → Type 0
+  RendersOne ls x old r new =
+      WritesWithLookups (lookups ls) old
+      (stream_of_rows row_context (rows_of_line f snippet.num_multi_labels x)) r new
 
   -- these snippet lines are rendered, with their lookups
-  pub record RendersAll (snippet_lines : List (RustLine Id)) (old : Sink)
+  pub record RendersAll (numbers : List ℕ) (xs : List SnippetLine) (old : Sink)
       (r : Result (Unit {0}) Error) (new : Sink) : Type 0 where
-    pub rendered : IsLookupRun (lookups_all snippet_lines) old (rows snippet_lines) r new
+    pub rendered : IsLookupRun (lookups_all numbers xs) old (rows xs) r new
 
   -- the rows of snippet lines, one after another
-  rows-append : (xs ys : List (RustLine Id)) → rows (xs ++ ys) ≡ rows xs ++ rows ys
+  rows-append : (xs ys : List SnippetLine) → rows (xs ++ ys) ≡ rows xs ++ rows ys
   rows-append xs ys =
-      ap (λ (snippet_lines : List SnippetLine). stream_of_rows row_context (rows_of_lines f snippet.num_multi_labels snippet_lines)) (map-append snippet_line_view xs ys)
-      ∙ ap (stream_of_rows row_context)
-      (flat_map-append (rows_of_line f snippet.num_multi_labels) (map snippet_line_view xs)
-      (map snippet_line_view ys))
+      ap (stream_of_rows row_context)
+      (flat_map-append (rows_of_line f snippet.num_multi_labels) xs ys)
       ∙ flat_map-append (λ (row : Row). stream_of row_context row ++ newline)
-      (rows_of_lines f snippet.num_multi_labels (map snippet_line_view xs))
-      (rows_of_lines f snippet.num_multi_labels (map snippet_line_view ys))
+      (rows_of_lines f snippet.num_multi_labels xs) (rows_of_lines f snippet.num_multi_labels ys)
+
+  -- the numbers that are left after those of these snippet lines
+  abbrev pub numbers_after : List ℕ → List SnippetLine → List ℕ
+  numbers_after numbers xs = drop (length (filled_lines_of xs)) numbers
 
   -- the lookups of snippet lines, one after another
-  lookups-append : (xs ys : List (RustLine Id))
-      → lookups_all (xs ++ ys) ≡ or_failure (lookups_all xs) (lookups_all ys)
-  lookups-append xs ys =
-      ap lookups (flat_map-append lookups_of_line xs ys)
+  lookups-append : (numbers : List ℕ) (xs ys : List SnippetLine)
+      → lookups_all numbers (xs ++ ys) ≡ or_failure (lookups_all numbers xs)
+      (lookups_all (numbers_after numbers xs) ys)
+  lookups-append numbers xs ys =
+      ap (λ (ls : List ℕ). lookups (lookups_with numbers ls)) (filled-append xs ys)
+      ∙ ap lookups (lookups_with-append numbers (filled_lines_of xs) (filled_lines_of ys))
       ∙ first_error-lookups (database snippet.file.files.now).failure snippet.file.file_id
-      (lookups_of_lines xs) (lookups_of_lines ys)
+      (lookups_with numbers (filled_lines_of xs))
+      (lookups_with (numbers_after numbers xs) (filled_lines_of ys))
+
+  -- of all snippet lines the first are rendered, and these are left, with these numbers
+  pub record LinesLeft (numbers : List ℕ) (whole rest : List SnippetLine) (left : List ℕ)
+      (old now : Sink) : Type 0 where
+    pub taken : List SnippetLine
+    pub is_whole : taken ++ rest ≡ whole
+    pub left_is : left ≡ numbers_after numbers taken
+    pub all : RendersAll numbers taken old (Ok tt) now
 
 module _ {F Id Name Source : Type 0} {database : F → FileDatabase Id}
     {snippet : Snippet F Id Name Source} {config : Config} where
-  -- nothing is rendered
-  pub rendered-nothing : {s : Sink} → RendersAll database snippet config [] s (Ok tt) s
-  rendered-nothing = record { rendered = run_of_nothing }
-
-  -- one snippet line is rendered
-  rendered-one : {snippet_line : RustLine Id} {s t : Sink} {r : Result (Unit {0}) Error}
-      → RendersOne database snippet config snippet_line s r t
-      → RendersAll database snippet config (snippet_line ∷ []) s r t
-  rendered-one {snippet_line} renders = record {
+  -- one snippet line is rendered, that is not filled in
+  pub rendered-one : {numbers : List ℕ} {x : SnippetLine} {now : Config} {s t : Sink}
+      {r : Result (Unit {0}) Error}
+      → filled_line_of x ≡ [] → now ≡ config → RendersOne database snippet now [] x s r t
+      → RendersAll database snippet config numbers (x ∷ []) s r t
+  rendered-one {numbers} {x} {s = s} {t = t} {r = r} none equal renders = record {
     rendered = run_as
-        (ap (lookups database snippet config) (sym (append-nil (lookups_of_line snippet_line))))
+        (ap (λ (ls : List ℕ). lookups database snippet config (lookups_with numbers ls))
+        (sym none ∙ sym (append-nil (filled_line_of x))))
+        (ap (stream_of_rows (row_context database snippet config))
+        (sym (append-nil (rows_of_line (f database snippet config) snippet.num_multi_labels x))))
+        (record {
+          renders =
+              subst (λ (k : Config). RendersOne database snippet k [] x s r t) equal renders;
+        });
+  }
+
+  -- a line that is filled in
+  pub rendered-filled : {numbers : List ℕ} {l : ℕ} {annotations : List Annotation} {now : Config}
+      {s t : Sink} {r : Result (Unit {0}) Error}
+      → now ≡ config
+      → RendersOne database snippet now (lookups_of_filled (slice_get numbers 0) l)
+      (Filled l annotations) s r t
+      → RendersAll database snippet config numbers (Filled l annotations ∷ []) s r t
+  rendered-filled {numbers} {l} {annotations} {s = s} {t = t} {r = r} equal renders = record {
+    rendered = run_as
+        (ap (lookups database snippet config)
+        (sym (append-nil (lookups_of_filled (slice_get numbers 0) l))))
         (ap (stream_of_rows (row_context database snippet config))
         (sym
         (append-nil
-        (rows_of_line (f database snippet config) snippet.num_multi_labels
-        (snippet_line_view snippet_line)))))
-        (record { renders = renders });
+        (rows_of_line (f database snippet config) snippet.num_multi_labels (Filled l annotations)))))
+        (record {
+          renders = subst
+              (λ (k : Config). RendersOne database snippet k
+              (lookups_of_filled (slice_get numbers 0) l) (Filled l annotations) s r t)
+              equal renders;
+        });
   }
 
+  -- nothing is rendered
+  pub rendered-nothing : {numbers : List ℕ} {s : Sink}
+      → RendersAll database snippet config numbers [] s (Ok tt) s
+  rendered-nothing = record { rendered = run_of_nothing }
+
   -- snippet lines are rendered, and then others, however that ends
-  rendered-then : {xs ys : List (RustLine Id)} {s t u : Sink} {r : Result (Unit {0}) Error}
-      → RendersAll database snippet config xs s (Ok tt) t
-      → RendersAll database snippet config ys t r u
-      → RendersAll database snippet config (xs ++ ys) s r u
-  rendered-then {xs} {ys} first second = record {
+  pub rendered-then : {numbers : List ℕ} {xs ys : List SnippetLine} {s t u : Sink}
+      {r : Result (Unit {0}) Error}
+      → RendersAll database snippet config numbers xs s (Ok tt) t
+      → RendersAll database snippet config
+      (numbers_after database snippet config numbers xs) ys t r u
+      → RendersAll database snippet config numbers (xs ++ ys) s r u
+  rendered-then {numbers} {xs} {ys} first second = record {
     rendered =
-        run_as (sym (lookups-append database snippet config xs ys))
+        run_as (sym (lookups-append database snippet config numbers xs ys))
         (sym (rows-append database snippet config xs ys)) (run_then first.rendered second.rendered);
   }
 
-  -- snippet lines were rendered, and then the next one, by an equal configuration, however that
-  -- ends
-  pub rendered-next : {whole : List (RustLine Id)} {i : ℕ} {snippet_line : RustLine Id}
-      {now : Config} {s t u : Sink} {r : Result (Unit {0}) Error}
-      → IsElementAt whole i snippet_line
-      → RendersAll database snippet config (take i whole) s (Ok tt) t → now ≡ config
-      → RendersOne database snippet now snippet_line t r u
-      → RendersAll database snippet config (take (i + 1) whole) s r u
-  rendered-next {snippet_line = snippet_line} {s = s} {t = t} {u = u} {r = r} at before equal next =
-      let here =
-      subst (λ (k : Config). RendersOne database snippet k snippet_line t r u) equal next in
-      subst
-      (λ (snippet_lines : List (RustLine Id)). RendersAll database snippet config snippet_lines
-      s r u)
-      (sym (take-at at))
-      (rendered-then before (rendered-one {snippet_line = snippet_line} here))
-
   -- the first snippet lines failed, and so all are
-  pub rendered-cut : (whole : List (RustLine Id)) (i : ℕ) {s t : Sink} {e : Error}
-      → RendersAll database snippet config (take i whole) s (Err e) t
-      → RendersAll database snippet config whole s (Err e) t
-  rendered-cut whole i {s} {t} {e} cut =
-      let first = take i whole in
-      let later = drop i whole in
-      subst
-      (λ (snippet_lines : List (RustLine Id)). RendersAll database snippet config snippet_lines
-      s (Err e) t)
-      (take-append-drop i whole) (record {
-        rendered =
-            run_as (sym (lookups-append database snippet config first later))
-            (sym (rows-append database snippet config first later))
-            (run_cut (lookups_all database snippet config later)
-            (rows database snippet config later) cut.rendered);
-      })
+  pub rendered-cut : {numbers : List ℕ} {xs : List SnippetLine} (ys : List SnippetLine)
+      {s t : Sink} {e : Error}
+      → RendersAll database snippet config numbers xs s (Err e) t
+      → RendersAll database snippet config numbers (xs ++ ys) s (Err e) t
+  rendered-cut {numbers} {xs} ys cut = record {
+    rendered =
+        run_as (sym (lookups-append database snippet config numbers xs ys))
+        (sym (rows-append database snippet config xs ys))
+        (run_cut
+        (lookups_all database snippet config (numbers_after database snippet config numbers xs) ys)
+        (rows database snippet config ys) cut.rendered);
+  }
 
-  -- all snippet lines are rendered
-  pub rendered-all : (whole : List (RustLine Id)) (i : ℕ) {s t : Sink} {r : Result (Unit {0}) Error}
-      → length whole ≤ i → RendersAll database snippet config (take i whole) s r t
-      → RendersAll database snippet config whole s r t
-  rendered-all whole i {s} {t} {r} past all =
-      subst
-      (λ (snippet_lines : List (RustLine Id)). RendersAll database snippet config snippet_lines s r t)
-      (take_all i whole past) all
+  -- nothing is rendered yet
+  pub left-all : {numbers left : List ℕ} {whole rest : List SnippetLine} {s : Sink}
+      → rest ≡ whole → left ≡ numbers
+      → LinesLeft database snippet config numbers whole rest left s s
+  left-all same none =
+      record { taken = []; is_whole = same; left_is = none; all = rendered-nothing }
+
+  module _ {numbers left : List ℕ} {whole rest : List SnippetLine} {old now : Sink}
+      (before : LinesLeft database snippet config numbers whole rest left old now) where
+    -- nothing is left
+    pub left-none : rest ≡ [] → RendersAll database snippet config numbers whole old (Ok tt) now
+    left-none none =
+        subst (λ xs. RendersAll database snippet config numbers xs old (Ok tt) now)
+        (sym (append-nil before.taken) ∙ ap (λ xs. before.taken ++ xs) (sym none)
+        ∙ before.is_whole)
+        before.all
+
+    -- and the numbers are those after all
+    pub numbers-none : rest ≡ [] → left ≡ numbers_after database snippet config numbers whole
+    numbers-none none =
+        before.left_is
+        ∙ ap (λ xs. numbers_after database snippet config numbers xs)
+        (sym (append-nil before.taken) ∙ ap (λ xs. before.taken ++ xs) (sym none)
+        ∙ before.is_whole)
+
+    -- those that are left have what all have
+    pub left-has : HasLines database snippet numbers whole → HasLines database snippet left rest
+    left-has has =
+        let has_all = subst (HasLines database snippet numbers) (sym before.is_whole) has in
+        record {
+          source = has_all.source;
+          in_order =
+              all-later (λ x. is_line_in_order snippet.num_multi_labels x ≡ true) before.taken rest
+              has_all.in_order;
+          numbers_are =
+              subst
+              (λ ns. AreNumbersOf (f database snippet config) ns (filled_lines_of rest))
+              (sym before.left_is)
+              (numbers-later (f database snippet config) numbers (filled_lines_of before.taken)
+              (filled_lines_of rest)
+              (subst (AreNumbersOf (f database snippet config) numbers)
+              (filled-append before.taken rest) has_all.numbers_are));
+        }
+
+    module _ (xs ys : List SnippetLine) (next : rest ≡ xs ++ ys) where
+      -- the next ones come after those before them
+      next_whole : (before.taken ++ xs) ++ ys ≡ whole
+      next_whole =
+          append_assoc before.taken xs ys ∙ ap (λ zs. before.taken ++ zs) (sym next)
+          ∙ before.is_whole
+
+      -- and are rendered with the numbers that are left
+      next-rendered : {r : Result (Unit {0}) Error} {new : Sink}
+          → RendersAll database snippet config left xs now r new
+          → RendersAll database snippet config numbers (before.taken ++ xs) old r new
+      next-rendered {r} {new} rendered =
+          rendered-then before.all
+          (subst (λ ns. RendersAll database snippet config ns xs now r new) before.left_is rendered)
+
+      -- they are rendered
+      pub left-more : {new : Sink} {later : List ℕ}
+          → RendersAll database snippet config left xs now (Ok tt) new
+          → later ≡ numbers_after database snippet config left xs
+          → LinesLeft database snippet config numbers whole ys later old new
+      left-more rendered taken_are = record {
+        taken = before.taken ++ xs;
+        is_whole = next_whole;
+        left_is =
+            taken_are
+            ∙ ap (drop (length (filled_lines_of xs))) before.left_is
+            ∙ drop-drop (length (filled_lines_of xs)) (length (filled_lines_of before.taken))
+            numbers
+            ∙ ap (λ n. drop n numbers)
+            (sym
+            (ap length (filled-append before.taken xs)
+            ∙ length-append (filled_lines_of before.taken) (filled_lines_of xs)));
+        all = next-rendered rendered;
+      }
+
+      -- they were cut short
+      pub left-cut : {new : Sink} {e : Error}
+          → RendersAll database snippet config left xs now (Err e) new
+          → RendersAll database snippet config numbers whole old (Err e) new
+      left-cut {new} {e} rendered =
+          subst (λ zs. RendersAll database snippet config numbers zs old (Err e) new) next_whole
+          (rendered-cut ys (next-rendered rendered))
+
+    -- others are left, the same
+    pub left-same : {others : List SnippetLine} → others ≡ rest
+        → LinesLeft database snippet config numbers whole others left old now
+    left-same same =
+        subst (λ xs. LinesLeft database snippet config numbers whole xs left old now) (sym same)
+        before
 
 -- a line that is filled in is rendered as a labeled one, after the lookups of it
 pub filled-rendered : {W F Id Name Source : Type 0} {sink : W → Sink}
@@ -194,9 +306,7 @@ pub line-rendered : {W F Id Name Source : Type 0} {sink : W → Sink} (database 
     {old new : Renderer W} {r : Result (Unit {0}) Error} → shown
     ≡ line_of_group (model_of database snippet.file) snippet.num_multi_labels l annotations
     → Renders sink
-    (stream_of_rows
-    (context_of (config_of old) snippet.context.now.severity snippet.context.now.padding)
-    (rows_of shown))
+    (stream_of_rows (context_of (config_of old) snippet.severity snippet.padding) (rows_of shown))
     old r new
     → RendersLine sink database snippet [] (Labeled l annotations) old r new
 line-rendered database snippet l annotations {old = old} same rendered =
@@ -204,7 +314,6 @@ line-rendered database snippet l annotations {old = old} same rendered =
     (renders_as
     (ap
     (λ (x : Line). stream_of_rows
-    (context_of (config_of old) snippet.context.now.severity snippet.context.now.padding)
-    (rows_of x))
+    (context_of (config_of old) snippet.severity snippet.padding) (rows_of x))
     same)
     rendered)

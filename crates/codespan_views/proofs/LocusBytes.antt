@@ -1,6 +1,7 @@
 -- Where the snippets of files start, one label after another, for the clause `collected` of
 -- `collect_unsorted`.
-use Rattle.std.proofs.Common.{◌≡◌, ℕ, ◌+◌, Bool, true, false, cond, not, ◌&&◌, ◌||◌, List, [], ◌∷◌, ◌++◌, get_or, set, map, filter, Some, refl, ap, ◌∙◌, append-nil}
+use Rattle.std.proofs.Common.{◌≡◌, ℕ, ◌+◌, Bool, true, false, cond, not, ◌&&◌, ◌||◌, List, [], ◌∷◌}
+use Rattle.std.proofs.Common.{◌++◌, get_or, set, map, filter, Some, refl, ap, ◌∙◌, append-nil}
 use Rattle.std.specs.Prelude.{min, if◌then◌else◌}
 use Rattle.std.specs.Cmp.{IsEquivalence}
 use Rattle.std.specs.List.{AllByRecursion}
@@ -13,7 +14,9 @@ use Rattle.codespan_picture.specs.OutputStreams.{label_of}
 use Rattle.codespan_picture.specs.Snippets.{LabelInFile, file_ids}
 use Rattle.codespan_views.specs.declared.least_starts.LeastStarts.{LeastStarts}
 use Rattle.codespan_views.specs.Private.LabeledFiles.{all_least_starts_with}
-use Rattle.codespan_views.specs.Private.LocusBytes.{file_least_starts, is_locus_label, least_if_any, least_with, no_starts, least_starts_with, label_starts}
+use Rattle.codespan_views.specs.Private.LocusBytes.{file_least_starts, is_locus_label, least_if_any}
+use Rattle.codespan_views.specs.Private.LocusBytes.{least_with, no_starts, least_starts_with}
+use Rattle.codespan_views.specs.Private.LocusBytes.{label_starts}
 use Rattle.codespan_views.specs.Private.FileIndices.{index_of_file}
 use Rattle.codespan_picture.proofs.ListElements.{all-weaker, filter-nothing}
 use Rattle.codespan_views.proofs.IndexedElements.{IsElementAt}

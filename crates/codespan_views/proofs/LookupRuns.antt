@@ -1,6 +1,7 @@
 -- Rendering with lookups on the way, part by part: what has been written, what was looked up, and
--- what an error cut short. For the clauses of `render_snippet`, `render_line` and `render_break`.
-use Rattle.std.proofs.Common.{◌≡◌, ◌≢◌, [], ◌++◌, Option, None, Some, Result, Ok, Err, inl, inr, ⊎_elim, refl, sym, subst, ◌∙◌}
+-- what an error cut short. For the clauses of `Snippet::render`, `render_line` and `render_break`.
+use Rattle.std.proofs.Common.{◌≡◌, ◌≢◌, [], ◌++◌, Option, None, Some, Result, Ok, Err, inl, inr}
+use Rattle.std.proofs.Common.{⊎_elim, refl, sym, subst, ◌∙◌}
 use Rattle.std.specs.Prelude.{IfErr}
 use Rattle.std.specs.Result.{IsErrOf}
 use Rattle.codespan_core.specs.declared.files.Error.{Error}
@@ -10,7 +11,8 @@ use Rattle.codespan_core.specs.FileModel.{or_failure}
 use Rattle.codespan_core.specs.Streams.{Stream}
 use Rattle.codespan_core.specs.WriterLaw.{Sink, Writes, PrefixWritten}
 use Rattle.codespan_core.proofs.Writes.{with_written-nil, PrefixWritten-first, PrefixWritten-last}
-use Rattle.codespan_views.specs.Private.LookupsWhileRendering.{WrotePrefix, FailedWithLookups, WritesWithLookups}
+use Rattle.codespan_views.specs.Private.LookupsWhileRendering.{WrotePrefix, FailedWithLookups}
+use Rattle.codespan_views.specs.Private.LookupsWhileRendering.{WritesWithLookups}
 use Rattle.codespan_views.proofs.FirstErrors.{or_failure-some, or_failure-succeeded}
 use Rattle.codespan_core.proofs.Chains.{written-then, failed-before, failed-then, known-after}
 use Rattle.codespan_views.proofs.Renderings.{PrefixWritten-none}
@@ -51,11 +53,6 @@ pub run_failed : {o : Option Error} {s : Sink} {a : Stream} {e : Error}
 run_failed {s = s} {a = a} known =
     inr
     (record { frame = refl; prefix = λ are_known. PrefixWritten-none s a s refl; error_is = known })
-
--- the same where more was to be looked up
-pub run_failed_before : {o : Option Error} (p : Option Error) {s : Sink} {a : Stream} {e : Error}
-    → (e ≢ OutOfMemory → o ≡ Some e) → WritesWithLookups (or_failure o p) s a (Err e) s
-run_failed_before {o} p {e = e} known = run_failed (λ m. or_failure-some o p e (known m))
 
 -- an allocation failed before anything was written
 pub run_out_of_memory : {o : Option Error} {s : Sink} {a : Stream} {e : Error} → e ≡ OutOfMemory

@@ -1,5 +1,6 @@
 -- The lines around the two ends of a label, for the clauses of `collect_lines`.
-use Rattle.std.proofs.Common.{◌≡◌, ℕ, ◌+◌, ◌<◌, ◌≤◌, Bool, true, false, ◌&&◌, ◌||◌, List, [], ◌∷◌, ◌++◌, refl, ap, arith}
+use Rattle.std.proofs.Common.{◌≡◌, ℕ, ◌+◌, ◌<◌, ◌≤◌, Bool, true, false, ◌&&◌, ◌||◌, List, [], ◌∷◌}
+use Rattle.std.proofs.Common.{◌++◌, refl, ap, arith}
 use Rattle.std.specs.Prelude.{nat_lt, nat_le, if◌then◌else◌, filter, flat_map}
 use Rattle.std.proofs.lemmas.Grind.{common_steps}
 use Rattle.codespan_views.specs.Private.LabelSpans.{spans_line}

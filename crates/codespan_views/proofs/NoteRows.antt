@@ -1,12 +1,14 @@
 -- The rows of notes, one note after another, for the clauses of `render_notes`, `render_closing`
 -- and `render_without_labels`.
-use Rattle.std.proofs.Common.{◌≡◌, ℕ, ◌+◌, ◌<◌, ◌≤◌, List, [], ◌∷◌, ◌++◌, length, take, drop, get_or, map, refl, sym, ap, ◌∙◌}
+use Rattle.std.proofs.Common.{◌≡◌, ℕ, ◌+◌, ◌<◌, ◌≤◌, List, [], ◌∷◌, ◌++◌, length, take, drop}
+use Rattle.std.proofs.Common.{get_or, map, refl, sym, ap, ◌∙◌}
 use Rattle.std.specs.Str.Lines.{lines}
 use Rattle.std.proofs.lemmas.Grind.{flat_map-append}
 use Rattle.std.proofs.lemmas.List.{append-nil, map-append, take-append-drop, take_all, take_more}
 use Rattle.codespan_core.specs.Streams.{Stream, newline}
 use Rattle.codespan_picture.specs.Rows.{RowContext, Row, FinalRow, LaterNoteRow}
-use Rattle.codespan_picture.specs.RowStreams.{first_note_row, later_note_row, stream_of, stream_of_rows}
+use Rattle.codespan_picture.specs.RowStreams.{first_note_row, later_note_row, stream_of}
+use Rattle.codespan_picture.specs.RowStreams.{stream_of_rows}
 use Rattle.codespan_picture.specs.RenderedRows.{later_note_rows_stream, note_stream}
 use Rattle.codespan_picture.specs.Snippets.{note_rows, note_line_rows}
 

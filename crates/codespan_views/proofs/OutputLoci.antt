@@ -4,7 +4,8 @@ use Rattle.std.proofs.Common.{List}
 use Rattle.std.specs.List.{AllZip}
 use Rattle.codespan_core.specs.declared.term.config.DisplayStyle.TheVariants.{Rich, Short}
 use Rattle.codespan_core.specs.declared.diagnostic.Diagnostic.{Diagnostic}
-use Rattle.codespan_picture.specs.OutputStreams.{AreLoci, IsLocus, NamesAreUtf8, files_of, label_locus_byte, labels_of, snippet_locus_byte}
+use Rattle.codespan_picture.specs.OutputStreams.{AreLoci, IsLocus, NamesAreUtf8, files_of}
+use Rattle.codespan_picture.specs.OutputStreams.{label_locus_byte, labels_of, snippet_locus_byte}
 use Rattle.codespan_picture.specs.Rows.{Locus}
 use Rattle.codespan_picture.specs.Snippets.{LabelInFile, LabeledFileModel, primary_of}
 use Rattle.codespan_picture.proofs.Loci.{zip_map, zip_texts, zip_weaker}

@@ -1,6 +1,7 @@
 -- Calls that render by a renderer, one after another, some with lookups on the way: for the clauses
--- of `render_snippets`, `render_snippet`, `render_lines`, `render_notes` and what these call.
-use Rattle.std.proofs.Common.{◌≡◌, ◌≢◌, [], ◌++◌, Option, None, Some, Result, Ok, Err, refl, sym, subst, ◌∙◌}
+-- of `render_snippets`, `Snippet::render`, `render_lines`, `render_notes` and what these call.
+use Rattle.std.proofs.Common.{◌≡◌, ◌≢◌, [], ◌++◌, Option, None, Some, Result, Ok, Err, refl, sym}
+use Rattle.std.proofs.Common.{subst, ◌∙◌}
 use Rattle.codespan_core.specs.declared.files.Error.{Error}
 use Rattle.codespan_core.specs.declared.files.Error.TheVariants.{OutOfMemory}
 use Rattle.codespan_core.specs.declared.term.config.Config.{Config}

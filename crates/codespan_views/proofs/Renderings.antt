@@ -1,6 +1,7 @@
 -- Rendering in rich style, what has been written for each way to end: for the clause `renders` of
 -- `RichDiagnostic::render_labels`.
-use Rattle.std.proofs.Common.{◌≡◌, ◌≢◌, true, ◌<◌, List, [], ◌++◌, length, Option, None, Some, Ok, Err, Result, inl, inr, refl, sym, subst, ap, ◌∙◌, arith}
+use Rattle.std.proofs.Common.{◌≡◌, ◌≢◌, true, ◌<◌, List, [], ◌++◌, length, Option, None, Some, Ok}
+use Rattle.std.proofs.Common.{Err, Result, inl, inr, refl, sym, subst, ap, ◌∙◌, arith}
 use Rattle.std.proofs.lemmas.List.{length-append}
 use Rattle.std.specs.Prelude.{IfErr}
 use Rattle.codespan_core.specs.declared.term.config.Config.{Config}
@@ -10,7 +11,8 @@ use Rattle.codespan_core.specs.declared.files.Error.TheVariants.{FormatError, Ou
 use Rattle.codespan_core.specs.Errors.{IsIo}
 use Rattle.codespan_core.specs.FileModel.{FileDatabase, Lookup}
 use Rattle.codespan_core.specs.Streams.{Stream}
-use Rattle.codespan_core.specs.WriterLaw.{Sink, with_written, is_known, PrefixWritten, Writes, failed_frame}
+use Rattle.codespan_core.specs.WriterLaw.{Sink, with_written, is_known, PrefixWritten, Writes}
+use Rattle.codespan_core.specs.WriterLaw.{failed_frame}
 use Rattle.codespan_core.proofs.KnownBytes.{extended-nil}
 use Rattle.codespan_core.specs.declared.term.config.DisplayStyle.TheVariants.{Rich}
 use Rattle.codespan_picture.specs.OutputStreams.{files_of, labels_of, output}

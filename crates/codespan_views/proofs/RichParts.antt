@@ -1,6 +1,7 @@
 -- A rich output, rendered part by part, its header, its snippets and its notes: for the clauses
 -- `renders` of `RichDiagnostic::render` and `RichDiagnostic::render_labels`.
-use Rattle.std.proofs.Common.{◌≡◌, ◌≢◌, ◌<◌, true, List, [], ◌∷◌, ◌++◌, length, drop, map, None, Some, Result, Ok, Err, ⊎_elim, refl, sym, subst, ap, ◌∙◌, arith}
+use Rattle.std.proofs.Common.{◌≡◌, ◌≢◌, ◌<◌, true, ℕ, List, [], ◌∷◌, ◌++◌, length, map, None, Some}
+use Rattle.std.proofs.Common.{Result, Ok, Err, ⊎_elim, refl, sym, subst, ap, ◌∙◌, arith}
 use Rattle.std.specs.Prelude.{IfErr}
 use Rattle.std.specs.List.{AllZip}
 use Rattle.std.proofs.lemmas.Grind.{flat_map-append}
@@ -16,24 +17,30 @@ use Rattle.codespan_core.specs.FileModel.{FileDatabase}
 use Rattle.codespan_core.specs.Streams.{Stream, newline}
 use Rattle.codespan_core.specs.WriterLaw.{Sink, Writes, PrefixWritten, is_known, with_written}
 use Rattle.codespan_core.proofs.Writes.{PrefixWritten-first, PrefixWritten-last, with_written-nil}
-use Rattle.codespan_views.specs.declared.plan.OutputPlan.{OutputPlan}
-use Rattle.codespan_views.specs.declared.plan.snippet_plans.SnippetPlan.{SnippetPlan}
-use Rattle.codespan_views.specs.declared.plan.snippet_lines.SnippetLine.{SnippetLine as RustLine}
+use Rattle.codespan_views.specs.declared.collected.Collected.{Collected}
 use Rattle.codespan_views.specs.Private.LabelsToCollect.{labels_failure}
-use Rattle.codespan_views.specs.Private.LookupsWhileRendering.{WroteStream, WrotePrefix, FailedWithLookups, WritesWithLookups}
-use Rattle.codespan_views.specs.Private.OutputPlans.{ArePlansOfLabels, IsOutputPlan, ids_of, loci_of, output_plan_failure}
+use Rattle.codespan_views.specs.Private.LookupsWhileRendering.{WroteStream, WrotePrefix}
+use Rattle.codespan_views.specs.Private.LookupsWhileRendering.{FailedWithLookups, WritesWithLookups}
+use Rattle.codespan_views.specs.Private.EarlyLookups.{IsLookedUp}
+use Rattle.codespan_views.specs.Private.LabeledFiles.{loci_view}
 use Rattle.codespan_views.specs.WriteCalls.{WritesOutput}
 use Rattle.codespan_picture.specs.Lookups.{early_lookups, first_error, late_lookups}
-use Rattle.codespan_picture.specs.OutputStreams.{header_text_of, label_of, labels_of, context_of, notes_of}
+use Rattle.codespan_picture.specs.OutputStreams.{header_text_of, label_of, labels_of, context_of}
+use Rattle.codespan_picture.specs.OutputStreams.{notes_of}
 use Rattle.codespan_picture.specs.Padding.{padding_of}
-use Rattle.codespan_picture.specs.Snippets.{snippets, LabelInFile, has_any, labeled_file_model, labeled_file_models, note_rows}
+use Rattle.codespan_picture.specs.Snippets.{snippets, LabelInFile, has_any, labeled_file_models}
+use Rattle.codespan_picture.specs.Snippets.{note_rows}
 use Rattle.codespan_views.specs.Private.Utf8Loci.{IsLocusOfFile}
 use Rattle.codespan_picture.specs.Rows.{FinalRow, HeaderRow, Row}
 use Rattle.codespan_picture.specs.RowStreams.{header_row, stream_of, stream_of_rows}
 use Rattle.codespan_core.proofs.Chains.{written-then, failed-before, failed-then, known-after}
-use Rattle.codespan_views.proofs.Renderings.{after_header, before_header, early_failure, finished, late_failure, ByLoci, failed_by_writer, failed_early, failed_late}
+use Rattle.codespan_views.proofs.Renderings.{after_header, before_header, early_failure, finished}
+use Rattle.codespan_views.proofs.Renderings.{late_failure, ByLoci, failed_by_writer, failed_early}
+use Rattle.codespan_views.proofs.Renderings.{failed_late}
 use Rattle.codespan_views.proofs.NoteRows.{whole_of_notes}
-use Rattle.codespan_views.proofs.OutputPlanned.{labels-succeeded, labels-failed}
+use Rattle.codespan_views.proofs.CollectedFiles.{loci-of_all}
+use Rattle.codespan_views.proofs.EarlyErrors.{labels-failed, labels-succeeded, later_failure}
+use Rattle.codespan_views.proofs.LabelIndexing.{AreFiles}
 
 -- a prefix of a stream is one of the same stream in other words
 PrefixWritten-as : (s t : Sink) (a b : Stream) → b ≡ a → PrefixWritten s a t → PrefixWritten s b t
@@ -98,34 +105,24 @@ bare-whole {renderer_config = renderer_config} {view_config = view_config} {file
 
 -- ---- before the header
 
--- where the labels' lookups succeed, those of the plan decide what those before the header fail
+-- where the labels' lookups succeed, those of their files decide what those before the header fail
 -- with
 early-of_labels_are : {Id : Type 0} (view_config : Config) (database : FileDatabase Id)
-    {source_labels collected items : List (Label Id)}
-    → source_labels ≡ items → collected ≡ source_labels
+    {source_labels items : List (Label Id)}
+    → source_labels ≡ items
     → labels_failure view_config database (map label_of source_labels) ≡ None
-    → first_error database.failure
-    (early_lookups database (map label_of items) view_config)
-    ≡ output_plan_failure view_config database (map label_of collected)
-early-of_labels_are view_config database {source_labels} source_labels_are collected_are succeeded =
+    → first_error database.failure (early_lookups database (map label_of items) view_config)
+    ≡ later_failure database view_config (map label_of source_labels)
+early-of_labels_are view_config database {source_labels} source_labels_are succeeded =
     ap (λ ls. first_error database.failure (early_lookups database (map label_of ls) view_config)) (sym source_labels_are)
     ∙ labels-succeeded database view_config (map label_of source_labels) succeeded
-    ∙ ap (λ ls. output_plan_failure view_config database (map label_of ls)) (sym collected_are)
 
--- the plan of the labels that were collected is that of the diagnostic's
-pub planned-of_all : {Id : Type 0} {view_config : Config} {database : FileDatabase Id}
-    {source_labels collected items : List (Label Id)} {output_plan : OutputPlan Id}
-    → source_labels ≡ items → collected ≡ source_labels
-    → IsOutputPlan database view_config (map label_of collected) output_plan
-    → IsOutputPlan database view_config (map label_of items) output_plan
-planned-of_all {view_config = view_config} {database = database} {output_plan = output_plan} source_labels_are collected_are planned =
-    subst (λ ls. IsOutputPlan database view_config (map label_of ls) output_plan) (collected_are ∙ source_labels_are) planned
-
--- a view is ready to render: its output is planned, and the lookups before the header have
--- succeeded
+-- a view is ready to render: what it needs has been looked up, and the lookups before the header
+-- have succeeded
 pub record IsReady {Id : Type 0} (view_config : Config) (database : FileDatabase Id)
-    (d : Diagnostic Id) (output_plan : OutputPlan Id) : Type 0 where
-  pub planned : IsOutputPlan database view_config (labels_of d) output_plan
+    (d : Diagnostic Id) (numbers : List ℕ) (collected : Collected Id) : Type 0 where
+  pub lawful : AreFiles database
+  pub looked_up : IsLookedUp database view_config (labels_of d) numbers collected
   pub early : early_failure view_config database d ≡ None
 
 module _ {Id : Type 0} {view_config : Config} {database : FileDatabase Id} {d : Diagnostic Id}
@@ -141,45 +138,49 @@ module _ {Id : Type 0} {view_config : Config} {database : FileDatabase Id} {d : 
       (λ memory display. ap (λ ls. first_error database.failure (early_lookups database (map label_of ls) view_config)) (sym source_labels_are)
       ∙ labels-failed database view_config (map label_of source_labels) e (known memory))
 
-  module _ {collected : List (Label Id)} (collected_are : collected ≡ source_labels)
-      (succeeded : labels_failure view_config database (map label_of source_labels) ≡ None) where
-    -- a lookup of the plan failed
-    pub failed-planning : {renderer_config : Config} {s : Sink} {e : Error}
-        → 0 < length d.labels.items
-        → (e ≢ OutOfMemory → e ≢ FormatError
-        → output_plan_failure view_config database (map label_of collected) ≡ Some e)
-        → WritesOutput Rich renderer_config view_config database d s (Err e) s
-    failed-planning some known =
-        failed_early refl (some_early view_config database d some)
-        (λ memory display. early-of_labels_are view_config database source_labels_are collected_are succeeded ∙ known memory display)
+  module _ (succeeded : labels_failure view_config database (map label_of source_labels) ≡ None)
+    where
+      -- a later lookup failed
+      pub failed-looking_up : {renderer_config : Config} {s : Sink} {e : Error}
+          → 0 < length d.labels.items
+          → (e ≢ OutOfMemory → e ≢ FormatError
+          → later_failure database view_config (map label_of source_labels) ≡ Some e)
+          → WritesOutput Rich renderer_config view_config database d s (Err e) s
+      failed-looking_up some known =
+          failed_early refl (some_early view_config database d some)
+          (λ memory display. early-of_labels_are view_config database source_labels_are succeeded ∙ known memory display)
 
-    -- all of these lookups succeed
-    pub ready : {output_plan : OutputPlan Id}
-        → IsOutputPlan database view_config (map label_of collected) output_plan
-        → output_plan_failure view_config database (map label_of collected) ≡ None
-        → IsReady view_config database d output_plan
-    ready planned known = record {
-      planned = planned-of_all source_labels_are collected_are planned;
-      early = early-of_labels_are view_config database source_labels_are collected_are succeeded ∙ known;
-    }
+      -- all of these lookups succeed
+      pub ready : {numbers : List ℕ} {collected : Collected Id} → AreFiles database
+          → IsLookedUp database view_config (map label_of source_labels) numbers collected
+          → later_failure database view_config (map label_of source_labels) ≡ None
+          → IsReady view_config database d numbers collected
+      ready {numbers} {collected} lawful looked_up known = record {
+        lawful = lawful;
+        looked_up =
+            subst (λ ls. IsLookedUp database view_config (map label_of ls) numbers collected)
+            source_labels_are looked_up;
+        early = early-of_labels_are view_config database source_labels_are succeeded ∙ known;
+      }
 
 -- ---- from the header on
 
 module _ {Id : Type 0} {view_config : Config} {database : FileDatabase Id} {d : Diagnostic Id}
-    {output_plan : OutputPlan Id} (ready : IsReady view_config database d output_plan) where
+    {numbers : List ℕ} {collected : Collected Id}
+    (ready : IsReady view_config database d numbers collected) where
   -- the header, with the end of its row
   abbrev header : Stream
   header = header_row d.severity None (header_text_of d) ++ newline
 
   -- the snippets, as a configuration renders them
   abbrev middle : Config → Stream
-  middle k = stream_of_rows (context_of k d.severity output_plan.padding)
-      (snippets view_config (has_any (notes_of d)) (loci_of output_plan.snippet_plans.items)
+  middle k = stream_of_rows (context_of k d.severity collected.padding.digit_count)
+      (snippets view_config (has_any (notes_of d)) (loci_view collected.files.items)
       (labeled_file_models database.same database.file (labels_of d)))
 
   -- the notes and the empty line
   abbrev end : Config → Stream
-  end k = whole_of_notes (context_of k d.severity output_plan.padding) (notes_of d)
+  end k = whole_of_notes (context_of k d.severity collected.padding.digit_count) (notes_of d)
 
   -- all of these
   abbrev whole : Config → Stream
@@ -191,41 +192,27 @@ module _ {Id : Type 0} {view_config : Config} {database : FileDatabase Id} {d : 
 
   -- the snippets start at loci of the files
   loci-are : AllZip IsLocusOfFile (labeled_file_models database.same database.file (labels_of d))
-      (loci_of output_plan.snippet_plans.items)
-  loci-are =
-      subst (λ (ids : List Id). AllZip IsLocusOfFile
-      (map (labeled_file_model database.same database.file (labels_of d)) ids)
-      (loci_of output_plan.snippet_plans.items)) ready.planned.ids_are
-      (from output_plan.snippet_plans.items output_plan.snippet_lines.items ready.planned.snippet_plans_are)
-    where
-      from : (snippet_plans : List (SnippetPlan Id)) (snippet_lines : List (RustLine Id))
-          → ArePlansOfLabels database view_config (labels_of d) snippet_plans snippet_lines
-          → AllZip IsLocusOfFile
-          (map (labeled_file_model database.same database.file (labels_of d))
-          (ids_of snippet_plans))
-          (loci_of snippet_plans)
-      from [] snippet_lines are = tt
-      from (snippet_plan ∷ snippet_plans) snippet_lines are =
-          (are.0.locus_is, from snippet_plans (drop snippet_plan.snippet_line_count snippet_lines) are.1)
+      (loci_view collected.files.items)
+  loci-are = loci-of_all ready.lawful ready.looked_up.collected_is ready.looked_up.loci
 
   -- the output with these loci is all of these
   output-is : (renderer_config : Config)
       → ByLoci renderer_config view_config database d (λ s. s ≡ whole renderer_config)
   output-is renderer_config =
       let rows =
-      snippets view_config (has_any (notes_of d)) (loci_of output_plan.snippet_plans.items)
+      snippets view_config (has_any (notes_of d)) (loci_view collected.files.items)
       (labeled_file_models database.same database.file (labels_of d)) in
-      let context = context_of renderer_config d.severity output_plan.padding in
+      let context = context_of renderer_config d.severity collected.padding.digit_count in
       let ended : Row → Stream = λ row. stream_of context row ++ newline in
       record {
-        loci = loci_of output_plan.snippet_plans.items;
+        loci = loci_view collected.files.items;
         are = loci-are;
         holds =
             ap
             (λ n. stream_of_rows (context_of renderer_config d.severity n)
             ((HeaderRow None (header_text_of d) ∷ rows) ++ note_rows (notes_of d)
             ++ (FinalRow ∷ [])))
-            (sym ready.planned.padding_is)
+            (sym ready.looked_up.padding_is)
             ∙ ap (stream_of_rows context) (append_assoc (HeaderRow None (header_text_of d) ∷ rows) (note_rows (notes_of d)) (FinalRow ∷ []))
             ∙ flat_map-append ended (HeaderRow None (header_text_of d) ∷ rows) (note_rows (notes_of d) ++ (FinalRow ∷ []));
       }

@@ -3,7 +3,8 @@
 use Rattle.std.proofs.Common.{◌≡◌, ℕ, false, List, [], ◌∷◌, refl, sym, ◌∙◌}
 use Rattle.std.specs.List.{AllByRecursion, cons_option}
 use Rattle.codespan_core.specs.Labels.{LabelModel, range_precedes}
-use Rattle.codespan_views.specs.Private.Annotations.{Annotation, AnnotationKind, Shown, Single, Multi, is_before}
+use Rattle.codespan_views.specs.Private.Annotations.{Annotation, AnnotationKind, Shown, Single}
+use Rattle.codespan_views.specs.Private.Annotations.{Multi, is_before}
 use Rattle.codespan_views.specs.Private.SnippetLines.{single_label_of, single_labels_in}
 use Rattle.codespan_picture.proofs.OrderSorts.{Ascends}
 use Rattle.codespan_picture.proofs.SortedLists.{Rises}

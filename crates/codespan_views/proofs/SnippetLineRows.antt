@@ -1,6 +1,7 @@
 -- The rows of the snippet lines of shown lines, and the lines that they show and fill in, for the
--- clause `planned` of `plan_output`.
-use Rattle.std.proofs.Common.{◌≡◌, ℕ, ◌≤◌, Bool, true, false, not, cond, ◌&&◌, if◌then◌else◌, List, [], ◌∷◌, ◌++◌, filter, flat_map, Option, None, refl, sym, ap, ◌∙◌}
+-- clauses of `render_snippets` and `render_labels`.
+use Rattle.std.proofs.Common.{◌≡◌, ℕ, ◌≤◌, Bool, true, false, not, cond, ◌&&◌, if◌then◌else◌, List}
+use Rattle.std.proofs.Common.{[], ◌∷◌, ◌++◌, filter, flat_map, Option, None, refl, sym, ap, ◌∙◌}
 use Rattle.std.specs.List.{range_with_len, AllByRecursion}
 use Rattle.std.proofs.lemmas.List.{append-nil}
 use Rattle.codespan_core.specs.FileModel.{FileModel}
@@ -8,20 +9,16 @@ use Rattle.codespan_picture.specs.Rows.{Line}
 use Rattle.codespan_picture.specs.Sequences.{break_between, gap_between, in_sequence}
 use Rattle.codespan_picture.specs.Snippets.{break_rows, line_rows}
 use Rattle.codespan_picture.proofs.Filling.{given, is_drawn_among, lines-shown}
-use Rattle.codespan_picture.proofs.Sequences.{all-gap, all-sequence, flat_map-gap, flat_map-sequence, sequence-flat}
+use Rattle.codespan_picture.proofs.Sequences.{all-gap, all-sequence, flat_map-gap}
+use Rattle.codespan_picture.proofs.Sequences.{flat_map-sequence, sequence-flat}
 use Rattle.codespan_views.specs.Private.Annotations.{Annotation}
-use Rattle.codespan_views.specs.Private.SnippetLines.{SnippetLine, Labeled, Filled, Break, line_of_group, rows_of_line, rows_of_lines, filled_line_of, filled_lines_of, are_annotations_in_order, are_lane_marks_in_order, is_line_in_order}
+use Rattle.codespan_views.specs.Private.SnippetLines.{SnippetLine, Labeled, Filled, Break}
+use Rattle.codespan_views.specs.Private.SnippetLines.{line_of_group, rows_of_line, rows_of_lines}
+use Rattle.codespan_views.specs.Private.SnippetLines.{filled_line_of, filled_lines_of}
+use Rattle.codespan_views.specs.Private.SnippetLines.{drawn_line_of, drawn_lines_of}
+use Rattle.codespan_views.specs.Private.SnippetLines.{are_annotations_in_order}
+use Rattle.codespan_views.specs.Private.SnippetLines.{are_lane_marks_in_order, is_line_in_order}
 use Rattle.codespan_views.proofs.AnnotationGroups.{lines_after}
-
--- the line of a snippet line that has one
-abbrev pub line_of_snippet_line : SnippetLine → List ℕ
-line_of_snippet_line (Labeled l es) = l ∷ []
-line_of_snippet_line (Filled l es) = l ∷ []
-line_of_snippet_line (Break es) = []
-
--- the lines that are drawn
-abbrev pub lines_of_snippet_lines : List SnippetLine → List ℕ
-lines_of_snippet_lines snippet_lines = flat_map line_of_snippet_line snippet_lines
 
 -- ---- the elements of snippet lines
 
@@ -102,10 +99,10 @@ snippet_lines-fit count m fit lane_marks_fit =
 module _ (m : ℕ → List Annotation) (shown : ℕ → Bool) where
   -- the snippet lines are the shown lines and those between two of them
   pub snippet_lines-lines : (n : ℕ) → ((l : ℕ) → n ≤ l → shown l ≡ false)
-      → lines_of_snippet_lines (lines_after m None (filter shown (range_with_len 0 n))) ≡ filter
+      → drawn_lines_of (lines_after m None (filter shown (range_with_len 0 n))) ≡ filter
       (is_drawn_among shown) (range_with_len 0 n)
   snippet_lines-lines n none =
-      snippet_lines-rendered line_of_snippet_line m shown (λ l. l ∷ [])
+      snippet_lines-rendered drawn_line_of m shown (λ l. l ∷ [])
       (λ l. chosen (shown l) (l ∷ []) (l ∷ []) (λ _. refl)) n none
       ∙ sequence-flat (λ l. l) (λ l. l ∷ []) None
       (filter (is_drawn_among shown) (range_with_len 0 n))

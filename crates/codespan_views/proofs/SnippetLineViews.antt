@@ -1,16 +1,22 @@
--- The snippet lines of annotations as a view has them, for the clauses `added` and `failed` of
--- `push_lines`.
-use Rattle.std.proofs.Common.{◌≡◌, ℕ, ◌-◌, ◌<◌, ◌≤◌, true, false, List, [], ◌∷◌, ◌++◌, map, length, take, drop, Option, Some, None, refl, sym, ◌∙◌, ap, subst, arith}
-use Rattle.std.specs.Prelude.{slice_get}
+-- The snippet lines of annotations as a view has them, for the clauses of `render_lines`
+-- and `find_numbers_of_file`.
+use Rattle.std.proofs.Common.{◌≡◌, ℕ, ◌-◌, ◌<◌, ◌≤◌, true, false, List, [], ◌∷◌, ◌++◌, map, length}
+use Rattle.std.proofs.Common.{take, drop, Option, Some, None, refl, sym, ◌∙◌, ap, subst, arith}
+use Rattle.std.specs.Prelude.{All, slice_get}
+use Rattle.std.proofs.Common.{append_assoc}
 use Rattle.std.specs.List.{prefix_len}
 use Rattle.std.proofs.Math.Seq.{take-length}
+use Rattle.std.proofs.lemmas.List.Elements.{All-drop}
 use Rattle.std.proofs.lemmas.List.{drop-map, length-drop, take-map}
 use Rattle.codespan_views.specs.declared.annotation.Annotation.{Annotation as RustAnnotation}
 use Rattle.codespan_views.specs.Private.Annotations.{Annotation, is_on_line, shows_line}
 use Rattle.codespan_views.specs.Private.AnnotationViews.{annotation_view}
-use Rattle.codespan_views.specs.Private.SnippetLines.{SnippetLine, groups, lines_from, lines_to}
+use Rattle.codespan_views.specs.Private.SnippetLines.{Labeled, SnippetLine, groups}
+use Rattle.codespan_views.specs.Private.SnippetLines.{lines_from, lines_to}
+use Rattle.codespan_views.specs.Private.FilledLines.{IsGapBefore, gap_lines}
 use Rattle.codespan_views.proofs.FileSlices.{prefix-map}
-use Rattle.codespan_views.proofs.GroupLines.{IsGroup, next_group, snippet_lines-next, snippet_lines-skip}
+use Rattle.codespan_views.proofs.GroupLines.{IsGroup, next_group, snippet_lines-next}
+use Rattle.codespan_views.proofs.GroupLines.{snippet_lines-skip}
 
 -- the annotations, as the definitions have them
 abbrev pub views_of : {Id : Type 0} → List (RustAnnotation Id) → List Annotation
@@ -53,6 +59,27 @@ pub later-are : {Id : Type 0} (n : ℕ) (rest : List (RustAnnotation Id))
 later-are n rest =
     ap (λ k. take k (drop n rest)) (sym (length-drop n rest)) ∙ take-length (drop n rest)
 
+-- what is known of all annotations is known of the later ones
+pub later-known : {Id : Type 0} (P : RustAnnotation Id → Type 0) (xs later : List (RustAnnotation Id))
+    → later ≡ drop (length xs - length later) xs → All P xs → All P later
+later-known P xs later is all =
+    subst (All P) (sym is) (All-drop P (length xs - length later) xs all)
+
+-- what is before the shown line of the first n annotations, where so many lines are between it and
+-- the shown line before it
+abbrev pub gap_of : {Id : Type 0} → List (RustAnnotation Id) → List (RustAnnotation Id)
+    → RustAnnotation Id → ℕ → ℕ → List SnippetLine
+gap_of hidden rest x n m = gap_lines (views_of hidden) (views_of (take n rest)) x.line.index m
+
+-- the line
+abbrev pub shown_of : {Id : Type 0} → List (RustAnnotation Id) → RustAnnotation Id → ℕ → SnippetLine
+shown_of rest x n = Labeled x.line.index (views_of (take n rest))
+
+-- what is after it
+abbrev pub later_of : {Id : Type 0} → List (RustAnnotation Id) → RustAnnotation Id → ℕ
+    → List SnippetLine
+later_of rest x n = lines_left [] (later_than n rest) (Some x.line.index)
+
 -- this is the first of the annotations that are left, and so many are of its line
 pub record IsNextGroup {Id : Type 0} (rest : List (RustAnnotation Id)) (x : RustAnnotation Id)
     (n : ℕ) : Type 0 where
@@ -70,6 +97,15 @@ module _ {Id : Type 0} {rest : List (RustAnnotation Id)} {x : RustAnnotation Id}
   later-fewer within =
       omega (arith, within, is_group.some, ap length (later-are n rest), length-drop n rest)
 
+  -- what is known of all that are left is known of it
+  pub first-of : (P : RustAnnotation Id → Type 0) → All P rest → P x
+  first-of P all = by_rest rest next.first all
+    where
+      by_rest : (xs : List (RustAnnotation Id)) → slice_get xs 0 ≡ Some x → All P xs → P x
+      by_rest [] first known = absurd (cc first)
+      by_rest (y ∷ ys) first known =
+          let same : x ≡ y = cc first in subst P (sym same) (known 0 y (omega arith))
+
   -- the views of later annotations
   later_views : drop n (views_of rest) ≡ views_of (later_than n rest)
   later_views = drop-map annotation_view n rest ∙ ap views_of (sym (later-are n rest))
@@ -83,6 +119,18 @@ module _ {Id : Type 0} {rest : List (RustAnnotation Id)} {x : RustAnnotation Id}
         snippet_lines-next is_group previous (views_of hidden) t
         ∙ (λ i. lines_to previous (views_of hidden) x.line.index (take-map annotation_view n rest i)
         ++ lines_from (Some x.line.index) [] (groups (later_views i)))
+
+    -- so what is before it, the line, and the others, where so many lines are between it and the
+    -- shown line before it
+    pub views_of-gap : (m : ℕ) → shows_line (annotation_view x) ≡ true
+        → IsGapBefore previous x.line.index m
+        → lines_left hidden rest previous ≡ gap_of hidden rest x n m
+        ++ shown_of rest x n ∷ later_of rest x n
+    views_of-gap m t gap =
+        views_of-shown t
+        ∙ ap (λ xs. (xs ++ shown_of rest x n ∷ []) ++ later_of rest x n)
+        (gap (views_of hidden) (views_of (take n rest)))
+        ∙ append_assoc (gap_of hidden rest x n m) (shown_of rest x n ∷ []) (later_of rest x n)
 
     -- a hidden line is next: the others
     pub views_of-hidden : shows_line (annotation_view x) ≡ false

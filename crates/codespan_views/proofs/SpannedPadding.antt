@@ -1,6 +1,8 @@
 -- The padding width for the numbers of the lines that labels span is that of the output in the
--- classic layout: for the clause `planned` of `plan_output`.
-use Rattle.std.proofs.Common.{◌≡◌, ℕ, zero, suc, ◌+◌, ◌<◌, ◌≤◌, Bool, true, false, ◌&&◌, ◌||◌, max, List, [], ◌∷◌, ◌++◌, length, get_or, map, filter, flat_map, ⊎_elim, refl, sym, ◌∙◌, ap, subst, arith}
+-- classic layout: for the clauses of `render_labels`.
+use Rattle.std.proofs.Common.{◌≡◌, ℕ, zero, suc, ◌+◌, ◌<◌, ◌≤◌, Bool, true, false, ◌&&◌, ◌||◌, max}
+use Rattle.std.proofs.Common.{List, [], ◌∷◌, ◌++◌, length, get_or, map, filter, flat_map, ⊎_elim}
+use Rattle.std.proofs.Common.{refl, sym, ◌∙◌, ap, subst, arith}
 use Rattle.std.specs.Prelude.{Contains, fold, if◌then◌else◌}
 use Rattle.std.specs.Cmp.{IsEquivalence}
 use Rattle.std.specs.List.{AllByRecursion, list_any, range_with_len}
@@ -11,10 +13,14 @@ use Rattle.codespan_core.specs.declared.term.config.Config.{Config}
 use Rattle.codespan_core.specs.declared.term.config.Layout.TheVariants.{Classic}
 use Rattle.codespan_core.specs.FileModel.{FileModel, line_count}
 use Rattle.codespan_core.specs.Labels.{LabelModel}
-use Rattle.codespan_picture.specs.Padding.{count_digits, digits_of, numbered_lines, padding_of, spanned_lines, spans}
-use Rattle.codespan_picture.specs.Snippets.{LabelInFile, LabeledFileModel, labeled_file_model, labeled_file_models, file_ids}
+use Rattle.codespan_picture.specs.Padding.{count_digits, digits_of, numbered_lines, padding_of}
+use Rattle.codespan_picture.specs.Padding.{spanned_lines, spans}
+use Rattle.codespan_picture.specs.Snippets.{LabelInFile, LabeledFileModel, labeled_file_model}
+use Rattle.codespan_picture.specs.Snippets.{labeled_file_models, file_ids}
 use Rattle.codespan_views.specs.Private.FileIndices.{IsIdAt, index_of_file}
-use Rattle.codespan_views.specs.Private.SpannedDigitCounts.{all_digit_counts, digit_count_if_spanned, label_digit_counts}
+use Rattle.codespan_views.specs.Private.SpannedDigitCounts.{all_digit_counts}
+use Rattle.codespan_views.specs.Private.SpannedDigitCounts.{digit_count_if_spanned}
+use Rattle.codespan_views.specs.Private.SpannedDigitCounts.{label_digit_counts}
 use Rattle.codespan_picture.proofs.Greatest.{greatest-any, greatest-append, greatest-same}
 use Rattle.codespan_picture.proofs.PaddingLemmas.{contains-filter, contains-range, numbered-fits}
 use Rattle.codespan_picture.proofs.RefillLemmas.{any-map}

@@ -16,14 +16,12 @@ pub mod SpannedDigitCounts
 pub mod LabelsToCollect
 pub mod IndexedLabels
 pub mod Collections
--- what is planned of that
+-- what is looked up before the header
 pub mod Loci
 pub mod SnippetLines
-pub mod SnippetLineViews
-pub mod LinePlanners
-pub mod SnippetPlans
-pub mod OutputPlans
--- what is rendered of a plan
+pub mod FilledLines
+pub mod EarlyLookups
+-- what is rendered
 pub mod Headers
 pub mod LookupsWhileRendering
 pub mod Rendering

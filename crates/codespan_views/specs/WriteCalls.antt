@@ -4,7 +4,8 @@ use Rattle.std.specs.Prelude.{◌≡◌, true, ℕ, List, Option, Result, MatchR
 use Rattle.codespan_picture.specs.Types.{Diagnostic, Error, Config, DisplayStyle, Rich}
 use Rattle.codespan_core.specs.FileModel.{FileDatabase}
 use Rattle.codespan_core.specs.Streams.{text_of}
-use Rattle.codespan_core.specs.WriterLaw.{AppendsBytes, WritesOrPrefix, Sink, extended, is_known, failed_frame, with_written, are_known}
+use Rattle.codespan_core.specs.WriterLaw.{AppendsBytes, WritesOrPrefix, Sink, extended, is_known}
+use Rattle.codespan_core.specs.WriterLaw.{failed_frame, with_written, are_known}
 use Rattle.codespan_picture.specs.RichLaws.{MeansLabels}
 use Rattle.codespan_picture.specs.OutputStreams.{AreLoci, output}
 use Rattle.codespan_picture.specs.Picture.{headers_at}

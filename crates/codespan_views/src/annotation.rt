@@ -5,7 +5,8 @@ ghost use Rattle.std.specs.Option.{option_map};
 ghost use Rattle.codespan_core.specs.Labels.{from_line_start};
 ghost use Rattle.codespan_picture.specs.Arguments.{multi_label_view};
 ghost use Rattle.codespan_picture.specs.OutputStreams.{label_of};
-ghost use Rattle.codespan_views.specs.Private.AnnotationViews.{AppendsAnnotations, kind_view, multi_label_from};
+ghost use Rattle.codespan_views.specs.Private.AnnotationViews.{AppendsAnnotations, kind_view};
+ghost use Rattle.codespan_views.specs.Private.AnnotationViews.{multi_label_from};
 ghost use Rattle.codespan_views.specs.Private.Annotations.{annotation_if_any};
 
 use codespan_core::diagnostic::Label;

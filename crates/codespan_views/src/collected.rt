@@ -4,7 +4,8 @@ ghost use Rattle.std.specs.Prelude.{◌≡◌, map, IfOk};
 ghost use Rattle.codespan_core.specs.LawfulFiles.{FailsBy};
 ghost use Rattle.codespan_picture.specs.OutputStreams.{label_of};
 ghost use Rattle.codespan_views.specs.Private.LabelsToCollect.{labels_failure};
-ghost use Rattle.codespan_views.specs.Private.Collections.{IsCollected, IsCollectedUnsorted};
+ghost use Rattle.codespan_views.specs.Private.Collections.{HasSpannedPadding, IsCollected};
+ghost use Rattle.codespan_views.specs.Private.Collections.{IsCollectedUnsorted};
 
 use crate::annotation::Annotation;
 use crate::annotation::order::put_in_order;
@@ -21,14 +22,13 @@ use std::alloc::Global;
 /// What was collected of the labels of a diagnostic.
 #[derive(Drop)]
 pub struct Collected<'d, FileId> {
-    /// The labels.
-    pub labels: &'d [Label<FileId>],
-    /// Their files, in the order of their first labels.
+    /// The labels' files, in the order of their first labels.
     pub files: Vec<LabeledFile<FileId>>,
     /// Their annotations, in order once [`collect`] returns.
     pub annotations: Vec<Annotation<'d, FileId>>,
-    /// The padding width in the classic layout: the number of digits of the longest number of a
-    /// line that a label spans; 0 without such a line.
+    /// The padding width: the number of digits of the longest number of a line that a label spans,
+    /// and, once filled lines are looked up in the unbroken layout, of a drawn line; 0 without such
+    /// a line.
     pub padding: PaddingWidth,
     /// Of the labels of the first file, the least line on which one starts and the greatest on
     /// which one ends, 0-based; `usize::MAX` and 0 without labels.
@@ -47,8 +47,9 @@ pub fn collect<'files, 'd, F: Files<'files>>(
     config: &Config<'_>,
     labels: &'d [Label<F::FileId>],
 ) -> Result<Collected<'d, F::FileId>, Error>
-    ensures labels { IfOk result (λ collected. collected.labels.now ≡ labels.now) }
     ensures collected { IfOk result (IsCollected (F.database files.now) config.now
+        (map label_of labels.now)) }
+    ensures padding { IfOk result (HasSpannedPadding (F.database files.now).file
         (map label_of labels.now)) }
     ensures failed { FailsBy (labels_failure config.now (F.database files.now)
         (map label_of labels.now)) result }
@@ -71,8 +72,9 @@ fn collect_unsorted<'files, 'd, F: Files<'files>>(
     config: &Config<'_>,
     labels: &'d [Label<F::FileId>],
 ) -> Result<Collected<'d, F::FileId>, Error>
-    ensures labels { IfOk result (λ collected. collected.labels.now ≡ labels.now) }
     ensures collected { IfOk result (IsCollectedUnsorted (F.database files.now) config.now
+        (map label_of labels.now)) }
+    ensures padding { IfOk result (HasSpannedPadding (F.database files.now).file
         (map label_of labels.now)) }
     ensures failed { FailsBy (labels_failure config.now (F.database files.now)
         (map label_of labels.now)) result }
@@ -109,7 +111,6 @@ fn collect_unsorted<'files, 'd, F: Files<'files>>(
         }
     }
     Ok(Collected {
-        labels,
         files: labeled_files,
         annotations,
         padding,

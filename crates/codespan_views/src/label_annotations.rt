@@ -3,7 +3,16 @@
 ghost use Rattle.std.specs.Prelude.{◌≡◌, ◌≢◌, true, None, IfErr, OnOk, OnErr, IsErrOf};
 ghost use Rattle.std.specs.Option.{option_map};
 ghost use Rattle.codespan_core.specs.LawfulFiles.{FailsBy};
-ghost use Rattle.codespan_views.specs.Private.LabelsToCollect.{AppendsLineAnnotations, FindsLineAnnotations, FindsLabelAnnotations, HasLineIfLookedUp, IfEnded, IfContinues, WidensPadding, WidensPaddingForLine, FailsAtLine, HasLabelLines, label_of_collector, lines_failure, failure_if_looked_up, multi_kind_by_collector, kind_by_collector};
+ghost use Rattle.codespan_views.specs.Private.LabelsToCollect.{AppendsLineAnnotations};
+ghost use Rattle.codespan_views.specs.Private.LabelsToCollect.{FindsLineAnnotations};
+ghost use Rattle.codespan_views.specs.Private.LabelsToCollect.{FindsLabelAnnotations};
+ghost use Rattle.codespan_views.specs.Private.LabelsToCollect.{HasLineIfLookedUp, IfEnded};
+ghost use Rattle.codespan_views.specs.Private.LabelsToCollect.{IfContinues, WidensPadding};
+ghost use Rattle.codespan_views.specs.Private.LabelsToCollect.{WidensPaddingForLine, FailsAtLine};
+ghost use Rattle.codespan_views.specs.Private.LabelsToCollect.{HasLabelLines, label_of_collector};
+ghost use Rattle.codespan_views.specs.Private.LabelsToCollect.{lines_failure, failure_if_looked_up};
+ghost use Rattle.codespan_views.specs.Private.LabelsToCollect.{multi_kind_by_collector};
+ghost use Rattle.codespan_views.specs.Private.LabelsToCollect.{kind_by_collector};
 ghost use Rattle.codespan_views.specs.Private.SourceFiles.{EndsBefore, model_of};
 ghost use Rattle.codespan_views.specs.Private.AnnotationViews.{IsLineOf, kind_view};
 ghost use Rattle.codespan_views.specs.Private.LabelSpans.{IsFarInside};

@@ -5,7 +5,8 @@ ghost use Rattle.codespan_core.specs.LawfulFiles.{FailsBy};
 ghost use Rattle.codespan_picture.specs.Lines.{shows};
 ghost use Rattle.codespan_picture.specs.Lookups.{is_around};
 ghost use Rattle.codespan_views.specs.Private.AnnotationViews.{multi_label_kind};
-ghost use Rattle.codespan_views.specs.Private.LabelSpans.{IsFarInside, ends_failure, is_near_end, line_of_end, line_of_start, spans_line};
+ghost use Rattle.codespan_views.specs.Private.LabelSpans.{IsFarInside, ends_failure, is_near_end};
+ghost use Rattle.codespan_views.specs.Private.LabelSpans.{line_of_end, line_of_start, spans_line};
 
 use crate::annotation::MultiLabelKind;
 use codespan_core::diagnostic::Label;

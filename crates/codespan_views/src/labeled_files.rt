@@ -1,16 +1,21 @@
 //! The files of labels, in the order of their first labels.
 
-ghost use Rattle.std.specs.Prelude.{◌≡◌, ◌<◌, ◌≤◌, ◌+◌, ◌^◌, false, [], ◌∷◌, ◌++◌, IfOk, OnOk, OnErr, IsErrOf, length, slice_index_or, take};
+ghost use Rattle.std.specs.Prelude.{◌≡◌, ◌<◌, ◌≤◌, ◌+◌, ◌^◌, false, [], ◌∷◌, ◌++◌, IfOk, OnOk};
+ghost use Rattle.std.specs.Prelude.{OnErr, IsErrOf, length, slice_index_or, take};
 ghost use Rattle.std.specs.List.{AllByRecursion};
 ghost use Rattle.codespan_picture.specs.OutputStreams.{label_of};
-ghost use Rattle.codespan_views.specs.Private.LabeledFiles.{ids_view, lanes_of_span, lane_counts, lane_counts_with, all_least_starts_with, all_least_starts, with_file};
+ghost use Rattle.codespan_views.specs.Private.LabeledFiles.{ids_view, lanes_of_span, lane_counts};
+ghost use Rattle.codespan_views.specs.Private.LabeledFiles.{lane_counts_with};
+ghost use Rattle.codespan_views.specs.Private.LabeledFiles.{all_least_starts_with};
+ghost use Rattle.codespan_views.specs.Private.LabeledFiles.{all_least_starts, with_file};
 ghost use Rattle.codespan_views.specs.Private.LocusBytes.{least_starts_with, no_starts};
 ghost use Rattle.codespan_views.specs.Private.FileIndices.{AreDistinct, index_of_file};
 
 use crate::label_span::LabelSpan;
 use crate::least_starts::LeastStarts;
 use codespan_core::diagnostic::Label;
-use codespan_core::files::Error;
+use codespan_core::files::{Error, Location};
+use codespan_picture::arguments::Locus;
 
 /// A file with labels.
 #[derive(Drop)]
@@ -21,6 +26,8 @@ pub struct LabeledFile<FileId> {
     pub least_starts: LeastStarts,
     /// The number of its multi-line labels, each of which has a lane.
     pub num_multi_labels: usize,
+    /// The locus that its snippet starts with; an empty name at 0:0 until it is looked up.
+    pub locus: Locus,
 }
 
 impl<FileId> LabeledFile<FileId> {
@@ -94,6 +101,13 @@ fn push_file<FileId: Copy>(files: &mut Vec<LabeledFile<FileId>>, id: FileId) -> 
         file_id: id,
         least_starts: LeastStarts::without_labels(),
         num_multi_labels: 0,
+        locus: Locus {
+            name: String::new(*files.allocator()),
+            location: Location {
+                line_number: 0,
+                column_number: 0,
+            },
+        },
     })?;
     Ok(())
 }

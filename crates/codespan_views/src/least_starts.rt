@@ -3,7 +3,8 @@
 ghost use Rattle.std.specs.Prelude.{◌≡◌};
 ghost use Rattle.codespan_core.specs.Labels.{is_primary};
 ghost use Rattle.codespan_picture.specs.OutputStreams.{label_of};
-ghost use Rattle.codespan_views.specs.Private.LocusBytes.{least_starts_with, least_with, locus_byte, no_starts};
+ghost use Rattle.codespan_views.specs.Private.LocusBytes.{least_starts_with, least_with};
+ghost use Rattle.codespan_views.specs.Private.LocusBytes.{locus_byte, no_starts};
 
 use codespan_core::diagnostic::{Label, LabelStyle};
 

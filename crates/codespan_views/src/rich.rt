@@ -5,20 +5,23 @@ ghost use Rattle.codespan_core.specs.declared.term.config.DisplayStyle.TheVarian
 ghost use Rattle.codespan_picture.specs.OutputStreams.{labels_of};
 ghost use Rattle.codespan_renderer.specs.Renderers.{writer_of, config_of, Renders, SameRenderer};
 ghost use Rattle.codespan_views.specs.WriteCalls.{WritesStyled};
-ghost use Rattle.codespan_views.specs.Private.OutputPlans.{IsOutputPlan};
+ghost use Rattle.codespan_views.specs.Private.EarlyLookups.{IsLookedUp};
 ghost use Rattle.codespan_views.specs.Private.Rendering.{RendersRows};
-ghost use Rattle.codespan_views.specs.Private.ViewRendering.{RendersSnippets, RendersView, output_without_labels, closing_rows};
+ghost use Rattle.codespan_views.specs.Private.ViewRendering.{RendersSnippets, RendersView};
+ghost use Rattle.codespan_views.specs.Private.ViewRendering.{output_without_labels, closing_rows};
 
-use crate::collected::collect;
+use crate::annotation::groups::count_in_file;
+use crate::collected::{Collected, collect};
+use crate::early_lookups::look_up_early;
 use crate::parts::{render_diagnostic_header, render_notes};
-use crate::plan::{OutputPlan, plan_output};
+use crate::snippet::Snippet;
 use crate::snippet::line_buffers::LineBuffers;
-use crate::snippet::lines::SnippetContext;
-use crate::snippet::{render_empty_row_after, render_snippet};
+use crate::source_file::SourceFile;
 use codespan_core::diagnostic::Diagnostic;
 use codespan_core::files::{Error, Files};
 use codespan_core::term::{Config, WriteStyle};
 use codespan_renderer::term::renderer::Renderer;
+use std::convert::AsStr;
 
 /// Renders a diagnostic in rich style: a header, a snippet for each file with a label, and the
 /// notes.
@@ -129,11 +132,11 @@ impl<'diagnostic, 'config, FileId: Copy + Eq> RichDiagnostic<'diagnostic, 'confi
         let diagnostic = self.diagnostic;
         let alloc = *diagnostic.labels.allocator();
         let labels = diagnostic.labels.as_slice();
-        let collected = collect(alloc, files, self.config, labels)?;
-        let output_plan = plan_output(alloc, files, self.config, &collected)?;
+        let mut collected = collect(alloc, files, self.config, labels)?;
+        let numbers = look_up_early(alloc, files, self.config.layout, &mut collected)?;
         render_diagnostic_header(diagnostic, renderer, None)?;
-        self.render_snippets(files, renderer, &output_plan)?;
-        render_closing(diagnostic, renderer, output_plan.padding)
+        self.render_snippets(files, renderer, &collected, numbers.as_slice())?;
+        render_closing(diagnostic, renderer, collected.padding.digit_count)
     }
 
     /// Renders the snippets of all files, with an empty row after each, but after the last one only
@@ -141,48 +144,54 @@ impl<'diagnostic, 'config, FileId: Copy + Eq> RichDiagnostic<'diagnostic, 'confi
     ///
     /// # Errors
     ///
-    /// As [`render_snippet`].
+    /// - `Io`: the writer fails or takes no bytes, or a lookup fails with it.
+    /// - `OutOfMemory`: an allocation fails, or a lookup fails with it.
+    /// - Any other error: that of the first lookup that fails.
+    ///
+    /// A prefix of the rows has then been written.
     ///
     /// # Requires
     ///
-    /// The plan is that of the diagnostic, by the view's configuration and over these files.
+    /// What was collected of the diagnostic's labels, and the numbers, were looked up, over these
+    /// files and by the view's configuration.
     fn render_snippets<'files, F, W>(
         &self,
         files: &'files F,
         renderer: &mut Renderer<'_, '_, W>,
-        output_plan: &OutputPlan<'_, '_, FileId>,
+        collected: &Collected<'diagnostic, FileId>,
+        numbers: &[usize],
     ) -> Result<(), Error>
     where
         F: Files<'files, FileId = FileId>,
         W: WriteStyle,
         FileId: 'files,
-        requires { IsOutputPlan (F.database files.now)
-            (view_config_of self.now) (labels_of (diagnostic_of self.now)) output_plan.now }
+        requires { IsLookedUp (F.database files.now) (view_config_of self.now)
+            (labels_of (diagnostic_of self.now)) numbers.now collected.now }
         ensures { RendersSnippets W.sink (F.database files.now)
-            self.now output_plan.now renderer.old result renderer.new }
+            self.now collected.now renderer.old result renderer.new }
     {
         let diagnostic = self.diagnostic;
-        let context = SnippetContext {
-            files,
-            padding: output_plan.padding,
-            severity: diagnostic.severity,
-        };
-        let mut buffers = LineBuffers::new(*diagnostic.labels.allocator());
+        let mut buffers = LineBuffers::new(*diagnostic.labels.allocator(), numbers);
         let notes_follow = !diagnostic.notes.is_empty();
         let mut start = 0;
-        for (index, snippet_plan) in output_plan.snippet_plans.iter().enumerate() {
-            let end = start + snippet_plan.snippet_line_count;
-            let snippet_lines = &output_plan.snippet_lines[start..end];
-            start = end;
-            let is_followed = notes_follow || index + 1 < output_plan.snippet_plans.len();
-            render_snippet(
-                &context,
-                renderer,
-                &mut buffers,
-                snippet_plan,
-                snippet_lines,
-            )?;
-            render_empty_row_after(&context, renderer, snippet_plan, is_followed)?;
+        for (index, labeled) in collected.files.iter().enumerate() {
+            let len = count_in_file(&collected.annotations[start..], index);
+            let own_annotations = &collected.annotations[start..start + len];
+            start += len;
+            let source = files.source(labeled.file_id)?;
+            let snippet = Snippet {
+                file: SourceFile {
+                    files,
+                    file_id: labeled.file_id,
+                },
+                source: source.as_str(),
+                num_multi_labels: labeled.num_multi_labels,
+                padding: collected.padding.digit_count,
+                severity: diagnostic.severity,
+            };
+            snippet.render(renderer, &mut buffers, &labeled.locus, own_annotations)?;
+            let is_followed = notes_follow || index + 1 < collected.files.len();
+            snippet.render_empty_row_after(renderer, is_followed)?;
         }
         Ok(())
     }

@@ -41,7 +41,8 @@ pub struct ShortDiagnostic<'diagnostic, FileId> {
 }
 
 impl<'diagnostic, FileId: Copy + Eq> ShortDiagnostic<'diagnostic, FileId> {
-    ghost use Rattle.codespan_views.specs.Views.{short_diagnostic_of, short_style_of, style_with_notes};
+    ghost use Rattle.codespan_views.specs.Views.{short_diagnostic_of, short_style_of};
+    ghost use Rattle.codespan_views.specs.Views.{style_with_notes};
 
     /// Returns a view of the diagnostic: in medium style if `show_notes` is set, else in short
     /// style.

@@ -7,7 +7,9 @@ ghost use Rattle.codespan_picture.specs.Arguments.{locus_view};
 ghost use Rattle.codespan_picture.specs.Lookups.{line_lookups};
 ghost use Rattle.codespan_views.specs.Private.AnnotationViews.{IsLineAt};
 ghost use Rattle.codespan_views.specs.Private.FileLookups.{FailsByOrFormatError};
-ghost use Rattle.codespan_views.specs.Private.SourceFiles.{lookups_of_filled, EndsBefore, failure_of, failure_unless_past_end, model_of};
+ghost use Rattle.codespan_views.specs.Private.SourceFiles.{lookups_of_filled, EndsBefore};
+ghost use Rattle.codespan_views.specs.Private.SourceFiles.{failure_of, failure_unless_past_end};
+ghost use Rattle.codespan_views.specs.Private.SourceFiles.{model_of};
 ghost use Rattle.codespan_views.specs.Private.Utf8Loci.{IsUtf8Locus};
 
 use crate::annotation::LineInfo;

@@ -1,5 +1,6 @@
 -- The Rust types of annotations, as the definitions have them.
-use Rattle.std.specs.Prelude.{◌≡◌, ℕ, ◌-◌, ◌==◌, ◌&&◌, nat_lt, List, ◌++◌, map, Option, Some, None, if◌then◌else◌}
+use Rattle.std.specs.Prelude.{◌≡◌, ℕ, ◌-◌, ◌==◌, ◌&&◌, nat_lt, List, ◌++◌, map, Option, Some, None}
+use Rattle.std.specs.Prelude.{if◌then◌else◌}
 use Rattle.std.specs.List.{AllByRecursion}
 use Rattle.codespan_core.specs.FileModel.{FileModel}
 use Rattle.codespan_core.specs.LawfulFiles.{IsLineRange}
@@ -11,7 +12,8 @@ use Rattle.codespan_views.specs.declared.annotation.MultiLabelKind.TheVariants a
 use Rattle.codespan_views.specs.declared.annotation.AnnotationKind.{AnnotationKind as RustKind}
 use Rattle.codespan_views.specs.declared.annotation.AnnotationKind.TheVariants as rust
 use Rattle.codespan_views.specs.declared.annotation.LineInfo.{LineInfo}
-use Rattle.codespan_views.specs.Private.Annotations.{Annotation, AnnotationKind, Shown, Single, Multi}
+use Rattle.codespan_views.specs.Private.Annotations.{Annotation, AnnotationKind, Shown, Single}
+use Rattle.codespan_views.specs.Private.Annotations.{Multi}
 use Rattle.codespan_views.specs.Private.FileIndices.{IsIdAt}
 
 -- the multi-line label mark of this kind, on a line that starts at this byte index

@@ -3,22 +3,28 @@ use Rattle.std.specs.Prelude.{◌≡◌, List, [], fold, map, max}
 use Rattle.std.specs.List.{AllByRecursion}
 use Rattle.std.specs.List.Sorted.{IsPermutation, IsSortedBy}
 use Rattle.codespan_picture.specs.Types.{Config}
-use Rattle.codespan_core.specs.FileModel.{FileDatabase}
+use Rattle.codespan_core.specs.FileModel.{FileDatabase, FileModel}
 use Rattle.codespan_picture.specs.Snippets.{LabelInFile, file_ids}
 use Rattle.codespan_views.specs.declared.collected.Collected.{Collected}
 use Rattle.codespan_views.specs.Private.Annotations.{is_before}
-use Rattle.codespan_views.specs.Private.AnnotationViews.{AppendsAnnotations, IsOfFiles, annotation_view}
+use Rattle.codespan_views.specs.Private.AnnotationViews.{AppendsAnnotations, IsOfFiles}
+use Rattle.codespan_views.specs.Private.AnnotationViews.{annotation_view}
 use Rattle.codespan_views.specs.Private.LabeledFiles.{HasLabels, ids_view}
 use Rattle.codespan_views.specs.Private.IndexedLabels.{all_annotations}
 use Rattle.codespan_views.specs.Private.SpannedDigitCounts.{all_digit_counts}
 
+-- the padding width is that of the lines that these labels span
+abbrev pub HasSpannedPadding : {Id : Type 0} → (Id → FileModel) → List (LabelInFile Id)
+    → Collected Id → Type 0
+HasSpannedPadding file xs collected =
+    collected.padding.digit_count ≡ fold max 0 (all_digit_counts file xs)
+
 module _ {Id : Type 0} (database : FileDatabase Id) where
-  -- the files of these labels were collected, and the padding width of the classic layout
+  -- the files of these labels were collected
   pub record AreFilesCollected (xs : List (LabelInFile Id)) (collected : Collected Id)
       : Type 0 where
     pub ids_are : ids_view collected.files.items ≡ file_ids database.same xs
     pub labels_are : AllByRecursion (HasLabels database.same database.file xs) collected.files.items
-    pub padding_is : collected.padding.digit_count ≡ fold max 0 (all_digit_counts database.file xs)
 
   -- this was collected of these labels, one after another
   pub record IsCollectedUnsorted (config : Config) (xs : List (LabelInFile Id))

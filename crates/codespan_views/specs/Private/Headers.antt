@@ -1,5 +1,6 @@
 -- Headers of labels, rendered one after another, each after the lookups of its locus.
-use Rattle.std.specs.Prelude.{◌≡◌, ◌≢◌, ◌⊎◌, true, Bool, List, [], ◌∷◌, ◌++◌, flat_map, None, Some, Result, MatchResult}
+use Rattle.std.specs.Prelude.{◌≡◌, ◌≢◌, ◌⊎◌, true, Bool, List, [], ◌∷◌, ◌++◌, flat_map, None, Some}
+use Rattle.std.specs.Prelude.{Result, MatchResult}
 use Rattle.std.specs.List.{AllZip}
 use Rattle.codespan_picture.specs.Types.{Diagnostic, Error, FormatError, OutOfMemory, Config}
 use Rattle.codespan_core.specs.Errors.{IsIo}

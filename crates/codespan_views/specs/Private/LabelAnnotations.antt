@@ -1,12 +1,16 @@
 -- The annotations of a label: what it does on each line that is looked up for it.
-use Rattle.std.specs.Prelude.{ℕ, ◌==◌, ◌&&◌, List, [], ◌++◌, flat_map, Option, Some, None, if◌then◌else◌}
+use Rattle.std.specs.Prelude.{ℕ, ◌==◌, ◌&&◌, List, [], ◌++◌, flat_map, Option, Some, None}
+use Rattle.std.specs.Prelude.{if◌then◌else◌}
 use Rattle.std.specs.Option.{option_map}
 use Rattle.codespan_picture.specs.Types.{Config}
 use Rattle.codespan_core.specs.FileModel.{FileModel, Lookup}
-use Rattle.codespan_core.specs.Labels.{LabelModel, first_line, last_line, is_single, drawn_label, lane_mark_of, multi_label_on, from_line_start, multi_label_at}
+use Rattle.codespan_core.specs.Labels.{LabelModel, first_line, last_line, is_single, drawn_label}
+use Rattle.codespan_core.specs.Labels.{lane_mark_of, multi_label_on, from_line_start}
+use Rattle.codespan_core.specs.Labels.{multi_label_at}
 use Rattle.codespan_picture.specs.Lines.{shows}
 use Rattle.codespan_picture.specs.Lookups.{looked_up_lines, is_looked_up, line_lookups}
-use Rattle.codespan_views.specs.Private.Annotations.{Annotation, AnnotationKind, Shown, Single, Multi, annotation_if_any}
+use Rattle.codespan_views.specs.Private.Annotations.{Annotation, AnnotationKind, Shown, Single}
+use Rattle.codespan_views.specs.Private.Annotations.{Multi, annotation_if_any}
 
 -- of a label of the file at this index, which has this index itself, and this lane if it is a
 -- multi-line label

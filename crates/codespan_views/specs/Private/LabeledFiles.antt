@@ -1,8 +1,11 @@
 -- The files of an output, as the code has them.
-use Rattle.std.specs.Prelude.{◌≡◌, ◌==◌, ℕ, ◌+◌, Bool, List, [], ◌∷◌, ◌++◌, if◌then◌else◌, map, slice_index_or, slice_set}
+use Rattle.std.specs.Prelude.{◌≡◌, ◌==◌, ℕ, ◌+◌, Bool, List, [], ◌∷◌, ◌++◌, if◌then◌else◌, map}
+use Rattle.std.specs.Prelude.{slice_index_or, slice_set}
 use Rattle.std.specs.List.{list_any}
 use Rattle.codespan_core.specs.FileModel.{FileModel}
 use Rattle.codespan_core.specs.Labels.{LabelModel}
+use Rattle.codespan_picture.specs.Arguments.{locus_view}
+use Rattle.codespan_picture.specs.Rows.{Locus}
 use Rattle.codespan_picture.specs.Snippets.{LabelInFile, labeled_file_model, num_multi_labels}
 use Rattle.codespan_views.specs.declared.labeled_files.LabeledFile.{LabeledFile as RustFile}
 use Rattle.codespan_views.specs.declared.label_span.LabelSpan.{LabelSpan}
@@ -22,6 +25,10 @@ all_least_starts {Id} files = map (λ (f : RustFile Id). f.least_starts) files
 -- how many lanes each has
 abbrev pub lane_counts : {Id : Type 0} → List (RustFile Id) → List ℕ
 lane_counts {Id} files = map (λ (f : RustFile Id). f.num_multi_labels) files
+
+-- the locus of each
+abbrev pub loci_view : {Id : Type 0} → List (RustFile Id) → List Locus
+loci_view {Id} files = map (λ (f : RustFile Id). locus_view f.locus) files
 
 -- how many lanes the file of an id has for these labels
 abbrev pub num_multi_labels_of : {Id : Type 0} → (Id → Id → Bool) → (Id → FileModel)

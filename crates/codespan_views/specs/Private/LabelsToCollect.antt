@@ -1,9 +1,12 @@
 -- Labels whose lines are looked up, one after another.
-use Rattle.std.specs.Prelude.{◌≡◌, ℕ, ◌<◌, Bool, true, false, List, ◌++◌, flat_map, fold, max, Option, Some, IfOk, Result}
+use Rattle.std.specs.Prelude.{◌≡◌, ℕ, ◌<◌, Bool, true, false, List, ◌++◌, flat_map, fold, max}
+use Rattle.std.specs.Prelude.{Option, Some, IfOk, Result}
 use Rattle.codespan_picture.specs.Types.{Error, Config}
 use Rattle.codespan_core.specs.FileModel.{FileDatabase, FileModel, line_count, Lookup}
 use Rattle.codespan_core.specs.Labels.{LabelModel, first_line, last_line}
-use Rattle.codespan_picture.specs.Lookups.{Failures, looked_up_lines, lookups_of_file, first_error, is_looked_up, label_lookups, label_line_lookups, line_lookups, lookup_past_end}
+use Rattle.codespan_picture.specs.Lookups.{Failures, looked_up_lines, lookups_of_file, first_error}
+use Rattle.codespan_picture.specs.Lookups.{is_looked_up, label_lookups, label_line_lookups}
+use Rattle.codespan_picture.specs.Lookups.{line_lookups, lookup_past_end}
 use Rattle.codespan_picture.specs.OutputStreams.{label_of}
 use Rattle.codespan_picture.specs.Snippets.{LabelInFile}
 use Rattle.codespan_picture.specs.declared.padding.PaddingWidth.{PaddingWidth}
@@ -11,11 +14,15 @@ use Rattle.codespan_views.specs.declared.annotation.Annotation.{Annotation as Ru
 use Rattle.codespan_views.specs.declared.annotation.LineInfo.{LineInfo}
 use Rattle.codespan_views.specs.declared.label_annotations.LabelCollector.{LabelCollector}
 use Rattle.codespan_views.specs.Private.Annotations.{AnnotationKind}
-use Rattle.codespan_views.specs.Private.LabelAnnotations.{annotations_of, line_annotations, annotations_if_looked_up, lookups_if_looked_up, multi_kind_by_ends, kind_by_ends}
+use Rattle.codespan_views.specs.Private.LabelAnnotations.{annotations_of, line_annotations}
+use Rattle.codespan_views.specs.Private.LabelAnnotations.{annotations_if_looked_up}
+use Rattle.codespan_views.specs.Private.LabelAnnotations.{lookups_if_looked_up, multi_kind_by_ends}
+use Rattle.codespan_views.specs.Private.LabelAnnotations.{kind_by_ends}
 use Rattle.codespan_views.specs.Private.FileLookups.{failure_in}
 use Rattle.codespan_views.specs.Private.SourceFiles.{failure_unless_past_end, model_of}
 use Rattle.codespan_views.specs.Private.AnnotationViews.{AppendsAnnotationsOf}
-use Rattle.codespan_views.specs.Private.SpannedDigitCounts.{digit_count_if_spanned, label_digit_counts}
+use Rattle.codespan_views.specs.Private.SpannedDigitCounts.{digit_count_if_spanned}
+use Rattle.codespan_views.specs.Private.SpannedDigitCounts.{label_digit_counts}
 
 -- the lookups of one label
 abbrev pub lookups_of_label : {Id : Type 0} → Config → FileDatabase Id → LabelInFile Id

@@ -1,37 +1,28 @@
 -- The lines of one snippet, rendered: the rows that are written, and the lookups.
-use Rattle.std.specs.Prelude.{◌≡◌, IsTrue, ℕ, List, map, Result}
-use Rattle.std.specs.List.{AllByRecursion}
-use Rattle.codespan_picture.specs.Types.{Error}
+use Rattle.std.specs.Prelude.{◌≡◌, ℕ, List, Result}
 use Rattle.codespan_core.specs.FileModel.{FileDatabase, FileModel, Lookup}
 use Rattle.codespan_core.specs.WriterLaw.{Sink}
+use Rattle.codespan_picture.specs.Types.{Error}
+use Rattle.codespan_picture.specs.declared.arguments.Locus.{Locus as RustLocus}
 use Rattle.codespan_picture.specs.Rows.{Row}
 use Rattle.codespan_renderer.specs.declared.term.renderer.Renderer.{Renderer}
-use Rattle.codespan_views.specs.declared.snippet.lines.Snippet.{Snippet}
-use Rattle.codespan_views.specs.declared.plan.snippet_lines.SnippetLine.{SnippetLine as RustLine}
-use Rattle.codespan_views.specs.Private.SourceFiles.{failure_of, model_of}
-use Rattle.codespan_views.specs.Private.SnippetLineViews.{IsSnippetLineOf, lookups_of_lines, snippet_line_view}
+use Rattle.codespan_views.specs.declared.snippet.Snippet.{Snippet}
+use Rattle.codespan_views.specs.Private.FilledLines.{AreNumbersOf, lookups_with}
 use Rattle.codespan_views.specs.Private.Rendering.{RendersRowsWithLookups}
-use Rattle.codespan_views.specs.Private.SnippetLines.{SnippetLine, is_line_in_order, rows_of_line, rows_of_lines, AreInOrder}
+use Rattle.codespan_views.specs.Private.SnippetLines.{SnippetLine, AreInOrder, filled_lines_of}
+use Rattle.codespan_views.specs.Private.SnippetLines.{rows_of_line, rows_of_lines}
+use Rattle.codespan_views.specs.Private.SnippetRows.{rows_of_snippet}
+use Rattle.codespan_views.specs.Private.SourceFiles.{failure_of, model_of}
 
--- these are lines of the file; the single-line labels of each are in the order of their starts, and
--- its lane marks ascend in so many lanes
-pub record AreLinesOf {Id : Type 0} (f : FileModel) (num_multi_labels : ℕ)
-    (snippet_lines : List (RustLine Id)) : Type 0 where
-  pub each : AllByRecursion (IsSnippetLineOf f) snippet_lines
-  pub in_order : AreInOrder num_multi_labels (map snippet_line_view snippet_lines)
-
--- the snippet has the source of its file, and these are lines of it, each with its labels in order
+-- the snippet has the source of its file, the labels of each of these lines are in order, and these
+-- are the known numbers of the filled ones
 pub record HasLines {F Id Name Source : Type 0} (database_of : F → FileDatabase Id)
-    (snippet : Snippet F Id Name Source) (snippet_lines : List (RustLine Id)) : Type 0 where
+    (snippet : Snippet F Id Name Source) (numbers : List ℕ) (snippet_lines : List SnippetLine)
+    : Type 0 where
   pub source : snippet.source.now ≡ (model_of database_of snippet.file).text
-  pub are : AreLinesOf (model_of database_of snippet.file) snippet.num_multi_labels snippet_lines
-
--- the snippet has the source of its file, and this is a line of it, with its labels in order
-pub record HasLine {F Id Name Source : Type 0} (database_of : F → FileDatabase Id)
-    (snippet : Snippet F Id Name Source) (snippet_line : RustLine Id) : Type 0 where
-  pub source : snippet.source.now ≡ (model_of database_of snippet.file).text
-  pub is : IsSnippetLineOf (model_of database_of snippet.file) snippet_line
-  pub in_order : IsTrue (is_line_in_order snippet.num_multi_labels (snippet_line_view snippet_line))
+  pub in_order : AreInOrder snippet.num_multi_labels snippet_lines
+  pub numbers_are : AreNumbersOf (model_of database_of snippet.file) numbers
+      (filled_lines_of snippet_lines)
 
 module _ {W F Id Name Source : Type 0} (sink : W → Sink) (database_of : F → FileDatabase Id)
     (snippet : Snippet F Id Name Source) where
@@ -39,9 +30,8 @@ module _ {W F Id Name Source : Type 0} (sink : W → Sink) (database_of : F → 
   abbrev pub RendersFileRows : List Lookup → (FileModel → List Row) → Renderer W
       → Result (Unit {0}) Error → Renderer W → Type 0
   RendersFileRows lookups rows =
-      let context = snippet.context.now in
-      RendersRowsWithLookups sink (failure_of database_of snippet.file lookups) context.severity
-      context.padding (rows (model_of database_of snippet.file))
+      RendersRowsWithLookups sink (failure_of database_of snippet.file lookups) snippet.severity
+      snippet.padding (rows (model_of database_of snippet.file))
 
   -- the call renders a line of the snippet, and makes these lookups
   abbrev pub RendersLine : List Lookup → SnippetLine → Renderer W → Result (Unit {0}) Error
@@ -50,9 +40,18 @@ module _ {W F Id Name Source : Type 0} (sink : W → Sink) (database_of : F → 
   RendersLine lookups snippet_line =
       RendersFileRows lookups (λ f. rows_of_line f snippet.num_multi_labels snippet_line)
 
-  -- the call renders these lines, one after another, and makes their lookups
-  abbrev pub RendersLines : List (RustLine Id) → Renderer W → Result (Unit {0}) Error → Renderer W
+  -- the call renders these lines, one after another, and makes the lookups of the filled ones,
+  -- whose known numbers these are
+  abbrev pub RendersLines : List ℕ → List SnippetLine → Renderer W → Result (Unit {0}) Error
+      → Renderer W
       → Type 0
-  RendersLines snippet_lines =
-      RendersFileRows (lookups_of_lines snippet_lines)
-      (λ f. rows_of_lines f snippet.num_multi_labels (map snippet_line_view snippet_lines))
+  RendersLines numbers snippet_lines =
+      RendersFileRows (lookups_with numbers (filled_lines_of snippet_lines))
+      (λ f. rows_of_lines f snippet.num_multi_labels snippet_lines)
+
+  -- the call renders the snippet, which starts at this locus
+  abbrev pub RendersSnippet : RustLocus → List ℕ → List SnippetLine → Renderer W
+      → Result (Unit {0}) Error → Renderer W → Type 0
+  RendersSnippet locus numbers snippet_lines =
+      RendersFileRows (lookups_with numbers (filled_lines_of snippet_lines))
+      (λ f. rows_of_snippet f snippet.num_multi_labels locus snippet_lines)

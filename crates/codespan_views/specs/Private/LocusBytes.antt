@@ -1,5 +1,6 @@
 -- The byte of each file's locus, by the least starts of its labels.
-use Rattle.std.specs.Prelude.{ℕ, Bool, true, false, not, ◌&&◌, ◌||◌, min, List, [], ◌∷◌, map, filter, fold, if◌then◌else◌, Option, Some, None, unwrap_or}
+use Rattle.std.specs.Prelude.{ℕ, Bool, true, false, not, ◌&&◌, ◌||◌, min, List, [], ◌∷◌, map}
+use Rattle.std.specs.Prelude.{filter, fold, if◌then◌else◌, Option, Some, None, unwrap_or}
 use Rattle.codespan_core.specs.Labels.{LabelModel, is_primary}
 use Rattle.codespan_picture.specs.Snippets.{LabelInFile}
 use Rattle.codespan_views.specs.declared.least_starts.LeastStarts.{LeastStarts}

@@ -1,5 +1,6 @@
 -- The lines of a snippet that annotations in order make: shown lines, filled lines, and breaks.
-use Rattle.std.specs.Prelude.{◌≡◌, ℕ, Bool, false, true, ◌==◌, ◌&&◌, List, [], ◌∷◌, ◌++◌, flat_map, Option, Some, None, if◌then◌else◌}
+use Rattle.std.specs.Prelude.{◌≡◌, ℕ, Bool, false, true, ◌==◌, ◌&&◌, List, [], ◌∷◌, ◌++◌, flat_map}
+use Rattle.std.specs.Prelude.{Option, Some, None, if◌then◌else◌}
 use Rattle.std.specs.List.{AllByRecursion, filter_map}
 use Rattle.codespan_core.specs.FileModel.{FileModel, line_text}
 use Rattle.codespan_core.specs.Labels.{LabelModel, LaneMark}
@@ -7,7 +8,8 @@ use Rattle.codespan_picture.specs.CharMetrics.{text_without_line_end}
 use Rattle.codespan_picture.specs.Arguments.{ascend_from, starts_in_order}
 use Rattle.codespan_picture.specs.Rows.{Lanes, Line, Row, BreakRow, rows_of}
 use Rattle.codespan_picture.specs.Sequences.{before_line, gap_between}
-use Rattle.codespan_views.specs.Private.Annotations.{Annotation, AnnotationKind, Shown, Single, Multi, shows_line}
+use Rattle.codespan_views.specs.Private.Annotations.{Annotation, AnnotationKind, Shown, Single}
+use Rattle.codespan_views.specs.Private.Annotations.{Multi, shows_line}
 
 -- a shown line with its annotations, the one line between two shown ones with its annotations, or a
 -- break before a line with these annotations
@@ -116,7 +118,17 @@ module _ (f : FileModel) (count : ℕ) where
   abbrev pub rows_of_lines : List SnippetLine → List Row
   rows_of_lines snippet_lines = flat_map rows_of_line snippet_lines
 
--- ---- the filled lines
+-- ---- the drawn lines, and the filled ones
+
+-- the line, where it is no break
+abbrev pub drawn_line_of : SnippetLine → List ℕ
+drawn_line_of (Labeled l annotations) = l ∷ []
+drawn_line_of (Filled l annotations) = l ∷ []
+drawn_line_of (Break annotations) = []
+
+-- the lines that are drawn
+abbrev pub drawn_lines_of : List SnippetLine → List ℕ
+drawn_lines_of snippet_lines = flat_map drawn_line_of snippet_lines
 
 -- the line, where it is filled in
 abbrev pub filled_line_of : SnippetLine → List ℕ

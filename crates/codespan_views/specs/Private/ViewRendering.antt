@@ -5,16 +5,17 @@ use Rattle.codespan_core.specs.Streams.{Stream, newline}
 use Rattle.codespan_core.specs.WriterLaw.{Sink}
 use Rattle.codespan_picture.specs.Lookups.{first_error, late_lookups}
 use Rattle.codespan_picture.specs.OutputStreams.{header_text_of, labels_of, context_of, notes_of}
-use Rattle.codespan_picture.specs.Snippets.{snippets, LabelInFile, has_any, labeled_file_models, note_rows, primary_of}
+use Rattle.codespan_picture.specs.Snippets.{snippets, LabelInFile, has_any, labeled_file_models}
+use Rattle.codespan_picture.specs.Snippets.{note_rows, primary_of}
 use Rattle.codespan_picture.specs.Rows.{FinalRow, Locus, Row}
 use Rattle.codespan_picture.specs.RowStreams.{header_row, stream_of_rows}
 use Rattle.codespan_renderer.specs.declared.term.renderer.Renderer.{Renderer}
 use Rattle.codespan_renderer.specs.Renderers.{config_of, writer_of}
 use Rattle.codespan_views.specs.declared.rich.RichDiagnostic.{RichDiagnostic}
-use Rattle.codespan_views.specs.declared.plan.OutputPlan.{OutputPlan}
+use Rattle.codespan_views.specs.declared.collected.Collected.{Collected}
 use Rattle.codespan_views.specs.WriteCalls.{WritesOutput}
 use Rattle.codespan_views.specs.Views.{diagnostic_of, view_config_of}
-use Rattle.codespan_views.specs.Private.OutputPlans.{loci_of}
+use Rattle.codespan_views.specs.Private.LabeledFiles.{loci_view}
 use Rattle.codespan_views.specs.Private.Headers.{RendersHeaders}
 use Rattle.codespan_views.specs.Private.Rendering.{RendersRowsWithLookups}
 use Rattle.codespan_core.specs.FileModel.{FileDatabase}
@@ -68,12 +69,12 @@ module _ {W Id : Type 0} (sink : W → Sink) (database : FileDatabase Id) where
         first_error database.failure
         (late_lookups database (labels_of (diagnostic_of view)) (view_config_of view))
 
-    -- the call renders its snippets, which start at the loci of a plan, and makes their lookups
-    abbrev pub RendersSnippets : OutputPlan Id → Renderer W → Result (Unit {0}) Error → Renderer W
+    -- the call renders its snippets, which start at the loci of the files that were collected, and
+    -- makes their lookups
+    abbrev pub RendersSnippets : Collected Id → Renderer W → Result (Unit {0}) Error → Renderer W
         → Type 0
-    RendersSnippets output_plan =
+    RendersSnippets collected =
         let d = diagnostic_of view in
-        RendersRowsWithLookups sink snippets_failure d.severity output_plan.padding
-        (snippets (view_config_of view) (has_any (notes_of d))
-        (loci_of output_plan.snippet_plans.items)
+        RendersRowsWithLookups sink snippets_failure d.severity collected.padding.digit_count
+        (snippets (view_config_of view) (has_any (notes_of d)) (loci_view collected.files.items)
         (labeled_file_models database.same database.file (labels_of d)))

@@ -1,10 +1,14 @@
-//! Groups of annotations in order: those of one file, and those of one line.
+//! Groups of annotations in order: those of one file, and those of one line; what is between two
+//! lines.
 
-ghost use Rattle.std.specs.Prelude.{◌≡◌, ◌≤◌, length};
+ghost use Rattle.std.specs.Prelude.{◌≡◌, ◌≤◌, ◌-◌, IfSome, IsTrue, drop, length, map};
+ghost use Rattle.std.specs.Prelude.{slice_get};
 ghost use Rattle.std.specs.List.{prefix_len};
 ghost use Rattle.std.specs.List.Sorted.{IsSortedWithin};
-ghost use Rattle.codespan_views.specs.Private.Annotations.{is_before, is_of_file, is_on_line, shows_line};
+ghost use Rattle.codespan_views.specs.Private.Annotations.{is_before, is_of_file, is_on_line};
+ghost use Rattle.codespan_views.specs.Private.Annotations.{shows_line};
 ghost use Rattle.codespan_views.specs.Private.AnnotationViews.{annotation_view};
+ghost use Rattle.codespan_views.specs.Private.FilledLines.{HasSameLines, IsGapBefore};
 
 use crate::annotation::{Annotation, AnnotationKind};
 
@@ -14,6 +18,18 @@ pub fn shows_line<FileId>(annotation: &Annotation<'_, FileId>) -> bool
     ensures { result ≡ shows_line (annotation_view annotation.now) }
 {
     !matches!(annotation.kind, AnnotationKind::Multi { .. })
+}
+
+/// Returns how many lines are between the shown line at this index and `previous`, the shown line
+/// before it; 0 where there is none before. Both indices are 0-based.
+pub fn lines_between(previous: Option<usize>, index: usize) -> usize
+    ensures gap { IsGapBefore previous index result }
+    ensures within { result ≤ index }
+{
+    match previous {
+        Some(previous) => index.saturating_sub(previous).saturating_sub(1),
+        None => 0,
+    }
 }
 
 /// Returns how many annotations at the start are of the line at this 0-based index.
@@ -54,4 +70,38 @@ pub fn count_in_file<FileId>(annotations: &[Annotation<'_, FileId>], file_index:
         .iter()
         .take_while(|annotation| annotation.file_index == file_index)
         .count()
+}
+
+/// Skips hidden lines: returns the annotations of the hidden line just before the first shown one,
+/// or `hidden` where no line is skipped, and the annotations from the shown line on. Those of a
+/// line are in order, so the line is shown if the first of them makes it so.
+pub fn skip_hidden<'collected, 'd, FileId>(
+    hidden: &'collected [Annotation<'d, FileId>],
+    annotations: &'collected [Annotation<'d, FileId>],
+) -> (
+    &'collected [Annotation<'d, FileId>],
+    &'collected [Annotation<'d, FileId>],
+)
+    ensures lines { HasSameLines (map annotation_view hidden.now)
+        (map annotation_view annotations.now) (map annotation_view result.0.now)
+        (map annotation_view result.1.now) }
+    ensures shown { IfSome (slice_get result.1.now 0) (λ first. IsTrue (shows_line
+        (annotation_view first))) }
+    ensures within { length result.1.now ≤ length annotations.now }
+    ensures later { result.1.now
+        ≡ drop (length annotations.now - length result.1.now) annotations.now }
+{
+    let mut hidden = hidden;
+    let mut rest = annotations;
+    while let Some(first) = rest.first() {
+        if shows_line(first) {
+            return (hidden, rest);
+        }
+        let count = count_on_line(rest, first.line.index);
+        let group = &rest[..count];
+        let later = &rest[count..];
+        hidden = group;
+        rest = later;
+    }
+    (hidden, rest)
 }

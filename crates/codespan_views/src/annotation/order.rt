@@ -2,7 +2,8 @@
 
 ghost use Rattle.std.specs.Prelude.{◌≡◌, ◌<◌, length, map, true, IfOk, IfSome, OnErr, IsErrOf};
 ghost use Rattle.std.specs.List.Sorted.{IsPermutation, IsSortedBy, IsSortedWithin};
-ghost use Rattle.codespan_views.specs.Private.Annotations.{IsLaneMarkOn, annotation_cmp, is_before, rank_of, kind_cmp};
+ghost use Rattle.codespan_views.specs.Private.Annotations.{IsLaneMarkOn, annotation_cmp, is_before};
+ghost use Rattle.codespan_views.specs.Private.Annotations.{rank_of, kind_cmp};
 ghost use Rattle.codespan_views.specs.Private.AnnotationViews.{annotation_view};
 
 use crate::annotation::by_line::group_by_line;

@@ -1,8 +1,10 @@
-//! The memory in which a line is prepared for a renderer.
+//! What a line is prepared in for a renderer: memory, and the known numbers of filled lines.
 
 ghost use Rattle.std.specs.Prelude.{◌≡◌, [], IfOk, OnErr, IsErrOf, map};
+ghost use Rattle.std.specs.Slice.Iter.{iter_rest};
 ghost use Rattle.codespan_core.specs.Labels.{from_line_start};
-ghost use Rattle.codespan_picture.specs.Arguments.{single_label_views, single_label_view, lane_mark_view};
+ghost use Rattle.codespan_picture.specs.Arguments.{single_label_views, single_label_view};
+ghost use Rattle.codespan_picture.specs.Arguments.{lane_mark_view};
 ghost use Rattle.codespan_picture.specs.OutputStreams.{label_of};
 ghost use Rattle.codespan_views.specs.Private.AnnotationViews.{annotation_view};
 ghost use Rattle.codespan_views.specs.Private.SnippetLines.{lane_marks_in, single_labels_in};
@@ -13,30 +15,37 @@ use codespan_core::files::Error;
 use codespan_renderer::term::renderer::cached::LineCache;
 use codespan_renderer::term::renderer::{MultiLabel, SingleLabel};
 use std::alloc::Global;
+use std::slice::Iter;
 
-/// The memory in which the labels and the characters of a line are prepared for a renderer.
+/// The memory in which the labels and the characters of a line are prepared for a renderer, and the
+/// known numbers of the filled lines that are left.
 ///
-/// One value serves many lines, so that its memory is allocated once.
+/// One value serves all lines of an output, so that its memory is allocated once.
 #[derive(Drop)]
-pub struct LineBuffers<'d> {
+pub struct LineBuffers<'numbers, 'd> {
     /// The single-line labels.
     pub single_labels: Vec<SingleLabel<'d>>,
     /// The lane marks: of each multi-line label its lane, its style and what it does on the line.
     pub lane_marks: Vec<(usize, LabelStyle, MultiLabel<'d>)>,
     /// The characters of the line and the pointers under them, as far as its rows reach.
     pub line_cache: LineCache,
+    /// The numbers of the filled lines that are rendered next, where they were looked up before the
+    /// header.
+    pub numbers: Iter<'numbers, usize>,
 }
 
-impl<'d> LineBuffers<'d> {
-    /// Returns empty buffers. It allocates nothing.
-    pub fn new(alloc: Global) -> LineBuffers<'d>
+impl<'numbers, 'd> LineBuffers<'numbers, 'd> {
+    /// Returns empty buffers, with these numbers of filled lines. It allocates nothing.
+    pub fn new(alloc: Global, numbers: &'numbers [usize]) -> LineBuffers<'numbers, 'd>
         ensures single_labels { result.single_labels.items ≡ [] }
         ensures lane_marks { result.lane_marks.items ≡ [] }
+        ensures numbers { iter_rest result.numbers ≡ numbers.now }
     {
         LineBuffers {
             single_labels: Vec::new(alloc),
             lane_marks: Vec::new(alloc),
             line_cache: LineCache::new(alloc),
+            numbers: numbers.iter(),
         }
     }
 
@@ -51,6 +60,7 @@ impl<'d> LineBuffers<'d> {
             ≡ single_labels_in (map annotation_view annotations.now)) }
         ensures lane_marks { IfOk result (λ _. map lane_mark_view self.new.lane_marks.items
             ≡ lane_marks_in (map annotation_view annotations.now)) }
+        ensures numbers { self.new.numbers ≡ self.old.numbers }
         ensures failed { OnErr result (IsErrOf result Error.OutOfMemory) }
     {
         fill_lane_marks(&mut self.lane_marks, annotations)?;

@@ -1,5 +1,6 @@
 use contract.Lifetimes.{Lfts}
-use Rattle.std.proofs.Common.{◌≡◌, ℕ, ◌<◌, rules, ◌+◌, [], Err, length, get_or, map, sym, ap, ◌∙◌, subst, subst₂, arith}
+use Rattle.std.proofs.Common.{◌≡◌, ℕ, ◌<◌, rules, ◌+◌, [], Err, length, get_or, map, sym, ap, ◌∙◌}
+use Rattle.std.proofs.Common.{subst, subst₂, arith}
 use Rattle.std.proofs.lemmas.List.{get_or-map}
 use Rattle.std.proofs.lemmas.Result.{err_from_is_err_and}
 use Rattle.codespan_views.specs.declared.labeled_files.LabeledFile.{LabeledFile as RustFile}
@@ -15,9 +16,14 @@ use Rattle.codespan_views.proofs.FileIndices.{first_seen-differ}
 use Rattle.codespan_views.proofs.LabelIndexing.{AreFiles, are-files, lanes_of_span-are}
 use Rattle.codespan_views.proofs.IndexedElements.{IsElementAt}
 use Rattle.codespan_views.proofs.LabelsBefore.{before}
-use Rattle.codespan_views.proofs.LabelsCollected.{AreCollected, IsIndexedFile, added-at, each-labels, failure-ends, failure-lines, label_to_collect, file-indexed, collected-all, collected-more, collected-failed, lane-bound, index-inside}
+use Rattle.codespan_views.proofs.LabelsCollected.{AreCollected, IsIndexedFile, added-at}
+use Rattle.codespan_views.proofs.LabelsCollected.{each-labels, failure-ends, failure-lines}
+use Rattle.codespan_views.proofs.LabelsCollected.{label_to_collect, file-indexed, collected-all}
+use Rattle.codespan_views.proofs.LabelsCollected.{collected-more, collected-failed, lane-bound}
+use Rattle.codespan_views.proofs.LabelsCollected.{index-inside}
 use Rattle.codespan_views.proofs.collected.collect_unsorted.Given.{Over}
-use Rattle.codespan_views.proofs.collected.collect_unsorted.Goals.{After-index-labels-index, In_ok-file_index}
+use Rattle.codespan_views.proofs.collected.collect_unsorted.Goals.{After-index-labels-index}
+use Rattle.codespan_views.proofs.collected.collect_unsorted.Goals.{In_ok-file_index}
 use Rattle.codespan_views.proofs.collected.collect_unsorted.Goals as goal
 
 -- the files are lawful, and equal ids name one file
@@ -184,7 +190,6 @@ returns-clause-collected g c =
         labels_are = each-labels same file xs c.loop-index.labeled_files.items
             (done.starts_are ∙ ap (map (file_least_starts same xs)) (sym done.ids_are))
             (done.lanes_are ∙ ap (map (num_multi_labels_of same file xs)) (sym done.ids_are));
-        padding_is = done.counted;
       };
       adds =
           subst
@@ -197,3 +202,8 @@ pub returns-clause-failed : goal.returns-clause-failed
 returns-clause-failed g c =
     (collected-all c.args.labels.now c.loop-index.index c.loop-index-test.false
     c.loop-index.invariant).succeeded
+
+pub returns-clause-padding : goal.returns-clause-padding
+returns-clause-padding g c =
+    (collected-all c.args.labels.now c.loop-index.index c.loop-index-test.false
+    c.loop-index.invariant).counted

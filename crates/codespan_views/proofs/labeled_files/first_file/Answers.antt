@@ -5,7 +5,8 @@ use Rattle.codespan_views.specs.Private.LabeledFiles.{ids_view}
 use Rattle.codespan_views.proofs.FileSearch.{none-more, index-first}
 use Rattle.codespan_views.proofs.IndexedElements.{IsElementAt}
 use Rattle.codespan_views.proofs.labeled_files.first_file.Given.{Over}
-use Rattle.codespan_views.proofs.labeled_files.first_file.Goals.{After-index-files-index, After-index-files-next, Else-eq}
+use Rattle.codespan_views.proofs.labeled_files.first_file.Goals.{After-index-files-index}
+use Rattle.codespan_views.proofs.labeled_files.first_file.Goals.{After-index-files-next, Else-eq}
 use Rattle.codespan_views.proofs.labeled_files.first_file.Goals as goal
 
 -- there is a file after the one at the index

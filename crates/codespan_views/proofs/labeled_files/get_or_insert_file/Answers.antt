@@ -1,5 +1,6 @@
 use Rattle.std.proofs.Common.{◌≡◌, List, [], ◌∷◌, ◌++◌, sym, ap, ◌∙◌}
-use Rattle.codespan_views.specs.Private.LabeledFiles.{ids_view, lane_counts, all_least_starts, with_file}
+use Rattle.codespan_views.specs.Private.LabeledFiles.{ids_view, lane_counts, all_least_starts}
+use Rattle.codespan_views.specs.Private.LabeledFiles.{with_file}
 use Rattle.codespan_views.specs.Private.LocusBytes.{no_starts}
 use Rattle.codespan_views.specs.Private.FileIndices.{index_of_file}
 use Rattle.codespan_views.proofs.FileSearch.{file-added, file-unchanged}

@@ -1,4 +1,5 @@
-use Rattle.std.proofs.Common.{◌≡◌, ℕ, List, ◌<◌, ◌≤◌, ◌+◌, Err, Result, length, drop, take, get_or, sym, ap, ◌∙◌, arith}
+use Rattle.std.proofs.Common.{◌≡◌, ℕ, List, ◌<◌, ◌≤◌, ◌+◌, Err, Result, length, drop, take, get_or}
+use Rattle.std.proofs.Common.{sym, ap, ◌∙◌, arith}
 use Rattle.std.specs.Prelude.{string_bytes}
 use Rattle.std.specs.Str.Lines.{lines}
 use Rattle.std.proofs.lemmas.Result.{err_from_is_err_and}
@@ -9,7 +10,8 @@ use Rattle.codespan_renderer.specs.declared.term.renderer.Renderer.{Renderer}
 use Rattle.codespan_renderer.specs.Renderers.{Renders, config_of}
 use Rattle.codespan_picture.specs.RenderedRows.{note_stream, rendered_note}
 use Rattle.codespan_views.proofs.NoteRows.{notes-all, notes-cut, notes-next, stream_of_notes}
-use Rattle.codespan_views.proofs.RendererRuns.{renders_as, renders_cut, renders_nothing, renders_then}
+use Rattle.codespan_views.proofs.RendererRuns.{renders_as, renders_cut, renders_nothing}
+use Rattle.codespan_views.proofs.RendererRuns.{renders_then}
 use Rattle.codespan_views.proofs.parts.render_notes.Given.{Over}
 use Rattle.codespan_views.proofs.parts.render_notes.Goals.{After-render_snippet_note}
 use Rattle.codespan_views.proofs.parts.render_notes.Goals as goal

@@ -3,7 +3,8 @@ use Rattle.std.proofs.lemmas.Result.{err_from_is_err_and}
 use Rattle.codespan_picture.specs.Arguments.{locus_view}
 use Rattle.codespan_picture.specs.OutputStreams.{label_of}
 use Rattle.codespan_views.specs.Private.ViewRendering.{RendersPrimaryHeaders}
-use Rattle.codespan_views.proofs.LabelHeaders.{lookup_failed_one, secondary_one, written_one, write_failed_one}
+use Rattle.codespan_views.proofs.LabelHeaders.{lookup_failed_one, secondary_one, written_one}
+use Rattle.codespan_views.proofs.LabelHeaders.{write_failed_one}
 use Rattle.codespan_views.proofs.short.render_header_if_primary.Goals as goal
 
 pub returns-then-not-is_primary-clause-renders : goal.returns-then-not-is_primary-clause-renders

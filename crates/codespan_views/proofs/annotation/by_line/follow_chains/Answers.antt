@@ -1,4 +1,5 @@
-use Rattle.std.proofs.Common.{◌≡◌, ℕ, List, ◌<◌, ◌+◌, ◌==◌, ◌∙◌, ap, Bool, false, refl, sym, subst, arith, get_or, set, length}
+use Rattle.std.proofs.Common.{◌≡◌, ℕ, List, ◌<◌, ◌+◌, ◌==◌, ◌∙◌, ap, Bool, false, refl, sym, subst}
+use Rattle.std.proofs.Common.{arith, get_or, set, length}
 use Rattle.std.proofs.lemmas.Bool.{ne_eqb}
 use Rattle.std.proofs.lemmas.List.{length-append}
 use Rattle.codespan_views.specs.declared.annotation.by_line.TheConstants.{MOVED}

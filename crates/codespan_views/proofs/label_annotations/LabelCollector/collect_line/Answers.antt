@@ -10,9 +10,17 @@ use Rattle.codespan_picture.specs.declared.padding.PaddingWidth.{PaddingWidth}
 use Rattle.codespan_picture.specs.OutputStreams.{label_of}
 use Rattle.codespan_views.specs.Private.SourceFiles.{model_of}
 use Rattle.codespan_views.proofs.Collecting.{AppendsAnnotations-none, AppendsAnnotations-as}
-use Rattle.codespan_views.proofs.CollectedLines.{added-looked_up, far-spans, looked_up-around, looked_up-spanned, padding-spanned, padding-unspanned, succeeded-looked_up}
+use Rattle.codespan_views.proofs.CollectedLines.{added-looked_up, far-spans, looked_up-around}
+use Rattle.codespan_views.proofs.CollectedLines.{looked_up-spanned, padding-spanned}
+use Rattle.codespan_views.proofs.CollectedLines.{padding-unspanned, succeeded-looked_up}
 use Rattle.codespan_views.proofs.label_annotations.LabelCollector.collect_line.Given.{Over}
-use Rattle.codespan_views.proofs.label_annotations.LabelCollector.collect_line.Goals.{In_ok-push_line, then-is_far, else-is_far, then-is_spanned, else-is_spanned, else-not-is_spanned-via-then-not-is_spanned+else-not-is_around, else-not-is_spanned-via-else-not-is_spanned}
+use Rattle.codespan_views.proofs.label_annotations.LabelCollector.collect_line.Goals.{In_ok-push_line}
+use Rattle.codespan_views.proofs.label_annotations.LabelCollector.collect_line.Goals.{then-is_far}
+use Rattle.codespan_views.proofs.label_annotations.LabelCollector.collect_line.Goals.{else-is_far}
+use Rattle.codespan_views.proofs.label_annotations.LabelCollector.collect_line.Goals.{then-is_spanned}
+use Rattle.codespan_views.proofs.label_annotations.LabelCollector.collect_line.Goals.{else-is_spanned}
+use Rattle.codespan_views.proofs.label_annotations.LabelCollector.collect_line.Goals.{else-not-is_spanned-via-then-not-is_spanned+else-not-is_around}
+use Rattle.codespan_views.proofs.label_annotations.LabelCollector.collect_line.Goals.{else-not-is_spanned-via-else-not-is_spanned}
 use Rattle.codespan_views.proofs.label_annotations.LabelCollector.collect_line.Goals as goal
 
 pub returns-then-not-is_around-clause-added : goal.returns-then-not-is_around-clause-added

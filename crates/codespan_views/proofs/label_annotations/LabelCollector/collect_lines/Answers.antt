@@ -1,5 +1,6 @@
 use contract.Lifetimes.{Lfts}
-use Rattle.std.proofs.Common.{rules, ◌≡◌, ℕ, Bool, true, ◌&&◌, ◌+◌, ◌<◌, ◌≤◌, Some, Err, refl, ap, ◌∙◌, arith}
+use Rattle.std.proofs.Common.{rules, ◌≡◌, ℕ, Bool, true, ◌&&◌, ◌+◌, ◌<◌, ◌≤◌, Some, Err, refl, ap}
+use Rattle.std.proofs.Common.{◌∙◌, arith}
 use Rattle.std.proofs.lemmas.Bool.Decides.{nat_tests}
 use Rattle.std.proofs.lemmas.Result.{err_from_is_err_and}
 use Rattle.codespan_core.specs.Lemmas.Lines.{line_of_below}
@@ -8,9 +9,12 @@ use Rattle.codespan_views.specs.Private.LabelsToCollect.{label_of_collector}
 use Rattle.std.specs.Ordering.{nat_cmp, partial_le, partial_lt}
 use Rattle.codespan_views.specs.Private.LabelSpans.{IsFarInside}
 use Rattle.codespan_views.specs.Private.SourceFiles.{line_failure_unless_past_end}
-use Rattle.codespan_views.proofs.Contexts.{CollectsLabel, CollectsLines, HasEnds, collected-start, collected-context, collected-reach, collected-failed, collected-line}
+use Rattle.codespan_views.proofs.Contexts.{CollectsLabel, CollectsLines, HasEnds, collected-start}
+use Rattle.codespan_views.proofs.Contexts.{collected-context, collected-reach, collected-failed}
+use Rattle.codespan_views.proofs.Contexts.{collected-line}
 use Rattle.codespan_views.proofs.label_annotations.LabelCollector.collect_lines.Given.{Over}
-use Rattle.codespan_views.proofs.label_annotations.LabelCollector.collect_lines.Goals.{After-contains, Else-not-branch}
+use Rattle.codespan_views.proofs.label_annotations.LabelCollector.collect_lines.Goals.{After-contains}
+use Rattle.codespan_views.proofs.label_annotations.LabelCollector.collect_lines.Goals.{Else-not-branch}
 use Rattle.codespan_views.proofs.label_annotations.LabelCollector.collect_lines.Goals as goal
 
 -- its file has its first line and its last one

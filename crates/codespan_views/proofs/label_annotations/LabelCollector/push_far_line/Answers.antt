@@ -1,7 +1,8 @@
 use Rattle.std.proofs.Common.{sym, subst}
 use Rattle.codespan_views.specs.Private.LabelsToCollect.{label_of_collector}
 use Rattle.codespan_views.specs.Private.AnnotationViews.{IsLineOf}
-use Rattle.codespan_views.proofs.Collecting.{AppendsAnnotations-as, AppendsAnnotations-weaker, annotation_if_any-line, far-kind, far-multi_label}
+use Rattle.codespan_views.proofs.Collecting.{AppendsAnnotations-as, AppendsAnnotations-weaker}
+use Rattle.codespan_views.proofs.Collecting.{annotation_if_any-line, far-kind, far-multi_label}
 use Rattle.codespan_views.proofs.label_annotations.LabelCollector.push_far_line.Goals as goal
 
 pub returns-clause-added : goal.returns-clause-added

@@ -1,17 +1,30 @@
-use Rattle.std.proofs.Common.{◌≡◌, ◌==◌, ◌+◌, ◌-◌, ◌≤◌, ◌||◌, not, List, [], ◌∷◌, length, map, take, drop, Err, refl, sym, ap, ◌∙◌, arith}
+use Rattle.std.proofs.Common.{◌≡◌, ◌==◌, ◌+◌, ◌<◌, ◌||◌, not, rules, List, [], ◌∷◌, length, map}
+use Rattle.std.proofs.Common.{get_or, Err, refl, sym, ap, subst, ◌∙◌, arith}
 use Rattle.std.specs.Prelude.{nat_lt, string_bytes}
-use Rattle.std.proofs.Math.Nat.{add-sub_cancel_left}
 use Rattle.std.proofs.lemmas.Bool.{ne_eqb}
 use Rattle.std.proofs.lemmas.Result.{err_from_is_err_and}
-use Rattle.codespan_picture.specs.OutputStreams.{notes_of}
-use Rattle.codespan_picture.specs.Snippets.{has_any}
-use Rattle.codespan_views.specs.Views.{diagnostic_of}
-use Rattle.codespan_views.proofs.IndexedElements.{element-equal}
-use Rattle.codespan_views.proofs.PlannedFiles.{later-files, own-inside, own-snippet_lines}
-use Rattle.codespan_views.proofs.OutputPlanRendering.{cut-after_snippet, cut-in_snippet, left-end, left-start, next-file}
+use Rattle.codespan_picture.specs.OutputStreams.{labels_of, notes_of}
+use Rattle.codespan_picture.specs.Snippets.{has_any, labeled_file_model}
+use Rattle.codespan_views.specs.Private.AnnotationViews.{annotation_view}
+use Rattle.codespan_views.specs.Private.EarlyLookups.{known_numbers_of_labels}
+use Rattle.codespan_views.specs.Private.SnippetLines.{lines_of}
+use Rattle.codespan_views.specs.Views.{diagnostic_of, view_config_of}
+use Rattle.codespan_views.proofs.CollectedFiles.{IsFileOfLabels, file-at}
+use Rattle.codespan_views.proofs.FileLengths.{rest-sorted}
+use Rattle.codespan_views.proofs.FileSlices.{from_file-first, next_slice}
+use Rattle.codespan_views.proofs.FileTurns.{IsAtFile, next_inside, next_left, own_lines}
+use Rattle.codespan_views.proofs.FileTurns.{own_snippet_lines}
+use Rattle.codespan_views.proofs.LabelIndexing.{are-files}
 use Rattle.codespan_views.proofs.RendererRuns.{same_renderer, same_twice}
+use Rattle.codespan_views.proofs.SnippetsRendered.{cut-after_snippet, cut-at_source}
+use Rattle.codespan_views.proofs.SnippetsRendered.{cut-in_snippet, left-end, left-start, next-file}
+use Rattle.codespan_views.proofs.SnippetsRendered.{own-numbers, own-taken}
 use Rattle.codespan_views.proofs.rich.RichDiagnostic.render_snippets.Given.{Over}
-use Rattle.codespan_views.proofs.rich.RichDiagnostic.render_snippets.Goals.{After-deref, After-render_snippet, After-snippet_plan-item, then-notes_follow, else-notes_follow}
+use Rattle.codespan_views.proofs.rich.RichDiagnostic.render_snippets.Goals.{After-count_in_file-len}
+use Rattle.codespan_views.proofs.rich.RichDiagnostic.render_snippets.Goals.{After-deref-in-loop-index}
+use Rattle.codespan_views.proofs.rich.RichDiagnostic.render_snippets.Goals.{After-render_empty_row_after}
+use Rattle.codespan_views.proofs.rich.RichDiagnostic.render_snippets.Goals.{then-notes_follow}
+use Rattle.codespan_views.proofs.rich.RichDiagnostic.render_snippets.Goals.{else-notes_follow}
 use Rattle.codespan_views.proofs.rich.RichDiagnostic.render_snippets.Goals as goal
 
 -- there is an element where there is one that is mapped
@@ -20,7 +33,7 @@ any-mapped h [] = refl
 any-mapped h (x ∷ xs) = ap not (ne_eqb (length (x ∷ xs)) 0 (λ e. absurd (omega (arith, e))))
 
 -- the notes follow where there are any
-notes_known : (g : Over) (c : After-render_snippet g)
+notes_known : (g : Over) (c : After-render_empty_row_after g)
     → not c.is_empty-notes_follow.result ≡ has_any (notes_of (diagnostic_of c.args.self.now))
 notes_known g c =
     let notes = (diagnostic_of c.args.self.now).notes in
@@ -28,121 +41,172 @@ notes_known g c =
     ∙ any-mapped string_bytes notes.items
 
 -- notes or another file follow the snippet
-followed : (g : Over) (c : After-render_snippet g)
+followed : (g : Over) (c : After-render_empty_row_after g)
     → c.if-notes_follow.is_followed
     ≡ (has_any (notes_of (diagnostic_of c.args.self.now))
-    || nat_lt (c.loop-index.index + 1) (length c.args.output_plan.now.snippet_plans.items))
+    || nat_lt (c.loop-index.index + 1) (length c.args.collected.now.files.items))
 followed g c =
-    let snippet_plans = c.args.output_plan.now.snippet_plans in
-    let next = nat_lt (c.loop-index.index + 1) (length snippet_plans.items) in
+    let files = c.args.collected.now.files in
+    let next = nat_lt (c.loop-index.index + 1) (length files.items) in
     elim c.if-notes_follow.branch [
       | then-notes_follow w ↦ w.is_followed-is ∙ ap not w.if-notes_follow.true
           ∙ sym
           (ap (λ notes. notes || next)
           (sym (notes_known g c) ∙ ap not w.if-notes_follow.true))
       | else-notes_follow w ↦ w.is_followed-is
-          ∙ ap (nat_lt (c.loop-index.index + 1)) (w.len.ensures ∙ snippet_plans.ok.0)
+          ∙ ap (nat_lt (c.loop-index.index + 1)) (w.len.ensures ∙ files.ok.0)
           ∙ sym
           (ap (λ notes. notes || next)
           (sym (notes_known g c) ∙ ap not w.if-notes_follow.false))
     ]
 
 pub loop-index-init : goal.loop-index-init
-loop-index-init g c =
+loop-index-init g c = record {
+  inside = omega arith;
+  left = from_file-first (map annotation_view c.args.collected.now.annotations.items);
+  numbers =
+      c.new-buffers.ensures.numbers ∙ c.requires.numbers_are
+      ∙ ap
+      (known_numbers_of_labels (view_config_of c.args.self.now)
+      (g.F.Files.database c.args.files.now) (labels_of (diagnostic_of c.args.self.now)))
+      (sym c.requires.collected_is.files.ids_are);
+  same = same_renderer;
+  rendered = left-start;
+}
+
+pub count_in_file-len-requires : goal.count_in_file-len-requires
+count_in_file-len-requires g c =
+    rw c.deref.ensures.value
+    (rest-sorted c.args.collected.now.annotations.items c.loop-index.start
+    c.requires.collected_is.sorted)
+
+-- the loop is at a file, whose annotations are counted
+turn : (g : Over) (c : After-count_in_file-len g)
+    → IsAtFile c.args.collected.now.files.items c.args.collected.now.annotations.items
+    c.loop-index.start c.count_in_file-len.result c.loop-index.index c.labeled-item.result
+turn g c =
+    let own = c.labeled-item.result in
+    let k = c.loop-index.index in
     record {
-      same =
-          same_renderer;
-      files =
-          record { inside = omega arith; are = c.requires.snippet_plans_are };
-      left = left-start;
+      up = c.requires.collected_is.sorted;
+      inside = c.loop-index.invariant.inside;
+      left = c.loop-index.invariant.left;
+      counted = rw c.deref.ensures.value at c.count_in_file-len.ensures.value;
+      within = rw c.deref.ensures.value at c.count_in_file-len.ensures.within;
+      here = record {
+        inside =
+            subst (λ fs. k < length fs) c.deref-labeled-items.ensures.value c.loop-index-test.true;
+        is = c.labeled-item.is ∙ ap (λ fs. get_or fs k own) c.deref-labeled-items.ensures.value;
+      };
     }
 
--- the output plan has the lines of the file's snippet
-inside : (g : Over) (c : After-snippet_plan-item g)
-    → c.loop-index.start + c.snippet_plan-item.result.snippet_line_count
-    ≤ length c.args.output_plan.now.snippet_lines.items
-inside g c =
-    let at = element-equal c.deref-snippet_plan-items.ensures.value c.loop-index-test.true
-    c.snippet_plan-item.is in
-    own-inside at c.loop-index.invariant.files
+-- it is the file of its labels
+own-file : (g : Over) (c : After-deref-in-loop-index g)
+    → IsAtFile c.args.collected.now.files.items c.args.collected.now.annotations.items
+    c.loop-index.start c.count_in_file-len.result c.loop-index.index c.labeled-item.result
+    → let database = g.F.Files.database c.args.files.now in
+    let d = diagnostic_of c.args.self.now in
+    IsFileOfLabels (view_config_of c.args.self.now)
+    (labeled_file_model database.same database.file (labels_of d) c.labeled-item.result.file_id)
+    c.labeled-item.result
+    (lines_of (map annotation_view
+    (next_slice c.deref-in-loop-index.result.now c.loop-index.start c.count_in_file-len.result)))
+own-file g c at =
+    let laws = g.met.F.Files c.lifetimes (search rules) in
+    let files = c.args.files.now in
+    file-at
+    (are-files (laws.same_is_eq files) g.met.FileId.Eq.laws (laws.same_file files)
+    (laws.lawful files))
+    c.requires.collected_is at.here (own_snippet_lines at c.deref-in-loop-index.ensures.value)
 
-pub slice_bounds-snippet_lines-end : goal.slice_bounds-snippet_lines-end
-slice_bounds-snippet_lines-end g c =
-    omega (
-      arith,
-      inside g (goal.at.slice_bounds-snippet_lines-end g c).After-snippet_plan-item,
-      c.deref.ensures,
-    )
-
--- these are the lines from where it starts, as many as it has
-lines_are : (g : Over) (c : After-deref g)
-    → take (c.loop-index.start + c.snippet_plan-item.result.snippet_line_count - c.loop-index.start)
-    (drop c.loop-index.start c.deref.result.now)
-    ≡ take c.snippet_plan-item.result.snippet_line_count
-    (drop c.loop-index.start c.args.output_plan.now.snippet_lines.items)
-lines_are g c =
-    λ i. take
-    (add-sub_cancel_left c.loop-index.start c.snippet_plan-item.result.snippet_line_count i)
-    (drop c.loop-index.start (c.deref.ensures.value i))
-
-pub render_snippet-requires : goal.render_snippet-requires
-render_snippet-requires g c κs =
-    let at = element-equal c.deref-snippet_plan-items.ensures.value c.loop-index-test.true
-    c.snippet_plan-item.is in
-    let own = own-snippet_lines at c.loop-index.invariant.files (lines_are g (goal.at.render_snippet-requires g c).After-deref) in
-    ((refl, tt), record { each = own.each; in_order = rw own.lanes_are own.in_order })
-
-pub returns-in_err-render_snippet : goal.returns-in_err-render_snippet
-returns-in_err-render_snippet g c =
-    let at = element-equal c.deref-snippet_plan-items.ensures.value c.loop-index-test.true
-    c.snippet_plan-item.is in
-    let own = own-snippet_lines at c.loop-index.invariant.files (lines_are g (goal.at.returns-in_err-render_snippet g c).After-deref) in
+pub returns-in_err-source : goal.returns-in_err-source
+returns-in_err-source g c =
+    let places = goal.at.returns-in_err-source g c in
+    let at = turn g places.After-count_in_file-len in
+    let own = own-file g places.After-deref-in-loop-index at in
+    let was = c.loop-index.invariant in
     let p = err_from_is_err_and c.from_residual.result c.from_residual.ensures.1 in
     rw (p.1 ∙ ap Err p.2) (record {
-      same = same_twice c.loop-index.invariant.same c.in_err-render_snippet.ensures.same;
-      renders = cut-in_snippet c.requires c.loop-index.invariant.left at own
-          (followed g (goal.at.returns-in_err-render_snippet g c).After-render_snippet)
-          c.loop-index.invariant.same.config c.in_err-render_snippet.ensures.renders;
+      same = was.same;
+      renders = cut-at_source c.args.numbers.now c.requires was.rendered at.here own was.numbers
+          c.in_err-source.ensures.failed;
+    })
+
+pub render-requires : goal.render-requires
+render-requires g c κs =
+    let places = goal.at.render-requires g c in
+    let at = turn g places.After-count_in_file-len in
+    let own = own-file g places.After-deref-in-loop-index at in
+    let was = c.loop-index.invariant in (
+      (refl, (refl, tt)),
+      (
+        own_lines at c.deref-in-loop-index.ensures.value
+            (g.F.Files.database c.args.files.now).file c.requires.collected_is.lines,
+        record {
+          source = search rules;
+          in_order = rw own.lanes_are own.lines_are.in_order;
+          numbers_are = own-numbers c.args.numbers.now c.requires was.rendered at.here own
+              was.numbers;
+        },
+      ),
+    )
+
+pub returns-in_err-render : goal.returns-in_err-render
+returns-in_err-render g c =
+    let places = goal.at.returns-in_err-render g c in
+    let at = turn g places.After-count_in_file-len in
+    let own = own-file g places.After-deref-in-loop-index at in
+    let was = c.loop-index.invariant in
+    let p = err_from_is_err_and c.from_residual-in_err-render.result
+    c.from_residual-in_err-render.ensures.1 in
+    let part = c.in_err-render.ensures.renders in
+    rw (p.1 ∙ ap Err p.2) (record {
+      same = same_twice was.same part.same;
+      renders = cut-in_snippet c.args.numbers.now c.requires was.rendered at.here own was.numbers
+          c.in_ok-source.ensures.failed was.same.config part.renders;
     })
 
 pub returns-in_err-render_empty_row_after : goal.returns-in_err-render_empty_row_after
 returns-in_err-render_empty_row_after g c =
-    let at = element-equal c.deref-snippet_plan-items.ensures.value c.loop-index-test.true
-    c.snippet_plan-item.is in
-    let own = own-snippet_lines at c.loop-index.invariant.files (lines_are g (goal.at.returns-in_err-render_empty_row_after g c).After-deref) in
+    let places = goal.at.returns-in_err-render_empty_row_after g c in
+    let at = turn g places.After-count_in_file-len in
+    let own = own-file g places.After-deref-in-loop-index at in
+    let was = c.loop-index.invariant in
     let p = err_from_is_err_and c.from_residual-in_err-render_empty_row_after.result
     c.from_residual-in_err-render_empty_row_after.ensures.1 in
-    let was = c.loop-index.invariant.same in
-    let first = c.in_ok-render_snippet.ensures in
+    let first = c.in_ok-render.ensures.renders in
     let second = c.in_err-render_empty_row_after.ensures in
     rw (p.1 ∙ ap Err p.2) (record {
-      same = same_twice was (same_twice first.same second.same);
-      renders = cut-after_snippet c.requires c.loop-index.invariant.left at own
-          (followed g (goal.at.returns-in_err-render_empty_row_after g c).After-render_snippet)
-          was.config first.renders first.same.config second.writes second.io;
+      same = same_twice was.same (same_twice first.same second.same);
+      renders = cut-after_snippet c.args.numbers.now c.requires was.rendered at.here own
+          was.numbers c.in_ok-source.ensures.failed was.same.config first.renders
+          (followed g places.After-render_empty_row_after) first.same.config second.writes
+          second.io;
     })
 
 pub loop-index-preserved : goal.loop-index-preserved
 loop-index-preserved g c =
-    let at = element-equal c.deref-snippet_plan-items.ensures.value c.loop-index-test.true
-    c.snippet_plan-item.is in
-    let own = own-snippet_lines at c.loop-index.invariant.files (lines_are g (goal.at.loop-index-preserved g c).After-deref) in
-    let first = c.in_ok-render_snippet.ensures.same in
-    let second = c.in_ok-render_empty_row_after.ensures.same in
-    let was = c.loop-index.invariant.same in
+    let places = goal.at.loop-index-preserved g c in
+    let at = turn g places.After-count_in_file-len in
+    let own = own-file g places.After-deref-in-loop-index at in
+    let was = c.loop-index.invariant in
+    let first = c.in_ok-render.ensures in
+    let second = c.in_ok-render_empty_row_after.ensures in
     record {
-      same = same_twice was (same_twice first second);
-      files = later-files at c.loop-index.invariant.files;
-      left =
-          next-file c.requires c.loop-index.invariant.left at own
-          (followed g (goal.at.loop-index-preserved g c).After-render_snippet) was.config
-          c.in_ok-render_snippet.ensures.renders first.config c.in_ok-render_empty_row_after.ensures.writes;
+      inside = next_inside at;
+      left = next_left at;
+      numbers = own-taken c.args.numbers.now c.requires was.rendered at.here own was.numbers
+          first.numbers;
+      same = same_twice was.same (same_twice first.renders.same second.same);
+      rendered = next-file c.args.numbers.now c.requires was.rendered at.here own was.numbers
+          c.in_ok-source.ensures.failed was.same.config first.renders.renders
+          (followed g places.After-render_empty_row_after) first.renders.same.config second.writes;
     }
 
 pub returns : goal.returns
 returns g c = record {
   same = c.loop-index.invariant.same;
   renders =
-      left-end c.requires c.loop-index.invariant.left c.deref-snippet_plan-items.ensures.value
-      c.loop-index-test.false;
+      left-end c.args.numbers.now c.requires c.loop-index.invariant.rendered
+      c.deref-labeled-items.ensures.value c.loop-index-test.false;
 }

@@ -1,19 +1,27 @@
-use Rattle.codespan_renderer.specs.Renderers.{SameRenderer, config_of, writer_of}
+use Rattle.std.proofs.Common.{◌≡◌, ◌≤◌, drop, length, map}
+use Rattle.std.specs.Slice.Iter.{iter_rest}
 use Rattle.codespan_picture.specs.OutputStreams.{labels_of}
+use Rattle.codespan_renderer.specs.Renderers.{SameRenderer, config_of, writer_of}
+use Rattle.codespan_views.specs.Private.AnnotationViews.{annotation_view}
+use Rattle.codespan_views.specs.Private.EarlyLookups.{known_numbers_of_labels}
+use Rattle.codespan_views.specs.Private.LabeledFiles.{ids_view}
 use Rattle.codespan_views.specs.Views.{diagnostic_of, view_config_of}
-use Rattle.codespan_views.proofs.PlannedFiles.{AreFilesFrom}
-use Rattle.codespan_views.proofs.OutputPlanRendering.{SnippetsLeft}
+use Rattle.codespan_views.proofs.FileSlices.{from_file}
+use Rattle.codespan_views.proofs.SnippetsRendered.{SnippetsLeft}
 use Rattle.codespan_views.proofs.rich.RichDiagnostic.render_snippets.Given as goal
 
--- the files before this one have been rendered, and these snippet lines are those of it and of
--- later ones
+-- the files before this one have been rendered, and the annotations and the numbers that are left
+-- are those of it and of later ones
 abbrev pub invariant-loop-index : goal.invariant-loop-index
 invariant-loop-index g l = record {
+  inside : l.start ≤ length l.collected.annotations.items;
+  left : drop l.start (map annotation_view l.collected.annotations.items)
+      ≡ from_file l.index (map annotation_view l.collected.annotations.items);
+  numbers : iter_rest l.buffers.numbers
+      ≡ known_numbers_of_labels (view_config_of l.self) (g.F.Files.database l.files)
+      (labels_of (diagnostic_of l.self)) (drop l.index (ids_view l.collected.files.items));
   same : SameRenderer l.initial.renderer l.renderer;
-  files : AreFilesFrom (g.F.Files.database l.files) (view_config_of l.self)
-      (labels_of (diagnostic_of l.self)) l.output_plan.snippet_plans.items l.index
-      l.output_plan.snippet_lines.items l.start;
-  left : SnippetsLeft (g.F.Files.database l.files) l.self l.output_plan
+  rendered : SnippetsLeft (g.F.Files.database l.files) l.self l.collected
       (config_of l.initial.renderer) l.index
       (g.W.WriteStyle.sink (writer_of l.initial.renderer))
       (g.W.WriteStyle.sink (writer_of l.renderer));

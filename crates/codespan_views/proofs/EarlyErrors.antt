@@ -1,0 +1,55 @@
+-- What fails the lookups before the header: those of the labels, and then those of filled lines and
+-- of loci. For the clause `renders` of `RichDiagnostic::render_labels`.
+use Rattle.std.proofs.Common.{◌≡◌, List, ◌++◌, Option, Some, None, ◌∙◌, ap, append_assoc, flat_map}
+use Rattle.codespan_core.specs.declared.files.Error.{Error}
+use Rattle.codespan_core.specs.declared.term.config.Config.{Config}
+use Rattle.codespan_core.specs.FileModel.{FileDatabase, Lookup, or_failure}
+use Rattle.codespan_picture.specs.Lookups.{early_lookups, first_error, label_lookups}
+use Rattle.codespan_picture.specs.Lookups.{locus_lookups, lookups_of_file, numbers_for_padding}
+use Rattle.codespan_picture.specs.Snippets.{LabelInFile, file_ids}
+use Rattle.codespan_views.specs.Private.LabelsToCollect.{labels_failure}
+use Rattle.codespan_views.proofs.FirstErrors.{first_error-append}
+
+module _ {Id : Type 0} (database : FileDatabase Id) (config : Config)
+    (xs : List (LabelInFile Id)) where
+  -- the lookups of the numbers of filled lines, where they are made before the header
+  abbrev pub number_lookups_of_labels : List (Id × Lookup)
+  number_lookups_of_labels =
+      flat_map (λ id. lookups_of_file id (numbers_for_padding database xs config config.layout id))
+      (file_ids database.same xs)
+
+  -- those of names and locations
+  abbrev pub locus_lookups_of_labels : List (Id × Lookup)
+  locus_lookups_of_labels =
+      flat_map (λ id. lookups_of_file id (locus_lookups database xs id))
+      (file_ids database.same xs)
+
+  -- what these fail with
+  abbrev failed : List (Id × Lookup) → Option Error
+  failed = first_error database.failure
+
+  -- both, which come after those of the labels
+  abbrev pub later_failure : Option Error
+  later_failure = failed (number_lookups_of_labels ++ locus_lookups_of_labels)
+
+  -- all lookups before the header
+  abbrev early : List (Id × Lookup)
+  early = early_lookups database xs config
+
+  -- the lookups of the labels come first, and then those of the files
+  early-is : failed early ≡ or_failure (labels_failure config database xs) later_failure
+  early-is =
+      let of_labels = label_lookups config database xs in
+      ap failed (append_assoc of_labels number_lookups_of_labels locus_lookups_of_labels)
+      ∙ first_error-append database.failure of_labels
+      (number_lookups_of_labels ++ locus_lookups_of_labels)
+
+  -- a lookup of a label fails
+  pub labels-failed : (e : Error) → labels_failure config database xs ≡ Some e
+      → failed early ≡ Some e
+  labels-failed e known = early-is ∙ ap (λ (o : Option Error). or_failure o later_failure) known
+
+  -- the labels' lookups succeed, and the files' decide the rest
+  pub labels-succeeded : labels_failure config database xs ≡ None → failed early ≡ later_failure
+  labels-succeeded succeeded =
+      early-is ∙ ap (λ (o : Option Error). or_failure o later_failure) succeeded

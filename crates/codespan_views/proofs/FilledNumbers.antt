@@ -1,0 +1,159 @@
+-- The known numbers of filled lines, taken one after another, and what is between two shown lines:
+-- for the clauses of `render_lines` and `render_snippets`.
+use Rattle.std.proofs.Common.{◌≡◌, ℕ, zero, suc, ◌+◌, ◌-◌, ◌<◌, List, [], ◌∷◌, ◌++◌, length, drop}
+use Rattle.std.proofs.Common.{Bor, Option, Some, None, refl, sym, subst, ap, ◌∙◌, arith}
+use Rattle.std.proofs.Common.{append_assoc}
+use Rattle.std.specs.Prelude.{flat_map, slice_get}
+use Rattle.std.proofs.lemmas.Grind.{flat_map-append}
+use Rattle.std.proofs.lemmas.List.{drop-drop, nil_from_length}
+use Rattle.std.specs.Option.{option_copied}
+use Rattle.std.specs.Slice.Iter.{iter_rest, iter_steps}
+use Rattle.std.specs.declared.slice.Iter.{Iter}
+use Rattle.codespan_core.specs.declared.term.config.Layout.{Layout}
+use Rattle.codespan_core.specs.declared.term.config.Layout.TheVariants.{Classic, Unbroken}
+use Rattle.codespan_core.specs.FileModel.{FileModel, Lookup}
+use Rattle.codespan_picture.specs.Lookups.{filled_line_lookups}
+use Rattle.codespan_views.specs.Private.Annotations.{Annotation}
+use Rattle.codespan_views.specs.Private.EarlyLookups.{known_numbers}
+use Rattle.codespan_views.specs.Private.FilledLines.{AreNumbersOf, gap_lines, lookups_with}
+use Rattle.codespan_views.specs.Private.SnippetLines.{Break, Filled, SnippetLine}
+use Rattle.codespan_views.specs.Private.SnippetLines.{filled_line_of, filled_lines_of}
+use Rattle.codespan_views.specs.Private.SourceFiles.{lookups_of_filled}
+
+-- ---- what is between two shown lines
+
+module _ (hidden next : List Annotation) (d : ℕ) where
+  -- one line
+  pub gap-filled : (n : ℕ) → n ≡ 1 → gap_lines hidden next d n ≡ Filled (d - 1) hidden ∷ []
+  gap-filled n is = ap (gap_lines hidden next d) is
+
+  -- more
+  pub gap-break : (n : ℕ) → 1 < n → gap_lines hidden next d n ≡ Break next ∷ []
+  gap-break zero more = absurd (omega arith)
+  gap-break (suc zero) more = absurd (omega arith)
+  gap-break (suc (suc n)) more = refl
+
+  -- none
+  pub gap-none : (n : ℕ) → n < 1 → gap_lines hidden next d n ≡ []
+  gap-none zero none = refl
+  gap-none (suc n) none = absurd (omega arith)
+
+-- ---- numbers of lines, and then of others
+
+-- the filled lines of snippet lines, one after another
+pub filled-append : (xs ys : List SnippetLine)
+    → filled_lines_of (xs ++ ys) ≡ filled_lines_of xs ++ filled_lines_of ys
+filled-append xs ys = flat_map-append filled_line_of xs ys
+
+-- numbers are left out one after another
+drop-one_more : (n : ℕ) (numbers : List ℕ) → drop n (drop 1 numbers) ≡ drop (suc n) numbers
+drop-one_more n numbers = let e : 1 + n ≡ suc n = omega arith in
+    drop-drop n 1 numbers ∙ ap (λ k. drop k numbers) e
+
+-- the lookups of some filled lines, and then of others
+pub lookups_with-append : (numbers ls ms : List ℕ)
+    → lookups_with numbers (ls ++ ms) ≡ lookups_with numbers ls
+    ++ lookups_with (drop (length ls) numbers) ms
+lookups_with-append numbers [] ms = refl
+lookups_with-append numbers (l ∷ ls) ms =
+    let here = lookups_of_filled (slice_get numbers 0) l in
+    let own = lookups_with (drop 1 numbers) ls in
+    ap (λ (r : List Lookup). here ++ r)
+    (lookups_with-append (drop 1 numbers) ls ms
+    ∙ ap (λ (ns : List ℕ). own ++ lookups_with ns ms) (drop-one_more (length ls) numbers))
+    ∙ sym (append_assoc here own (lookups_with (drop (suc (length ls)) numbers) ms))
+
+-- the known numbers of some lines and of others, without those of the first, are those of the
+-- others
+pub numbers-later : (f : FileModel) (numbers ls ms : List ℕ) → AreNumbersOf f numbers (ls ++ ms)
+    → AreNumbersOf f (drop (length ls) numbers) ms
+numbers-later f numbers [] ms are = are
+numbers-later f numbers (l ∷ ls) ms are =
+    subst (λ (ns : List ℕ). AreNumbersOf f ns ms) (drop-one_more (length ls) numbers)
+    (numbers-later f (drop 1 numbers) ls ms are.1)
+
+-- ---- the numbers that a layout knows
+
+-- in the classic layout no number is left
+abbrev pub IsLaterIn : Layout → List ℕ → Type 0
+IsLaterIn Classic later = later ≡ []
+IsLaterIn Unbroken later = Unit {0}
+
+-- so without numbers none is left of them
+drop-nothing : (n : ℕ) → drop {A = ℕ} n [] ≡ []
+drop-nothing zero = refl
+drop-nothing (suc n) = refl
+
+module _ (f : FileModel) where
+  -- the lookups of lines of which no number is known
+  lookups-unknown : (ls : List ℕ) → lookups_with [] ls ≡ flat_map (filled_line_lookups Classic) ls
+  lookups-unknown [] = refl
+  lookups-unknown (l ∷ ls) =
+      ap (λ (r : List Lookup). lookups_of_filled None l ++ r) (lookups-unknown ls)
+
+  -- and of lines of which all are
+  lookups-all : (ls later : List ℕ)
+      → lookups_with (known_numbers Unbroken f ls ++ later) ls
+      ≡ flat_map (filled_line_lookups Unbroken) ls
+  lookups-all [] later = refl
+  lookups-all (l ∷ ls) later =
+      ap (λ (r : List Lookup). lookups_of_filled (Some (f.line_number l)) l ++ r)
+      (lookups-all ls later)
+
+  -- the lookups of lines in a layout
+  pub lookups-known : (layout : Layout) (ls later : List ℕ) → IsLaterIn layout later
+      → lookups_with (known_numbers layout f ls ++ later) ls
+      ≡ flat_map (filled_line_lookups layout) ls
+  lookups-known Classic ls later none =
+      ap (λ (ns : List ℕ). lookups_with ns ls) none ∙ lookups-unknown ls
+  lookups-known Unbroken ls later none = lookups-all ls later
+
+  -- the numbers that are known are theirs
+  none-known : (ls : List ℕ) → AreNumbersOf f [] ls
+  none-known [] = tt
+  none-known (l ∷ ls) = (tt, none-known ls)
+
+  all-known : (ls later : List ℕ) → AreNumbersOf f (known_numbers Unbroken f ls ++ later) ls
+  all-known [] later = tt
+  all-known (l ∷ ls) later = (refl, all-known ls later)
+
+  pub are-known : (layout : Layout) (ls later : List ℕ) → IsLaterIn layout later
+      → AreNumbersOf f (known_numbers layout f ls ++ later) ls
+  are-known Classic ls later none =
+      subst (λ (ns : List ℕ). AreNumbersOf f ns ls) (sym none) (none-known ls)
+  are-known Unbroken ls later none = all-known ls later
+
+  -- and the later ones are left
+  all-taken : (ls later : List ℕ)
+      → drop (length ls) (known_numbers Unbroken f ls ++ later) ≡ later
+  all-taken [] later = refl
+  all-taken (l ∷ ls) later = all-taken ls later
+
+  pub later-known : (layout : Layout) (ls later : List ℕ) → IsLaterIn layout later
+      → drop (length ls) (known_numbers layout f ls ++ later) ≡ later
+  later-known Classic ls later none =
+      ap (drop (length ls)) none ∙ drop-nothing (length ls) ∙ sym none
+  later-known Unbroken ls later none = all-taken ls later
+
+-- ---- the next known number, of an iterator
+
+module _ (s t : Iter ℕ) (r : Option (Bor ℕ)) (steps : iter_steps s r t) where
+  -- it is the first one that is left, if there is one
+  pub next-number : option_copied r ≡ slice_get (iter_rest s) 0
+  next-number = by_result r steps
+    where
+      by_result : (o : Option (Bor ℕ)) → iter_steps s o t
+          → option_copied o ≡ slice_get (iter_rest s) 0
+      by_result None none =
+          ap (λ (ns : List ℕ). slice_get ns 0) (sym (nil_from_length (iter_rest s) none.0))
+      by_result (Some x) first = ap (λ (ns : List ℕ). slice_get ns 0) (sym first)
+
+  -- and the others are left
+  pub next-left : iter_rest t ≡ drop 1 (iter_rest s)
+  next-left = by_result r steps
+    where
+      by_result : (o : Option (Bor ℕ)) → iter_steps s o t → iter_rest t ≡ drop 1 (iter_rest s)
+      by_result None none =
+          ap iter_rest none.1 ∙ nil_from_length (iter_rest s) none.0
+          ∙ ap (drop 1) (sym (nil_from_length (iter_rest s) none.0))
+      by_result (Some x) first = ap (drop 1) (sym first)

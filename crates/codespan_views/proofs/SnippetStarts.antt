@@ -1,0 +1,115 @@
+-- The byte of a file's locus, by the least starts of its labels, is that of the definitions: for
+-- the clauses of `render_labels`.
+use Rattle.std.proofs.Common.{◌≡◌, ℕ, Bool, true, false, cond, ◌&&◌, List, [], ◌∷◌, map, filter}
+use Rattle.std.proofs.Common.{Option, Some, None, refl, sym, ap, ◌∙◌}
+use Rattle.std.specs.Prelude.{unwrap_or}
+use Rattle.codespan_core.specs.FileModel.{FileModel}
+use Rattle.codespan_core.specs.Labels.{LabelModel, is_primary}
+use Rattle.codespan_picture.specs.Snippets.{LabelInFile, if_any, labeled_file_model, least}
+use Rattle.codespan_picture.specs.Snippets.{locus_byte_of}
+use Rattle.codespan_views.specs.Private.LocusBytes.{file_least_starts, is_locus_label, least_if_any}
+use Rattle.codespan_views.specs.Private.LocusBytes.{locus_byte, label_starts}
+
+-- the least of some numbers is that of those that there are
+least-unwrap : (ns : List ℕ) → unwrap_or (least_if_any ns) 0 ≡ least ns
+least-unwrap [] = refl
+least-unwrap (n ∷ ns) = refl
+
+module _ {Id : Type 0} (same : Id → Id → Bool) (file : Id → FileModel) (id : Id) where
+  -- the starts of the primary labels of the file
+  primary-starts : (xs : List (LabelInFile Id))
+      → label_starts same id true xs ≡ map (λ (x : LabelModel). x.start)
+      (filter is_primary (labeled_file_model same file xs id).labels)
+  primary-starts [] = refl
+  primary-starts (x ∷ xs) = by (same id x.file_id) (primary-starts xs)
+    where
+      own : List (LabelInFile Id)
+      own = filter (λ (y : LabelInFile Id). same id y.file_id) xs
+
+      candidates : List (LabelInFile Id)
+      candidates = filter (is_locus_label same id true) xs
+
+      unchanged : (c : Bool)
+          → label_starts same id true xs ≡ map (λ (y : LabelModel). y.start)
+          (filter is_primary (labeled_file_model same file xs id).labels)
+          → map (λ (y : LabelInFile Id). y.label.start) (cond c (x ∷ candidates) candidates)
+          ≡ map (λ (y : LabelModel). y.start)
+          (cond c (x.label ∷ filter is_primary (map (λ (y : LabelInFile Id). y.label) own))
+          (filter is_primary (map (λ (y : LabelInFile Id). y.label) own)))
+      unchanged true rest = ap (λ (ns : List ℕ). x.label.start ∷ ns) rest
+      unchanged false rest = rest
+
+      by : (b : Bool)
+          → label_starts same id true xs ≡ map (λ (y : LabelModel). y.start)
+          (filter is_primary (labeled_file_model same file xs id).labels)
+          → map (λ (y : LabelInFile Id). y.label.start)
+          (cond (b && is_primary x.label) (x ∷ candidates) candidates)
+          ≡ map (λ (y : LabelModel). y.start)
+          (filter is_primary (map (λ (y : LabelInFile Id). y.label) (cond b (x ∷ own) own)))
+      by true rest = unchanged (is_primary x.label) rest
+      by false rest = rest
+
+  -- the starts of all its labels
+  all-starts : (xs : List (LabelInFile Id))
+      → label_starts same id false xs ≡ map (λ (x : LabelModel). x.start)
+      (labeled_file_model same file xs id).labels
+  all-starts [] = refl
+  all-starts (x ∷ xs) = by (same id x.file_id) (all-starts xs)
+    where
+      by : (b : Bool)
+          → label_starts same id false xs ≡ map (λ (x : LabelModel). x.start)
+          (labeled_file_model same file xs id).labels
+          → map (λ (x : LabelInFile Id). x.label.start)
+          (cond (b && true) (x ∷ filter (is_locus_label same id false) xs)
+          (filter (is_locus_label same id false) xs))
+          ≡ map (λ (x : LabelModel). x.start)
+          (map (λ (x : LabelInFile Id). x.label)
+          (cond b (x ∷ filter (λ (x : LabelInFile Id). same id x.file_id) xs)
+          (filter (λ (x : LabelInFile Id). same id x.file_id) xs)))
+      by true rest = ap (λ (ns : List ℕ). x.label.start ∷ ns) rest
+      by false rest = rest
+
+  -- the least start of a primary label, where there is one
+  locus-primary : (xs : List (LabelInFile Id)) (n : ℕ)
+      → least_if_any (label_starts same id true xs) ≡ Some n
+      → n ≡ locus_byte_of (labeled_file_model same file xs id).labels
+  locus-primary xs n is =
+      by (filter is_primary labels) (ap least_if_any (sym (primary-starts xs)) ∙ is)
+    where
+      labels : List LabelModel
+      labels = (labeled_file_model same file xs id).labels
+
+      by : (ls : List LabelModel) → least_if_any (map (λ (x : LabelModel). x.start) ls) ≡ Some n
+          → n ≡ least (map (λ (x : LabelModel). x.start) (if_any ls labels))
+      by [] h = cc
+      by (l ∷ ls) h = cc
+
+  -- or that of any label
+  locus-any : (xs : List (LabelInFile Id)) (n : ℕ) → least_if_any (label_starts same id true xs) ≡ None
+      → n ≡ unwrap_or (least_if_any (label_starts same id false xs)) 0
+      → n ≡ locus_byte_of (labeled_file_model same file xs id).labels
+  locus-any xs n none is =
+      is ∙ ap (λ (ns : List ℕ). unwrap_or (least_if_any ns) 0) (all-starts xs)
+      ∙ least-unwrap (map (λ (x : LabelModel). x.start) labels)
+      ∙ by (filter is_primary labels) (ap least_if_any (sym (primary-starts xs)) ∙ none)
+    where
+      labels : List LabelModel
+      labels = (labeled_file_model same file xs id).labels
+
+      by : (ls : List LabelModel) → least_if_any (map (λ (x : LabelModel). x.start) ls) ≡ None
+          → least (map (λ (x : LabelModel). x.start) labels) ≡ least
+          (map (λ (x : LabelModel). x.start) (if_any ls labels))
+      by [] h = refl
+      by (l ∷ ls) h = cc
+
+  -- the start by the labels is where the snippet starts
+  pub start-is : (xs : List (LabelInFile Id))
+      → locus_byte (file_least_starts same xs id) ≡ locus_byte_of
+      (labeled_file_model same file xs id).labels
+  start-is xs = by (least_if_any (label_starts same id true xs)) refl
+    where
+      by : (o : Option ℕ) → least_if_any (label_starts same id true xs) ≡ o
+          → unwrap_or o (unwrap_or (least_if_any (label_starts same id false xs)) 0)
+          ≡ locus_byte_of (labeled_file_model same file xs id).labels
+      by (Some n) is = locus-primary xs n is
+      by None is = locus-any xs _ is refl
