@@ -6,32 +6,30 @@ from tree import TreeCase
 CODE = 'crates/one/src/lib.rt'
 SPECS = 'crates/one/specs/Sums.antt'
 LONG = 'n ≡ ' + 'm + ' * 30 + 'm'
+MODULE = 'Rattle.one.specs.declared.' + 'far.' * 20 + 'Sums'
 
 
 class CheckWidth(TreeCase):
     TOOLS = ('check-width',)
     FILES = {
         CODE: f'''\
-//! Code, comments and bodies are as wide as they have to be: {LONG}.
-ghost use Rattle.one.specs.Sums.{{{', '.join(f'name_{it}' for it in range(20))}}};
-
-pub trait Counted {{
-    ghost fn count(self) -> ℕ;
-}}
+//! Sums.
+ghost use {MODULE}.{{sum}};
 
 /// Returns the sum.
+#[tactic(auto, using(crate::proofs::Sums::sums), unfolding({', '.join(f'crate::specs::Sums::sum_{it}' for it in range(9))}))]
 fn sum(n: usize) -> usize
     requires small {{ n ≤ 10
         × n ≥ 1 }}
     ensures {{ result ≡ n }}
 {{
-    each(|it| -> usize ensures {{ result ≡ it }} {{ it }});
-    let sum = {LONG};
-    sum
+    let text =
+        "{LONG}";
+    n
 }}
 ''',
         SPECS: f'''\
-use Rattle.std.specs.Prelude.{{{', '.join(f'name_{it}' for it in range(20))}}}
+use {MODULE}.{{sum}}
 
 -- the sum
 pub sum : ℕ → ℕ
@@ -48,7 +46,7 @@ name =
         """Asserts that the tool finds the line of this number, which is this one, and no other."""
         self.assertEqual(self.text(path).split('\n')[number - 1], line)
         self.assert_finds(f'{path}:{number}: {len(line)} columns')
-        self.assertEqual(self.run_tool()[2], 'check-width: 1 lines of clauses and definitions are wider than 100 columns\n')
+        self.assertEqual(self.run_tool()[2], 'check-width: 1 lines of src/ and specs/ are wider than 100 columns\n')
 
     def test_sound(self):
         self.assert_passes()
@@ -62,23 +60,23 @@ name =
         line = '    ensures { result ≡ n }'
         wide = line.replace('n }', 'n' * (101 - len(line) + 1) + ' }')
         self.change(CODE, line, wide)
-        self.assert_finds_line(CODE, 12, wide)
-
-    def test_requires(self):
-        self.change(CODE, '{ n ≤ 10', f'{{ {LONG}')
-        self.assert_finds_line(CODE, 10, f'    requires small {{ {LONG}')
+        self.assert_finds_line(CODE, 9, wide)
 
     def test_second_line_of_a_clause(self):
         self.change(CODE, '× n ≥ 1', f'× {LONG}')
-        self.assert_finds_line(CODE, 11, f'        × {LONG} }}')
+        self.assert_finds_line(CODE, 8, f'        × {LONG} }}')
 
-    def test_ghost_member(self):
-        self.change(CODE, '-> ℕ;', f'-> {LONG};')
-        self.assert_finds_line(CODE, 5, f'    ghost fn count(self) -> {LONG};')
+    def test_comment(self):
+        self.change(CODE, '//! Sums.', f'//! Sums: {LONG}.')
+        self.assert_finds_line(CODE, 1, f'//! Sums: {LONG}.')
 
-    def test_clause_of_a_closure(self):
-        self.change(CODE, '{ result ≡ it }', f'{{ {LONG} }}')
-        self.assert_finds_line(CODE, 14, f'    each(|it| -> usize ensures {{ {LONG} }} {{ it }});')
+    def test_body(self):
+        self.change(CODE, '    n\n}', f'    {LONG}\n}}')
+        self.assert_finds_line(CODE, 13, f'    {LONG}')
+
+    def test_import_of_two_names(self):
+        self.change(CODE, '{sum};', '{sum, name};')
+        self.assert_finds_line(CODE, 2, f'ghost use {MODULE}.{{sum, name}};')
 
     def test_definition(self):
         self.change(SPECS, 'sum n = n', f'sum n = {LONG}')
@@ -87,6 +85,10 @@ name =
     def test_comment_of_a_definition(self):
         self.change(SPECS, '-- the sum', f'-- the sum {LONG}')
         self.assert_finds_line(SPECS, 3, f'-- the sum {LONG}')
+
+    def test_import_of_two_names_by_a_definition(self):
+        self.change(SPECS, '{sum}', '{sum, name}')
+        self.assert_finds_line(SPECS, 1, f'use {MODULE}.{{sum, name}}')
 
     def test_text_with_more_in_its_line(self):
         self.change(SPECS, 'name =\n    codes', 'name = codes')

@@ -31,7 +31,8 @@ impl<'text> Copying<'text> {
 impl<'a, 'text: 'a> Files<'a> for Copying<'text> {
     ghost use Rattle.codespan_base.specs.SimpleFileViews.{name_of, source_of};
     ghost use Rattle.codespan_base.specs.SimpleModel.{simple_file, simple_failure};
-    ghost use Rattle.codespan_base.specs.Lemmas.Simple.{simple_lawful, simple_past_last_line, text_fits, text_is_utf8};
+    ghost use Rattle.codespan_base.specs.Lemmas.Simple.{simple_lawful, simple_past_last_line};
+    ghost use Rattle.codespan_base.specs.Lemmas.Simple.{text_fits, text_is_utf8};
 
     type FileId = ();
 

@@ -1,6 +1,7 @@
 //! The views and the emit calls, each over each worked output.
 
-ghost use Rattle.std.specs.Prelude.{◌≡◌, ◌++◌, ℕ, List, IfOk, IsOk, IsErrAnd, IsErrOf, IsTrue, codes, string_bytes, false, true};
+ghost use Rattle.std.specs.Prelude.{◌≡◌, ◌++◌, ℕ, List, IfOk, IsOk, IsErrAnd, IsErrOf, IsTrue};
+ghost use Rattle.std.specs.Prelude.{codes, string_bytes, false, true};
 ghost use Rattle.codespan_base.specs.Errors.{IsIo};
 
 use crate::copying::Copying;

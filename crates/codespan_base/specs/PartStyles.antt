@@ -1,11 +1,13 @@
 -- The styles of the parts of the output, and of severities and labels.
 use Rattle.std.specs.Prelude.{true, false, Option, Some, None}
 use Rattle.codespan_core.specs.declared.diagnostic.Severity.{Severity}
-use Rattle.codespan_core.specs.declared.diagnostic.Severity.TheVariants.{Bug, Error, Warning, Note, Help}
+use Rattle.codespan_core.specs.declared.diagnostic.Severity.TheVariants.{Bug, Error, Warning, Note}
+use Rattle.codespan_core.specs.declared.diagnostic.Severity.TheVariants.{Help}
 use Rattle.codespan_core.specs.declared.diagnostic.LabelStyle.{LabelStyle}
 use Rattle.codespan_core.specs.declared.diagnostic.LabelStyle.TheVariants.{Primary, Secondary}
 use Rattle.codespan_base.specs.declared.term.config.color.Color.{Color}
-use Rattle.codespan_base.specs.declared.term.config.color.Color.TheVariants.{Red, Green, Yellow, Cyan}
+use Rattle.codespan_base.specs.declared.term.config.color.Color.TheVariants.{Red, Green, Yellow}
+use Rattle.codespan_base.specs.declared.term.config.color.Color.TheVariants.{Cyan}
 use Rattle.codespan_base.specs.declared.term.config.color.ColorSpec.{ColorSpec}
 use Rattle.codespan_base.specs.declared.term.config.styles.Styles.{Styles}
 

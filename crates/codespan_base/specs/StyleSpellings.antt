@@ -1,11 +1,18 @@
 -- The styles of the parts of the output, and how each style mark is spelled in them.
-pub use Rattle.codespan_base.specs.PartStyles.{bold_intense, colored, default_styles, header_color_spec, label_color_spec, no_color_styles, unset}
+pub use Rattle.codespan_base.specs.PartStyles.{bold_intense, colored, default_styles}
+pub use Rattle.codespan_base.specs.PartStyles.{header_color_spec, label_color_spec, no_color_styles}
+pub use Rattle.codespan_base.specs.PartStyles.{unset}
 use Rattle.std.specs.Prelude.{ℕ, List}
 use Rattle.codespan_base.specs.declared.term.config.color.ColorSpec.{ColorSpec}
 use Rattle.codespan_base.specs.declared.term.config.styles.Styles.{Styles}
 use Rattle.codespan_core.specs.Streams.{Spelling}
 use Rattle.codespan_core.specs.declared.term.config.style_mark.StyleMark.{StyleMark}
-use Rattle.codespan_core.specs.declared.term.config.style_mark.StyleMark.TheVariants.{Header, HeaderMessage, LineNumber, NoteBullet, SourceBorder, Label, Reset}
+use Rattle.codespan_core.specs.declared.term.config.style_mark.StyleMark.TheVariants.{Header}
+use Rattle.codespan_core.specs.declared.term.config.style_mark.StyleMark.TheVariants.{HeaderMessage}
+use Rattle.codespan_core.specs.declared.term.config.style_mark.StyleMark.TheVariants.{LineNumber}
+use Rattle.codespan_core.specs.declared.term.config.style_mark.StyleMark.TheVariants.{NoteBullet}
+use Rattle.codespan_core.specs.declared.term.config.style_mark.StyleMark.TheVariants.{SourceBorder}
+use Rattle.codespan_core.specs.declared.term.config.style_mark.StyleMark.TheVariants.{Label, Reset}
 use Rattle.codespan_base.specs.Ansi.{ansi_reset, ansi_style}
 
 -- how a writer of colors spells a style mark, where `style_bytes` is its bytes for each style, and

@@ -6,7 +6,8 @@
 ghost use Rattle.std.specs.Prelude.{◌≡◌, ℕ, List, Option};
 ghost use Rattle.std.specs.Iterator.{IsFinite, Drains};
 ghost use Rattle.std.specs.Str.{IsUtf8};
-ghost use Rattle.codespan_base.specs.FileLaws.{LinesJoin, LineCountsNewlines, ColumnsNeverDecrease, nearest_set_after};
+ghost use Rattle.codespan_base.specs.FileLaws.{LinesJoin, LineCountsNewlines, ColumnsNeverDecrease};
+ghost use Rattle.codespan_base.specs.FileLaws.{nearest_set_after};
 ghost use Rattle.codespan_base.specs.MappedModel.{nearest_set, with_set_number};
 ghost use Rattle.codespan_base.specs.SetLineNumbers.{IsStrictlySorted};
 ghost use Rattle.codespan_core.specs.LineStarts.{remaining_starts};

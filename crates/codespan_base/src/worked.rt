@@ -2,13 +2,17 @@
 //! definitions compute to.
 #![tactic(auto, unfolding(crate::specs::FileDefinitions::file_definitions))]
 
-ghost use Rattle.std.specs.Prelude.{◌≡◌, ◌^◌, ◌-◌, [], ◌∷◌, map, codes, encode_utf8_all, Some, None};
+ghost use Rattle.std.specs.Prelude.{◌≡◌, ◌^◌, ◌-◌, [], ◌∷◌, map, codes, encode_utf8_all, Some};
+ghost use Rattle.std.specs.Prelude.{None};
 ghost use Rattle.codespan_core.specs.FileModel.{line_of, line_text};
 ghost use Rattle.codespan_core.specs.FileModel.Lookup.{Source, LineNumber, LineRange};
 ghost use Rattle.codespan_core.specs.Lines.{line_starts_of, column_index_of};
-ghost use Rattle.codespan_core.specs.SimpleModel.{simple_file, simple_failure, past_last_line_failure, missing_failure};
-ghost use Rattle.codespan_base.specs.MappedModel.{with_set_number, number_from, nearest_set, mapped_failure};
-ghost use Rattle.codespan_core.specs.declared.files.error.Error.TheVariants.{FileMissing, LineTooLarge};
+ghost use Rattle.codespan_core.specs.SimpleModel.{simple_file, simple_failure};
+ghost use Rattle.codespan_core.specs.SimpleModel.{past_last_line_failure, missing_failure};
+ghost use Rattle.codespan_base.specs.MappedModel.{with_set_number, number_from, nearest_set};
+ghost use Rattle.codespan_base.specs.MappedModel.{mapped_failure};
+ghost use Rattle.codespan_core.specs.declared.files.error.Error.TheVariants.{FileMissing};
+ghost use Rattle.codespan_core.specs.declared.files.error.Error.TheVariants.{LineTooLarge};
 
 /// Computes columns, which count the characters from the line's start to the byte, and lines, which
 /// start after newlines.

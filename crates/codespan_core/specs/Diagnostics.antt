@@ -8,7 +8,8 @@ use Rattle.codespan_core.specs.declared.diagnostic.LabelStyle.{LabelStyle}
 use Rattle.codespan_core.specs.declared.diagnostic.LabelStyle.TheVariants.{Primary, Secondary}
 use Rattle.codespan_core.specs.declared.diagnostic.Diagnostic.{Diagnostic}
 use Rattle.codespan_core.specs.declared.diagnostic.Severity.{Severity}
-use Rattle.codespan_core.specs.declared.diagnostic.Severity.TheVariants.{Help, Note, Warning, Error, Bug}
+use Rattle.codespan_core.specs.declared.diagnostic.Severity.TheVariants.{Help, Note, Warning, Error}
+use Rattle.codespan_core.specs.declared.diagnostic.Severity.TheVariants.{Bug}
 use Rattle.codespan_core.specs.declared.files.error.Error.TheVariants.{FormatError, OutOfMemory}
 use Rattle.codespan_core.specs.declared.files.error.Error as failures
 

@@ -2,7 +2,10 @@
 use Rattle.std.specs.Prelude.{ℕ, List, ◌++◌, Option, Some, None, codes}
 use Rattle.std.specs.Fmt.{decimal}
 use Rattle.codespan_core.specs.declared.files.error.Error.{Error}
-use Rattle.codespan_core.specs.declared.files.error.Error.TheVariants.{FileMissing, IndexTooLarge, LineTooLarge, ColumnTooLarge, InvalidCharBoundary, Io, FormatError, OutOfMemory}
+use Rattle.codespan_core.specs.declared.files.error.Error.TheVariants.{FileMissing, IndexTooLarge}
+use Rattle.codespan_core.specs.declared.files.error.Error.TheVariants.{LineTooLarge, ColumnTooLarge}
+use Rattle.codespan_core.specs.declared.files.error.Error.TheVariants.{InvalidCharBoundary, Io}
+use Rattle.codespan_core.specs.declared.files.error.Error.TheVariants.{FormatError, OutOfMemory}
 
 -- the text of an error; that of `Io` is its inner error's, and nothing is stated of it
 abbrev pub error_text : Error → Option (List ℕ)

@@ -1,6 +1,8 @@
 -- What the lookups of a file return, when a file is lawful, and what the default columns and
 -- locations are.
-use Rattle.std.specs.Prelude.{◌≡◌, ◌≢◌, ℕ, ◌+◌, ◌-◌, ◌<◌, ◌≤◌, ◌↔◌, true, false, [], length, slice_index, Option, Some, None, Result, MatchResult, IfErr, ◌^◌, ◌==◌, if◌then◌else◌}
+use Rattle.std.specs.Prelude.{◌≡◌, ◌≢◌, ℕ, ◌+◌, ◌-◌, ◌<◌, ◌≤◌, ◌↔◌, true, false, [], length}
+use Rattle.std.specs.Prelude.{slice_index, Option, Some, None, Result, MatchResult, IfErr, ◌^◌}
+use Rattle.std.specs.Prelude.{◌==◌, if◌then◌else◌}
 use Rattle.std.specs.Str.{IsCharBoundary, IsUtf8}
 use Rattle.std.specs.declared.ops.Range.{Range}
 use Rattle.codespan_core.specs.declared.files.error.Error.{Error}
@@ -8,7 +10,8 @@ use Rattle.codespan_core.specs.declared.files.error.Error.TheVariants.{LineTooLa
 use Rattle.codespan_core.specs.declared.files.Location.{Location}
 use Rattle.codespan_core.specs.Lines.{column_index_of}
 use Rattle.codespan_core.specs.FileModel.{FileModel, Lookup, line_of, or_failure}
-use Rattle.codespan_core.specs.FileModel.Lookup.{Source, LineIndex, LineNumber, ColumnNumber, LineRange}
+use Rattle.codespan_core.specs.FileModel.Lookup.{Source, LineIndex, LineNumber, ColumnNumber}
+use Rattle.codespan_core.specs.FileModel.Lookup.{LineRange}
 
 -- the range of line i
 pub record IsLineRange (f : FileModel) (i : ℕ) (r : Range ℕ) : Type 0 where

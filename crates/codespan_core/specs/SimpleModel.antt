@@ -1,6 +1,7 @@
 -- A text as a file, and a database of such files: a line starts after each newline, and ends where
 -- the next one starts.
-use Rattle.std.specs.Prelude.{ℕ, ◌+◌, ◌-◌, nat_lt, true, false, if◌then◌else◌, List, [], ◌∷◌, ◌++◌, length, drop, slice_get, Option, Some, None}
+use Rattle.std.specs.Prelude.{ℕ, ◌+◌, ◌-◌, nat_lt, true, false, if◌then◌else◌, List, [], ◌∷◌, ◌++◌}
+use Rattle.std.specs.Prelude.{length, drop, slice_get, Option, Some, None}
 use Rattle.std.specs.Option.{option_map_or}
 use Rattle.codespan_core.specs.declared.files.error.Error.{Error}
 use Rattle.codespan_core.specs.declared.files.error.Error.TheVariants.{LineTooLarge, FileMissing}

@@ -1,5 +1,6 @@
 -- The law of writers: what a contract sees of a writer, and what each call does to it.
-use Rattle.std.specs.Prelude.{◌≡◌, ℕ, Bool, true, List, ◌++◌, length, take, Option, Result, MatchResult, if◌then◌else◌, ◌==◌, ◌&&◌, nat_lt, is_some}
+use Rattle.std.specs.Prelude.{◌≡◌, ℕ, Bool, true, List, ◌++◌, length, take, Option, Result}
+use Rattle.std.specs.Prelude.{MatchResult, if◌then◌else◌, ◌==◌, ◌&&◌, nat_lt, is_some}
 use Rattle.std.specs.Io.KnownBytes.{append_known}
 use Rattle.std.specs.Borrow.{GName}
 use Rattle.codespan_core.specs.Streams.{Stream, Spelling, spelled}

@@ -146,7 +146,8 @@ pub trait Files<'a> {
     ghost use Rattle.codespan_core.specs.declared.files.error.Error.{Error};
     ghost use Rattle.codespan_core.specs.FileModel.{FileDatabase, line_of};
     ghost use Rattle.codespan_core.specs.LawfulFiles.{IsLawful, FailsPastLastLine, IsLineRange};
-    ghost use Rattle.codespan_core.specs.FileModel.Lookup.{Name, Source, LineIndex, LineNumber, ColumnNumber, LocationAt, LineRange};
+    ghost use Rattle.codespan_core.specs.FileModel.Lookup.{Name, Source, LineIndex, LineNumber};
+    ghost use Rattle.codespan_core.specs.FileModel.Lookup.{ColumnNumber, LocationAt, LineRange};
 
     /// The type of ids. Equal ids are ids of one file.
     type FileId: 'a + Copy + Eq;

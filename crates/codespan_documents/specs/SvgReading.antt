@@ -11,7 +11,8 @@ use Rattle.codespan_documents.specs.Glyphs.{after_glyph, cells_of, extent_from, 
 use Rattle.codespan_documents.specs.Glyphs.{is_white_space, joins, start}
 use Rattle.codespan_documents.specs.HtmlReading.{Token, Tag, TextByte}
 use Rattle.codespan_documents.specs.Runs.{RunView, run_characters}
-use Rattle.codespan_documents.specs.Svg.{first_pen, background_tag_content, is_forbidden_in_xml, next_pen, svg_tag_content, text_tag_content}
+use Rattle.codespan_documents.specs.Svg.{first_pen, background_tag_content, is_forbidden_in_xml}
+use Rattle.codespan_documents.specs.Svg.{next_pen, svg_tag_content, text_tag_content}
 
 -- ---- characters
 

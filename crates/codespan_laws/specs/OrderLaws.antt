@@ -4,9 +4,11 @@ use Rattle.std.specs.Cmp.{IsEquivalence}
 use Rattle.std.specs.Cmp.Lexicographic.{pointwise}
 use Rattle.codespan_picture.specs.Types.{Config, Rich, Severity}
 use Rattle.codespan_base.specs.FileModel.{FileModel}
-use Rattle.codespan_base.specs.Labels.{LabelModel, is_single, first_line, drawn_label, multi_line_labels}
+use Rattle.codespan_base.specs.Labels.{LabelModel, is_single, first_line, drawn_label}
+use Rattle.codespan_base.specs.Labels.{multi_line_labels}
 use Rattle.codespan_picture.specs.Rows.{HeaderText, Locus}
-use Rattle.codespan_picture.specs.Snippets.{LabelInFile, file_ids, labeled_file_model, labeled_file_models}
+use Rattle.codespan_picture.specs.Snippets.{LabelInFile, file_ids, labeled_file_model}
+use Rattle.codespan_picture.specs.Snippets.{labeled_file_models}
 use Rattle.codespan_picture.specs.OutputStreams.{rendered, locus_bytes}
 
 -- the label has this drawn range

@@ -16,10 +16,13 @@ ghost use Rattle.codespan_base.specs.declared.term.config.styles.Styles.{Styles}
 ghost use Rattle.codespan_base.specs.Streams.{Spelling};
 ghost use Rattle.codespan_picture.specs.RowLaws.{row_length, CharsChangeNoRowLength, RowsEndReset};
 ghost use Rattle.codespan_laws.specs.ColorLaws.{ColorsChangeNoText, NoColorIsPlain};
-ghost use Rattle.codespan_picture.specs.CaretLaws.{CaretsAreCells, PointersAreCells, StartsHaveCells};
+ghost use Rattle.codespan_picture.specs.CaretLaws.{CaretsAreCells, PointersAreCells};
+ghost use Rattle.codespan_picture.specs.CaretLaws.{StartsHaveCells};
 ghost use Rattle.codespan_picture.specs.RichLaws.{MeansLabels, NoneReversed};
 ghost use Rattle.codespan_picture.specs.LaneLaws.{BarsAreLabels, LanesJoinCorners, LanesAreShown};
-ghost use Rattle.codespan_picture.specs.LineLaws.{BreaksHaveBars, BreaksReplaceLines, RowsAreOfShownLines, PaddingFits, SourceRowsAreFew};
+ghost use Rattle.codespan_picture.specs.LineLaws.{BreaksHaveBars, BreaksReplaceLines};
+ghost use Rattle.codespan_picture.specs.LineLaws.{RowsAreOfShownLines, PaddingFits};
+ghost use Rattle.codespan_picture.specs.LineLaws.{SourceRowsAreFew};
 ghost use Rattle.codespan_picture.specs.MessageLaws.{MessagesAppearOnce};
 ghost use Rattle.codespan_picture.specs.TrailingLaws.{EachMessageTrailsOrHangs};
 ghost use Rattle.codespan_laws.specs.OrderLaws.{ReorderingChangesNothing};

@@ -1,12 +1,15 @@
 -- Positions of a file, and the errors of the calls that look them up.
-use Rattle.std.specs.Prelude.{◌≡◌, ℕ, ◌+◌, ◌-◌, ◌^◌, ◌<◌, ◌≤◌, ◌==◌, nat_lt, if◌then◌else◌, List, [], ◌∷◌, length, slice_range, encode_utf8_all, Option, Some, None}
+use Rattle.std.specs.Prelude.{◌≡◌, ℕ, ◌+◌, ◌-◌, ◌^◌, ◌<◌, ◌≤◌, ◌==◌, nat_lt, if◌then◌else◌, List}
+use Rattle.std.specs.Prelude.{[], ◌∷◌, length, slice_range, encode_utf8_all, Option, Some, None}
 use Rattle.std.specs.Str.{chars, IsCharBoundary}
-use Rattle.codespan_base.specs.FileModel.{FileModel, Lookup, line_count, line_of, line_start, line_text, or_failure}
+use Rattle.codespan_base.specs.FileModel.{FileModel, Lookup, line_count, line_of, line_start}
+use Rattle.codespan_base.specs.FileModel.{line_text, or_failure}
 use Rattle.codespan_base.specs.FileModel.Lookup.{Source, LineIndex, LineRange}
 use Rattle.codespan_base.specs.LawfulFiles.{line_end}
 use Rattle.codespan_base.specs.Lines.{is_char_boundary}
 use Rattle.codespan_base.specs.declared.files.Error.{Error}
-use Rattle.codespan_base.specs.declared.files.Error.TheVariants.{ColumnTooLarge, InvalidCharBoundary, LineTooLarge}
+use Rattle.codespan_base.specs.declared.files.Error.TheVariants.{ColumnTooLarge}
+use Rattle.codespan_base.specs.declared.files.Error.TheVariants.{InvalidCharBoundary, LineTooLarge}
 use Rattle.codespan_lsp.specs.Units.{code_units, total_units, prefix_within}
 use Rattle.codespan_lsp.specs.declared.encoding.PositionEncoding.{PositionEncoding}
 use Rattle.codespan_lsp.specs.declared.positions.Position.{Position}

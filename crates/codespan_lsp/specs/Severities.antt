@@ -1,7 +1,8 @@
 -- Severities as the protocol has them.
 use Rattle.std.specs.Prelude.{ℕ}
 use Rattle.codespan_base.specs.declared.diagnostic.Severity.{Severity}
-use Rattle.codespan_base.specs.declared.diagnostic.Severity.TheVariants.{Help, Note, Warning, Error, Bug}
+use Rattle.codespan_base.specs.declared.diagnostic.Severity.TheVariants.{Help, Note, Warning, Error}
+use Rattle.codespan_base.specs.declared.diagnostic.Severity.TheVariants.{Bug}
 use Rattle.codespan_lsp.specs.declared.severity.DiagnosticSeverity.{DiagnosticSeverity}
 use Rattle.codespan_lsp.specs.declared.severity.DiagnosticSeverity.TheVariants as lsp
 

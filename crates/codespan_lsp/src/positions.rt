@@ -2,7 +2,8 @@
 
 ghost use Rattle.std.specs.Prelude.{◌≡◌, IfOk};
 ghost use Rattle.codespan_base.specs.LawfulFiles.{FailsBy};
-ghost use Rattle.codespan_lsp.specs.Positions.{position_of, position_failure, IsByteAt, byte_failure, overflow_failure};
+ghost use Rattle.codespan_lsp.specs.Positions.{position_of, position_failure, IsByteAt};
+ghost use Rattle.codespan_lsp.specs.Positions.{byte_failure, overflow_failure};
 ghost use Rattle.codespan_lsp.specs.declared.encoding.PositionEncoding.TheVariants.{Utf16};
 
 use crate::encoding::PositionEncoding;

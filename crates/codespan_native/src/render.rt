@@ -7,7 +7,8 @@ ghost use Rattle.codespan_structs.specs.StyleMarkBytes.{style_mark_spelling};
 ghost use Rattle.codespan_base.specs.StyleSpellings.{ansi_spelling};
 ghost use Rattle.codespan_sources.specs.SourceModel.{native_file_views};
 ghost use Rattle.codespan_structs.specs.Spellings.{spelling_by_kind};
-ghost use Rattle.codespan_native.specs.RenderedStreams.{IsSpelledOutput, MeansIfRich, stream_of_output};
+ghost use Rattle.codespan_native.specs.RenderedStreams.{IsSpelledOutput, MeansIfRich};
+ghost use Rattle.codespan_native.specs.RenderedStreams.{stream_of_output};
 
 use crate::style_mark_writer::StyleMarkWriter;
 use codespan_base::diagnostic::Diagnostic;

@@ -29,7 +29,8 @@ pub struct StyleMarkWriter<W> {
 impl<W: Write> StyleMarkWriter<W> {
     ghost use Rattle.codespan_base.specs.Writers.{fresh_sink};
     ghost use Rattle.codespan_structs.specs.StyleMarkBytes.{style_mark_spelling};
-    ghost use Rattle.codespan_native.specs.StyleMarkWriters.{style_mark_inner, style_mark_writer_sink};
+    ghost use Rattle.codespan_native.specs.StyleMarkWriters.{style_mark_inner};
+    ghost use Rattle.codespan_native.specs.StyleMarkWriters.{style_mark_writer_sink};
 
     /// Returns a writer over `writer`. It has not failed.
     pub fn new(writer: W) -> StyleMarkWriter<W>

@@ -1,6 +1,8 @@
 -- For `write_caret_pointers` and `write_pointer_row`, and of `codespan_renderer` for `find_pointers`
 -- and `next_pointer`: the pointers of a line with spaces between them.
-use Rattle.std.proofs.Common.{◌≡◌, ℕ, ◌+◌, ◌-◌, ◌<◌, ◌≤◌, min, Bool, true, false, nat_lt, nat_le, List, [], ◌∷◌, ◌++◌, Option, Some, None, refl, sym, ap, ◌∙◌, arith, append_assoc, append-nil, lt-ltb}
+use Rattle.std.proofs.Common.{◌≡◌, ℕ, ◌+◌, ◌-◌, ◌<◌, ◌≤◌, min, Bool, true, false, nat_lt, nat_le}
+use Rattle.std.proofs.Common.{List, [], ◌∷◌, ◌++◌, Option, Some, None, refl, sym, ap, ◌∙◌, arith}
+use Rattle.std.proofs.Common.{append_assoc, append-nil, lt-ltb}
 use Rattle.std.specs.Prelude.{if◌then◌else◌}
 use Rattle.std.specs.List.{list_any}
 use Rattle.std.proofs.lemmas.Bool.{le-leb, lt-leb}
@@ -13,8 +15,10 @@ use Rattle.codespan_picture.specs.declared.rows.pointer_cursor.Pointer.{Pointer}
 use Rattle.codespan_picture.specs.CharMetrics.{width_of}
 use Rattle.codespan_picture.specs.Lanes.{label_glyph}
 use Rattle.codespan_picture.specs.Rows.{RowContext, hanging_labels}
-use Rattle.codespan_picture.specs.RowParts.{starts_in, pointer_style, max_label_start, spaces_up_to, pointer_at, pointers, metrics_up_to}
-use Rattle.codespan_picture.specs.Private.PointerLists.{pointer_style_if_any, pointers_in, pointers_before, spaced}
+use Rattle.codespan_picture.specs.RowParts.{starts_in, pointer_style, max_label_start, spaces_up_to}
+use Rattle.codespan_picture.specs.RowParts.{pointer_at, pointers, metrics_up_to}
+use Rattle.codespan_picture.specs.Private.PointerLists.{pointer_style_if_any, pointers_in}
+use Rattle.codespan_picture.specs.Private.PointerLists.{pointers_before, spaced}
 use Rattle.codespan_picture.proofs.HangingStarts.{any-below, any-hanging_labels, starts_in-low}
 use Rattle.codespan_picture.proofs.Consecutive.{AreConsecutive}
 use Rattle.codespan_picture.proofs.RowEquations.{spaces-add}

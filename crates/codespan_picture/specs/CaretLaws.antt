@@ -1,6 +1,7 @@
 -- The laws of carets and pointers: carets are under the characters that labels cover, and pointers
 -- under those in which labels start.
-use Rattle.std.specs.Prelude.{◌≡◌, ℕ, ◌<◌, Bool, ◌&&◌, ◌==◌, List, ◌++◌, map, if◌then◌else◌, Contains, IsTrue, encode_utf8_all}
+use Rattle.std.specs.Prelude.{◌≡◌, ℕ, ◌<◌, Bool, ◌&&◌, ◌==◌, List, ◌++◌, map, if◌then◌else◌}
+use Rattle.std.specs.Prelude.{Contains, IsTrue, encode_utf8_all}
 use Rattle.std.specs.List.{list_any, range_with_len}
 use Rattle.codespan_picture.specs.Types.{Chars}
 use Rattle.codespan_core.specs.Labels.{LabelModel}
@@ -9,7 +10,9 @@ use Rattle.codespan_picture.specs.declared.char_metrics.Metrics.{Metrics}
 use Rattle.codespan_picture.specs.CharMetrics.{width_of}
 use Rattle.codespan_picture.specs.Carets.{caret_cells}
 use Rattle.codespan_picture.specs.Rows.{RowContext, Line, trailing_label, hanging_labels}
-use Rattle.codespan_picture.specs.RowParts.{line_metrics, line_metrics_to_end, trailing_message, starts_in, max_label_start, metrics_before, metrics_up_to, label_message}
+use Rattle.codespan_picture.specs.RowParts.{line_metrics, line_metrics_to_end, trailing_message}
+use Rattle.codespan_picture.specs.RowParts.{starts_in, max_label_start, metrics_before}
+use Rattle.codespan_picture.specs.RowParts.{metrics_up_to, label_message}
 use Rattle.codespan_picture.specs.RowStreams.{caret_row, pointer_row, hanging_row, row_start}
 
 -- between the lanes and the trailing message of a caret row are its caret cells

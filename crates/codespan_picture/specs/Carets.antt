@@ -1,5 +1,6 @@
 -- The carets under a line: in which cells they are, and of which style.
-use Rattle.std.specs.Prelude.{ℕ, ◌+◌, max, min, Bool, ◌&&◌, nat_lt, nat_le, List, ◌∷◌, map, filter, fold, Option, Some, None, if◌then◌else◌, []}
+use Rattle.std.specs.Prelude.{ℕ, ◌+◌, max, min, Bool, ◌&&◌, nat_lt, nat_le, List, ◌∷◌, map, filter}
+use Rattle.std.specs.Prelude.{fold, Option, Some, None, if◌then◌else◌, []}
 use Rattle.std.specs.List.{list_any, range_with_len}
 use Rattle.codespan_picture.specs.Types.{LabelStyle, Primary, Secondary, Chars}
 use Rattle.codespan_core.specs.Labels.{LabelModel, is_primary}

@@ -1,5 +1,6 @@
 -- The characters of a drawn line and the cells that they occupy.
-use Rattle.std.specs.Prelude.{ℕ, ◌+◌, ◌-◌, ◌%◌, Bool, false, ◌||◌, ◌==◌, if◌then◌else◌, unwrap_or, List, ◌∷◌, length, sum_by, take, take_while, []}
+use Rattle.std.specs.Prelude.{ℕ, ◌+◌, ◌-◌, ◌%◌, Bool, false, ◌||◌, ◌==◌, if◌then◌else◌, unwrap_or}
+use Rattle.std.specs.Prelude.{List, ◌∷◌, length, sum_by, take, take_while, []}
 use Rattle.std.specs.List.{suffix_len}
 use Rattle.std.specs.Str.{chars}
 use Rattle.std.specs.Char.{len_utf8, is_whitespace}

@@ -1,6 +1,7 @@
 -- The laws of lanes: what a lane shows in each row says where its label goes, and is what the row's
 -- stream has there.
-use Rattle.std.specs.Prelude.{◌≡◌, ℕ, ◌<◌, ◌≤◌, ◌⊎◌, ◌↔◌, Bool, false, List, [], ◌++◌, length, slice_get, flat_map, Option, Some, None}
+use Rattle.std.specs.Prelude.{◌≡◌, ℕ, ◌<◌, ◌≤◌, ◌⊎◌, ◌↔◌, Bool, false, List, [], ◌++◌, length}
+use Rattle.std.specs.Prelude.{slice_get, flat_map, Option, Some, None}
 use Rattle.std.specs.List.{range_with_len}
 use Rattle.std.specs.Option.{option_map, option_map_or}
 use Rattle.codespan_picture.specs.Types.{Config, Layout}
@@ -8,10 +9,15 @@ use Rattle.codespan_core.specs.FileModel.{FileModel}
 use Rattle.codespan_core.specs.Labels.{LabelModel, first_line, last_line, multi_line_labels}
 use Rattle.codespan_core.specs.Streams.{Stream}
 use Rattle.codespan_picture.specs.declared.lane_shapes.Shape.{Shape}
-use Rattle.codespan_picture.specs.declared.lane_shapes.Shape.TheVariants.{Space, Bar, TopCorner, BottomCorner}
-use Rattle.codespan_picture.specs.Lanes.{LaneRowKind, Source, EmptyOrBreak, SingleLabels, Underline, row_shape, row_crossing, lane_mark_in, shape_of, style_of_lane_mark, is_unbroken, lane_characters}
-use Rattle.codespan_picture.specs.Rows.{Locus, RowContext, Lanes, Line, Row, EmptyRow, BreakRow, SourceRow, CaretRow, PointerRow, HangingRow, UnderlineRow}
-use Rattle.codespan_picture.specs.RowParts.{outer_gutter, outer_gutter_number, border_left, border_left_break, leading_of}
+use Rattle.codespan_picture.specs.declared.lane_shapes.Shape.TheVariants.{Space, Bar, TopCorner}
+use Rattle.codespan_picture.specs.declared.lane_shapes.Shape.TheVariants.{BottomCorner}
+use Rattle.codespan_picture.specs.Lanes.{LaneRowKind, Source, EmptyOrBreak, SingleLabels, Underline}
+use Rattle.codespan_picture.specs.Lanes.{row_shape, row_crossing, lane_mark_in, shape_of}
+use Rattle.codespan_picture.specs.Lanes.{style_of_lane_mark, is_unbroken, lane_characters}
+use Rattle.codespan_picture.specs.Rows.{Locus, RowContext, Lanes, Line, Row, EmptyRow, BreakRow}
+use Rattle.codespan_picture.specs.Rows.{SourceRow, CaretRow, PointerRow, HangingRow, UnderlineRow}
+use Rattle.codespan_picture.specs.RowParts.{outer_gutter, outer_gutter_number, border_left}
+use Rattle.codespan_picture.specs.RowParts.{border_left_break, leading_of}
 use Rattle.codespan_picture.specs.RowStreams.{stream_of}
 use Rattle.codespan_picture.specs.Snippets.{LabeledFileModel, line_at, empty_row_after, snippet}
 

@@ -1,10 +1,13 @@
 -- What each lane shows in each kind of row.
-use Rattle.std.specs.Prelude.{ℕ, Bool, true, false, ◌&&◌, ◌==◌, nat_lt, nat_le, List, ◌++◌, find, Option, Some, None, if◌then◌else◌}
-use Rattle.codespan_picture.specs.Types.{Severity, LabelStyle, Primary, Chars, Layout, Classic, Unbroken}
+use Rattle.std.specs.Prelude.{ℕ, Bool, true, false, ◌&&◌, ◌==◌, nat_lt, nat_le, List, ◌++◌, find}
+use Rattle.std.specs.Prelude.{Option, Some, None, if◌then◌else◌}
+use Rattle.codespan_picture.specs.Types.{Severity, LabelStyle, Primary, Chars, Layout, Classic}
+use Rattle.codespan_picture.specs.Types.{Unbroken}
 use Rattle.codespan_core.specs.Streams.{Stream, style_mark, glyph, spaces, repeated}
 use Rattle.codespan_core.specs.declared.term.config.style_mark.StyleMark.TheVariants.{Label, Reset}
 use Rattle.codespan_picture.specs.declared.lane_shapes.Shape.{Shape}
-use Rattle.codespan_picture.specs.declared.lane_shapes.Shape.TheVariants.{Space, Bar, TopCorner, BottomCorner}
+use Rattle.codespan_picture.specs.declared.lane_shapes.Shape.TheVariants.{Space, Bar, TopCorner}
+use Rattle.codespan_picture.specs.declared.lane_shapes.Shape.TheVariants.{BottomCorner}
 use Rattle.codespan_core.specs.Labels.{LaneMark, MultiLabel, Top, Left, Bottom}
 
 -- a lane whose label starts at this byte index begins in the source row: the text of the line

@@ -1,5 +1,7 @@
 -- The laws of drawn lines, breaks, and line numbers.
-use Rattle.std.specs.Prelude.{◌≡◌, ℕ, ◌+◌, ◌<◌, ◌≤◌, ◌↔◌, Bool, false, List, ◌∷◌, Contains, map, filter, filter_map, Option, Some, None, if◌then◌else◌, IsTrue, ◌*◌, true, sum_by, count_by, []}
+use Rattle.std.specs.Prelude.{◌≡◌, ℕ, ◌+◌, ◌<◌, ◌≤◌, ◌↔◌, Bool, false, List, ◌∷◌, Contains, map}
+use Rattle.std.specs.Prelude.{filter, filter_map, Option, Some, None, if◌then◌else◌, IsTrue, ◌*◌}
+use Rattle.std.specs.Prelude.{true, sum_by, count_by, []}
 use Rattle.std.specs.List.{range_with_len}
 use Rattle.codespan_picture.specs.Types.{Config, Layout}
 use Rattle.codespan_core.specs.FileModel.{FileModel, line_count}
@@ -8,7 +10,8 @@ use Rattle.codespan_picture.specs.declared.lane_shapes.Shape.TheVariants.{Bar}
 use Rattle.codespan_picture.specs.Lanes.{is_unbroken}
 use Rattle.codespan_picture.specs.Lines.{drawn_lines, has_break_between, is_shown}
 use Rattle.codespan_picture.specs.Rows.{Lanes, Locus, Row, BreakRow, SourceRow}
-use Rattle.codespan_picture.specs.Snippets.{LabeledFileModel, rows_of_drawn, rows_of_shown, line_at, snippet}
+use Rattle.codespan_picture.specs.Snippets.{LabeledFileModel, rows_of_drawn, rows_of_shown, line_at}
+use Rattle.codespan_picture.specs.Snippets.{snippet}
 use Rattle.codespan_picture.specs.Padding.{padding_of, count_digits}
 use Rattle.codespan_picture.specs.LaneLaws.{shape_in, HasLane, IsBarLine}
 

@@ -1,12 +1,17 @@
 -- The lookups of an output, in the order in which their errors count, and which error is returned.
-use Rattle.std.specs.Prelude.{◌≡◌, ◌≢◌, ◌<◌, length, ℕ, ◌+◌, Bool, not, ◌&&◌, ◌||◌, nat_lt, nat_le, List, [], ◌∷◌, ◌++◌, map, filter, flat_map, Option, Some, None, Contains, if◌then◌else◌, true, false}
+use Rattle.std.specs.Prelude.{◌≡◌, ◌≢◌, ◌<◌, length, ℕ, ◌+◌, Bool, not, ◌&&◌, ◌||◌, nat_lt, nat_le}
+use Rattle.std.specs.Prelude.{List, [], ◌∷◌, ◌++◌, map, filter, flat_map, Option, Some, None}
+use Rattle.std.specs.Prelude.{Contains, if◌then◌else◌, true, false}
 use Rattle.std.specs.List.{range_with_len}
-use Rattle.codespan_picture.specs.Types.{Config, DisplayStyle, Rich, Layout, Classic, Unbroken, Diagnostic, Error, FormatError, LineTooLarge, OutOfMemory}
+use Rattle.codespan_picture.specs.Types.{Config, DisplayStyle, Rich, Layout, Classic, Unbroken}
+use Rattle.codespan_picture.specs.Types.{Diagnostic, Error, FormatError, LineTooLarge, OutOfMemory}
 use Rattle.codespan_core.specs.FileModel.{FileDatabase, FileModel, Lookup, line_count, or_failure}
-use Rattle.codespan_core.specs.FileModel.Lookup.{Name, Source, LineIndex, LineNumber, LocationAt, LineRange}
+use Rattle.codespan_core.specs.FileModel.Lookup.{Name, Source, LineIndex, LineNumber, LocationAt}
+use Rattle.codespan_core.specs.FileModel.Lookup.{LineRange}
 use Rattle.codespan_core.specs.Labels.{LabelModel, first_line, last_line}
 use Rattle.codespan_picture.specs.Lines.{is_shown, is_drawn}
-use Rattle.codespan_picture.specs.Snippets.{LabeledFileModel, LabelInFile, file_ids, labeled_file_model, locus_byte_of, primary_of}
+use Rattle.codespan_picture.specs.Snippets.{LabeledFileModel, LabelInFile, file_ids}
+use Rattle.codespan_picture.specs.Snippets.{labeled_file_model, locus_byte_of, primary_of}
 use Rattle.codespan_picture.specs.Padding.{spans}
 use Rattle.codespan_picture.specs.OutputStreams.{labels_of}
 

@@ -1,5 +1,6 @@
 -- The law of messages: each appears exactly once in a rich output.
-use Rattle.std.specs.Prelude.{◌≡◌, ℕ, Bool, false, ◌==◌, List, ◌∷◌, map, count_by, slice_get, Some, if◌then◌else◌, []}
+use Rattle.std.specs.Prelude.{◌≡◌, ℕ, Bool, false, ◌==◌, List, ◌∷◌, map, count_by, slice_get, Some}
+use Rattle.std.specs.Prelude.{if◌then◌else◌, []}
 use Rattle.std.specs.List.{enumerate_from}
 use Rattle.std.specs.Option.{option_map_or}
 use Rattle.codespan_picture.specs.Types.{Config, Diagnostic, Rich}
@@ -8,7 +9,8 @@ use Rattle.codespan_core.specs.Labels.{has_message, is_empty_stream}
 use Rattle.codespan_core.specs.Streams.{Stream, Item, Slot, text_of, with_messages}
 use Rattle.codespan_picture.specs.Rows.{Locus}
 use Rattle.codespan_picture.specs.Snippets.{LabelInFile, labeled_file_models}
-use Rattle.codespan_picture.specs.OutputStreams.{header_text_of, labels_of, notes_of, output, rendered}
+use Rattle.codespan_picture.specs.OutputStreams.{header_text_of, labels_of, notes_of, output}
+use Rattle.codespan_picture.specs.OutputStreams.{rendered}
 
 -- a label with a slot instead of its message, where it has a message
 abbrev pub slotted : {Id : Type 0} → ℕ → LabelInFile Id → LabelInFile Id

@@ -3,13 +3,16 @@ use Rattle.std.specs.Prelude.{◌≡◌, ℕ, Bool, List, ◌++◌, map, string_
 use Rattle.std.specs.List.{AllByRecursion, AllZip}
 use Rattle.std.specs.Option.{option_map}
 use Rattle.std.specs.Str.{IsUtf8}
-use Rattle.codespan_picture.specs.Types.{Config, DisplayStyle, Rich, Medium, Short, Diagnostic, Label, Severity}
+use Rattle.codespan_picture.specs.Types.{Config, DisplayStyle, Rich, Medium, Short, Diagnostic}
+use Rattle.codespan_picture.specs.Types.{Label, Severity}
 use Rattle.codespan_core.specs.FileModel.{FileDatabase, FileModel}
 use Rattle.codespan_core.specs.Streams.{Stream, byte_stream}
 use Rattle.codespan_picture.specs.Padding.{padding_of}
 use Rattle.codespan_picture.specs.Rows.{HeaderText, Locus, RowContext}
 use Rattle.codespan_picture.specs.RowStreams.{stream_of_rows}
-use Rattle.codespan_picture.specs.Snippets.{LabelInFile, LabeledFileModel, header_rows, labeled_file_models, locus_byte_of, note_rows, primary_of, rich_rows}
+use Rattle.codespan_picture.specs.Snippets.{LabelInFile, LabeledFileModel, header_rows}
+use Rattle.codespan_picture.specs.Snippets.{labeled_file_models, locus_byte_of, note_rows}
+use Rattle.codespan_picture.specs.Snippets.{primary_of, rich_rows}
 
 -- ---- a diagnostic, as its output reads it
 

@@ -1,5 +1,6 @@
 -- The padding width: how many digits the line numbers of an output have.
-use Rattle.std.specs.Prelude.{ℕ, Bool, ◌&&◌, ◌||◌, ◌==◌, nat_le, max, List, map, filter, fold, flat_map, length, decimal, if◌then◌else◌}
+use Rattle.std.specs.Prelude.{ℕ, Bool, ◌&&◌, ◌||◌, ◌==◌, nat_le, max, List, map, filter, fold}
+use Rattle.std.specs.Prelude.{flat_map, length, decimal, if◌then◌else◌}
 use Rattle.std.specs.List.{list_any, range_with_len}
 use Rattle.codespan_picture.specs.Types.{Config}
 use Rattle.codespan_core.specs.FileModel.{FileModel, line_count}

@@ -5,7 +5,8 @@ use Rattle.codespan_core.specs.FileModel.{FileDatabase, FileModel, name_text}
 use Rattle.codespan_core.specs.Streams.{Stream}
 use Rattle.codespan_picture.specs.Rows.{HeaderText, HeaderRow, Locus, Row}
 use Rattle.codespan_picture.specs.RowStreams.{stream_of_rows}
-use Rattle.codespan_picture.specs.OutputStreams.{header_text_of, labels_of, context_of, output, locus_bytes}
+use Rattle.codespan_picture.specs.OutputStreams.{header_text_of, labels_of, context_of, output}
+use Rattle.codespan_picture.specs.OutputStreams.{locus_bytes}
 
 -- the locus at a file and a byte index in it, with the name that the file states, and with an empty
 -- name where it states none

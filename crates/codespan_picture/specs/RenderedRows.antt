@@ -7,10 +7,12 @@ use Rattle.codespan_picture.specs.Types.{Severity, Config, Chars}
 use Rattle.codespan_core.specs.Streams.{Stream, newline}
 use Rattle.codespan_picture.specs.declared.arguments.Locus as rust_locus
 use Rattle.codespan_picture.specs.CharMetrics.{text_without_line_end}
-use Rattle.codespan_picture.specs.Arguments.{SingleLabelTuple, LaneMarkTuple, lanes_of, locus_view, single_label_views, text_now}
+use Rattle.codespan_picture.specs.Arguments.{SingleLabelTuple, LaneMarkTuple, lanes_of, locus_view}
+use Rattle.codespan_picture.specs.Arguments.{single_label_views, text_now}
 use Rattle.codespan_picture.specs.OutputStreams.{context_of}
 use Rattle.codespan_picture.specs.Rows.{Line, rows_of}
-use Rattle.codespan_picture.specs.RowStreams.{break_row, empty_row, header_row, snippet_start_row, stream_of_rows, first_note_row, later_note_row}
+use Rattle.codespan_picture.specs.RowStreams.{break_row, empty_row, header_row, snippet_start_row}
+use Rattle.codespan_picture.specs.RowStreams.{stream_of_rows, first_note_row, later_note_row}
 
 -- the header of a diagnostic
 abbrev pub rendered_header : Option (Bor rust_locus.Locus) → Severity → Option (Bor (List ℕ))

@@ -10,7 +10,8 @@ use Rattle.codespan_picture.specs.Padding.{padding_of}
 use Rattle.codespan_picture.specs.OutputStreams.{AreLoci, files_of, context_of}
 use Rattle.codespan_picture.specs.CaretLaws.{CaretsAreCells, StartsHaveCells, PointersAreCells}
 use Rattle.codespan_picture.specs.LaneLaws.{BarsAreLabels, LanesJoinCorners, LanesAreShown}
-use Rattle.codespan_picture.specs.LineLaws.{BreaksReplaceLines, BreaksHaveBars, RowsAreOfShownLines, SourceRowsAreFew, PaddingFits}
+use Rattle.codespan_picture.specs.LineLaws.{BreaksReplaceLines, BreaksHaveBars, RowsAreOfShownLines}
+use Rattle.codespan_picture.specs.LineLaws.{SourceRowsAreFew, PaddingFits}
 use Rattle.codespan_picture.specs.MessageLaws.{MessagesAppearOnce}
 
 -- no label of a file starts after its end

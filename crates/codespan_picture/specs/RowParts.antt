@@ -1,17 +1,26 @@
 -- The parts of rows as streams. Those that are unfoldable stay folded in a proof unless it
 -- unfolds them: calls that write one after another then match their parts from left to right.
-use Rattle.std.specs.Prelude.{ℕ, ◌+◌, ◌-◌, Bool, true, ◌||◌, ◌&&◌, ◌==◌, nat_lt, nat_le, max, List, [], ◌∷◌, ◌++◌, filter, length, fold, flat_map, Option, Some, None, if◌then◌else◌, codes, decimal}
+use Rattle.std.specs.Prelude.{ℕ, ◌+◌, ◌-◌, Bool, true, ◌||◌, ◌&&◌, ◌==◌, nat_lt, nat_le, max, List}
+use Rattle.std.specs.Prelude.{[], ◌∷◌, ◌++◌, filter, length, fold, flat_map, Option, Some, None}
+use Rattle.std.specs.Prelude.{if◌then◌else◌, codes, decimal}
 use Rattle.std.specs.List.{list_any, range_with_len}
 use Rattle.codespan_picture.specs.Types.{Severity, LabelStyle, Primary, Secondary, Chars}
-use Rattle.codespan_core.specs.declared.diagnostic.Severity.TheVariants.{Bug, Error, Warning, Note, Help}
-use Rattle.codespan_core.specs.Streams.{Stream, style_mark, glyph, byte_stream, spaces, space, repeated}
-use Rattle.codespan_core.specs.declared.term.config.style_mark.StyleMark.TheVariants.{LineNumber, SourceBorder, Label, Reset}
-use Rattle.codespan_core.specs.Labels.{LabelModel, is_primary, is_primary_style, LaneMark, MultiLabel, Top, Left, Bottom}
+use Rattle.codespan_core.specs.declared.diagnostic.Severity.TheVariants.{Bug, Error, Warning, Note}
+use Rattle.codespan_core.specs.declared.diagnostic.Severity.TheVariants.{Help}
+use Rattle.codespan_core.specs.Streams.{Stream, style_mark, glyph, byte_stream, spaces, space}
+use Rattle.codespan_core.specs.Streams.{repeated}
+use Rattle.codespan_core.specs.declared.term.config.style_mark.StyleMark.TheVariants.{LineNumber}
+use Rattle.codespan_core.specs.declared.term.config.style_mark.StyleMark.TheVariants.{SourceBorder}
+use Rattle.codespan_core.specs.declared.term.config.style_mark.StyleMark.TheVariants.{Label, Reset}
+use Rattle.codespan_core.specs.Labels.{LabelModel, is_primary, is_primary_style, LaneMark}
+use Rattle.codespan_core.specs.Labels.{MultiLabel, Top, Left, Bottom}
 use Rattle.codespan_picture.specs.declared.char_metrics.Metrics.{Metrics}
-use Rattle.codespan_picture.specs.CharMetrics.{char_metrics, char_metrics_to_end, width_of, leading_whitespace}
+use Rattle.codespan_picture.specs.CharMetrics.{char_metrics, char_metrics_to_end, width_of}
+use Rattle.codespan_picture.specs.CharMetrics.{leading_whitespace}
 use Rattle.codespan_picture.specs.Carets.{covers, style_under, caret_for, max_label_end}
 use Rattle.codespan_picture.specs.declared.lane_shapes.Shape.{Shape}
-use Rattle.codespan_picture.specs.Lanes.{LaneRowKind, row_shape, row_crossing, lane_mark_in, shape_of, style_of_lane_mark, lane_characters, label_glyph}
+use Rattle.codespan_picture.specs.Lanes.{LaneRowKind, row_shape, row_crossing, lane_mark_in}
+use Rattle.codespan_picture.specs.Lanes.{shape_of, style_of_lane_mark, lane_characters, label_glyph}
 use Rattle.codespan_picture.specs.Rows.{Locus, RowContext, Lanes, Line, hanging_labels}
 
 -- ---- parts of rows

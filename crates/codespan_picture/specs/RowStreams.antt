@@ -3,12 +3,23 @@
 use Rattle.std.specs.Prelude.{ℕ, List, [], ◌∷◌, ◌++◌, flat_map, Option, Some, None, codes}
 use Rattle.codespan_picture.specs.Types.{Severity, Chars}
 use Rattle.codespan_core.specs.Streams.{Stream, style_mark, glyph, byte_stream, space, newline}
-use Rattle.codespan_core.specs.declared.term.config.style_mark.StyleMark.TheVariants.{Header, HeaderMessage, NoteBullet, SourceBorder, Label, Reset}
+use Rattle.codespan_core.specs.declared.term.config.style_mark.StyleMark.TheVariants.{Header}
+use Rattle.codespan_core.specs.declared.term.config.style_mark.StyleMark.TheVariants.{HeaderMessage}
+use Rattle.codespan_core.specs.declared.term.config.style_mark.StyleMark.TheVariants.{NoteBullet}
+use Rattle.codespan_core.specs.declared.term.config.style_mark.StyleMark.TheVariants.{SourceBorder}
+use Rattle.codespan_core.specs.declared.term.config.style_mark.StyleMark.TheVariants.{Label, Reset}
 use Rattle.codespan_core.specs.Labels.{LabelModel, LaneMark}
 use Rattle.codespan_core.specs.SnippetStarts.{start_text}
 use Rattle.codespan_picture.specs.Lanes.{Source, EmptyOrBreak, SingleLabels, Underline}
-use Rattle.codespan_picture.specs.Rows.{Locus, HeaderText, RowContext, Lanes, Line, Row, HeaderRow, SnippetStartRow, EmptyRow, BreakRow, SourceRow, CaretRow, PointerRow, HangingRow, UnderlineRow, FirstNoteRow, LaterNoteRow, FinalRow, trailing_label}
-use Rattle.codespan_picture.specs.RowParts.{severity_name, snippet_locus, outer_gutter, outer_gutter_number, border_left, border_left_break, label_message, inner_gutter, leading_of, line_metrics, line_metrics_to_end, colored_text, carets, trailing_message, pointers, metrics_before, underline}
+use Rattle.codespan_picture.specs.Rows.{Locus, HeaderText, RowContext, Lanes, Line, Row, HeaderRow}
+use Rattle.codespan_picture.specs.Rows.{SnippetStartRow, EmptyRow, BreakRow, SourceRow, CaretRow}
+use Rattle.codespan_picture.specs.Rows.{PointerRow, HangingRow, UnderlineRow, FirstNoteRow}
+use Rattle.codespan_picture.specs.Rows.{LaterNoteRow, FinalRow, trailing_label}
+use Rattle.codespan_picture.specs.RowParts.{severity_name, snippet_locus, outer_gutter}
+use Rattle.codespan_picture.specs.RowParts.{outer_gutter_number, border_left, border_left_break}
+use Rattle.codespan_picture.specs.RowParts.{label_message, inner_gutter, leading_of, line_metrics}
+use Rattle.codespan_picture.specs.RowParts.{line_metrics_to_end, colored_text, carets}
+use Rattle.codespan_picture.specs.RowParts.{trailing_message, pointers, metrics_before, underline}
 
 -- ---- rows, before their newlines
 

@@ -1,9 +1,11 @@
 -- The rows of an output, and what each is rendered from.
-use Rattle.std.specs.Prelude.{ℕ, Bool, true, false, not, ◌&&◌, ◌==◌, List, [], ◌∷◌, ◌++◌, map, filter, reverse, Option, Some, None, if◌then◌else◌}
+use Rattle.std.specs.Prelude.{ℕ, Bool, true, false, not, ◌&&◌, ◌==◌, List, [], ◌∷◌, ◌++◌, map}
+use Rattle.std.specs.Prelude.{filter, reverse, Option, Some, None, if◌then◌else◌}
 use Rattle.std.specs.List.{list_any, enumerate_from, last_or, remove}
 use Rattle.std.specs.Option.{option_and_then, option_map, option_map_or}
 use Rattle.codespan_picture.specs.Types.{Severity, Chars, Layout, Location}
-use Rattle.codespan_core.specs.Labels.{LabelModel, has_message, LaneMark, MultiLabel, Top, Left, Bottom}
+use Rattle.codespan_core.specs.Labels.{LabelModel, has_message, LaneMark, MultiLabel, Top, Left}
+use Rattle.codespan_core.specs.Labels.{Bottom}
 use Rattle.codespan_picture.specs.CharMetrics.{leading_whitespace}
 use Rattle.codespan_picture.specs.Carets.{is_overlapping, max_label_end}
 use Rattle.codespan_picture.specs.Lanes.{begins_in_source_row}

@@ -1,12 +1,16 @@
 -- The rows of an output: of each line, of each file, and of all, with the loci in them.
-use Rattle.std.specs.Prelude.{ℕ, Bool, true, false, ◌||◌, min, List, [], ◌∷◌, ◌++◌, map, filter, fold, flat_map, Option, Some, None, if◌then◌else◌, length}
+use Rattle.std.specs.Prelude.{ℕ, Bool, true, false, ◌||◌, min, List, [], ◌∷◌, ◌++◌, map, filter}
+use Rattle.std.specs.Prelude.{fold, flat_map, Option, Some, None, if◌then◌else◌, length}
 use Rattle.std.specs.Str.Lines.{lines}
 use Rattle.codespan_picture.specs.Types.{Config}
 use Rattle.codespan_core.specs.FileModel.{FileModel, line_text}
-use Rattle.codespan_core.specs.Labels.{LabelModel, is_primary, first_seen, multi_line_labels, single_labels, lane_marks_on}
+use Rattle.codespan_core.specs.Labels.{LabelModel, is_primary, first_seen, multi_line_labels}
+use Rattle.codespan_core.specs.Labels.{single_labels, lane_marks_on}
 use Rattle.codespan_picture.specs.CharMetrics.{text_without_line_end}
 use Rattle.codespan_picture.specs.Lines.{drawn_lines}
-use Rattle.codespan_picture.specs.Rows.{Locus, HeaderText, Lanes, Line, Row, HeaderRow, SnippetStartRow, EmptyRow, BreakRow, FirstNoteRow, LaterNoteRow, FinalRow, rows_of}
+use Rattle.codespan_picture.specs.Rows.{Locus, HeaderText, Lanes, Line, Row, HeaderRow}
+use Rattle.codespan_picture.specs.Rows.{SnippetStartRow, EmptyRow, BreakRow, FirstNoteRow}
+use Rattle.codespan_picture.specs.Rows.{LaterNoteRow, FinalRow, rows_of}
 use Rattle.codespan_picture.specs.Sequences.{break_between, gap_between, in_sequence}
 
 -- a file with its labels, in the order given; not the model of `LabeledFile`, which keeps less

@@ -1,5 +1,6 @@
 -- For `find_pointers` and `next_pointer`: what finds the pointers of a line.
-use Rattle.std.proofs.Common.{◌≡◌, ℕ, ◌+◌, ◌<◌, ◌≤◌, arith, List, [], ◌∷◌, ◌++◌, Option, Some, None, refl, ◌∙◌, append_assoc, filter}
+use Rattle.std.proofs.Common.{◌≡◌, ℕ, ◌+◌, ◌<◌, ◌≤◌, arith, List, [], ◌∷◌, ◌++◌, Option, Some, None}
+use Rattle.std.proofs.Common.{refl, ◌∙◌, append_assoc, filter}
 use Rattle.codespan_core.specs.declared.diagnostic.LabelStyle.{LabelStyle}
 use Rattle.codespan_core.specs.Labels.{LabelModel, has_message}
 use Rattle.codespan_picture.specs.declared.char_metrics.Metrics.{Metrics}
@@ -7,7 +8,8 @@ use Rattle.codespan_renderer.specs.declared.term.renderer.cached.label_cursor.St
 use Rattle.codespan_renderer.specs.declared.term.renderer.char_metrics.CharMetrics.{CharMetrics}
 use Rattle.codespan_picture.specs.declared.rows.pointer_cursor.Pointer.{Pointer}
 use Rattle.codespan_picture.specs.Arguments.{SingleLabelTuple, single_label_views}
-use Rattle.codespan_picture.specs.Private.PointerLists.{pointer_style_if_any, pointer_under, pointers_in}
+use Rattle.codespan_picture.specs.Private.PointerLists.{pointer_style_if_any, pointer_under}
+use Rattle.codespan_picture.specs.Private.PointerLists.{pointers_in}
 use Rattle.codespan_renderer.specs.Private.LabelCursors.{HasPassedStarts}
 use Rattle.codespan_renderer.specs.Private.RemainingMetrics.{GoesOver, metrics_from, no_more}
 use Rattle.codespan_picture.specs.Rows.{hanging_labels}

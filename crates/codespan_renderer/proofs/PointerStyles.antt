@@ -1,5 +1,7 @@
 -- For `pointer_style_if_any` and `find_pointers`: the style of a pointer.
-use Rattle.std.proofs.Common.{◌≡◌, ℕ, suc, ◌+◌, ◌<◌, Bool, true, false, cond, ◌==◌, ◌&&◌, ◌||◌, List, [], ◌∷◌, ◌++◌, length, get_or, drop, filter, fold, Option, Some, None, refl, sym, ap, ◌∙◌, drop-cons, add-one}
+use Rattle.std.proofs.Common.{◌≡◌, ℕ, suc, ◌+◌, ◌<◌, Bool, true, false, cond, ◌==◌, ◌&&◌, ◌||◌}
+use Rattle.std.proofs.Common.{List, [], ◌∷◌, ◌++◌, length, get_or, drop, filter, fold, Option, Some}
+use Rattle.std.proofs.Common.{None, refl, sym, ap, ◌∙◌, drop-cons, add-one}
 use Rattle.std.specs.Prelude.{not, if◌then◌else◌}
 use Rattle.std.specs.List.{list_any}
 use Rattle.std.proofs.lemmas.List.Elements.{filter-append}
@@ -8,7 +10,8 @@ use Rattle.codespan_core.specs.declared.diagnostic.LabelStyle.{LabelStyle}
 use Rattle.codespan_core.specs.declared.diagnostic.LabelStyle.TheVariants.{Primary, Secondary}
 use Rattle.codespan_core.specs.Labels.{LabelModel, has_message, is_primary, is_primary_style}
 use Rattle.codespan_picture.specs.declared.char_metrics.Metrics.{Metrics}
-use Rattle.codespan_picture.specs.Arguments.{SingleLabelTuple, single_label_view, single_label_views}
+use Rattle.codespan_picture.specs.Arguments.{SingleLabelTuple, single_label_view}
+use Rattle.codespan_picture.specs.Arguments.{single_label_views}
 use Rattle.codespan_picture.specs.Rows.{hanging_labels}
 use Rattle.codespan_picture.specs.RowParts.{starts_in, pointer_style}
 use Rattle.codespan_picture.specs.Private.PointerLists.{pointer_style_if_any}
@@ -77,7 +80,8 @@ pub pointer_is : (labels before after : List SingleLabelTuple) (c : Metrics)
     (filter has_message (single_label_views after))
     ≡ pointer_style_if_any (hanging_labels (single_label_views labels)) c
 pointer_is labels before after c h =
-    sym (preferred-append (starts_in c) None (filter has_message (single_label_views before)) (filter has_message (single_label_views after)))
+    sym (preferred-append (starts_in c) None (filter has_message (single_label_views before))
+    (filter has_message (single_label_views after)))
     ∙ ap (preferred_style (starts_in c) None) (hanging_parts labels before after h)
     ∙ preferred-pointer_style c (hanging_labels (single_label_views labels))
 

@@ -1,5 +1,5 @@
--- For `put` and the `set_` calls of `Renderer` and `RowWriter`: a writer behind a reference takes
--- what the writer takes.
+-- For `put` of `Renderer` and `RowWriter`, the `set_` calls and `reset` of `Renderer`, and
+-- `put_mark` of `RowWriter`: a writer behind a reference takes what the writer takes.
 use Rattle.std.proofs.Common.{◌≡◌, ℕ, Bool, true, false, cond, List, ◌∷◌, length, refl, ap, ◌∙◌, Result, Ok, Err}
 use Rattle.std.specs.Prelude.{◌==◌, ◌&&◌, nat_lt}
 use Rattle.std.specs.Borrow.{GName}

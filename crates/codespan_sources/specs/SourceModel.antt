@@ -8,7 +8,8 @@ use Rattle.codespan_sources.specs.declared.native_file.text.SourceText.{SourceTe
 use Rattle.codespan_sources.specs.declared.native_file.text.SourceText.TheVariants.{Newline, Stated}
 use Rattle.codespan_sources.specs.declared.native_files.NativeFiles.{NativeFiles}
 use Rattle.codespan_sources.specs.StatedLines.{location_at}
-use Rattle.codespan_sources.specs.SourceTexts.{SourceTextView, NativeFileView, stated_text, newline_text}
+use Rattle.codespan_sources.specs.SourceTexts.{SourceTextView, NativeFileView, stated_text}
+use Rattle.codespan_sources.specs.SourceTexts.{newline_text}
 
 -- a text cut at newlines
 abbrev pub newline_view : NewlineText → SourceTextView

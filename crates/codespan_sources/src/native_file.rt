@@ -4,7 +4,8 @@ ghost use Rattle.std.specs.Prelude.{◌≡◌, true, IfOk, None};
 ghost use Rattle.codespan_base.specs.FileModel.{line_of};
 ghost use Rattle.codespan_base.specs.LawfulFiles.{FailsBy};
 ghost use Rattle.codespan_sources.specs.StatedLines.{locations_ascend, location_at};
-ghost use Rattle.codespan_sources.specs.SourceTexts.{IsSourceLineRange, source_column, native_file_model, source_line_failure};
+ghost use Rattle.codespan_sources.specs.SourceTexts.{IsSourceLineRange, source_column};
+ghost use Rattle.codespan_sources.specs.SourceTexts.{native_file_model, source_line_failure};
 
 mod newline;
 mod stated;

@@ -1,6 +1,7 @@
 //! The files that a caller of C passes, as a file database.
 
-ghost use Rattle.std.specs.Prelude.{◌≡◌, [], ◌∷◌, ◌++◌, OnOk, IfOk, IfErr, refl, slice_get, Some, None, length};
+ghost use Rattle.std.specs.Prelude.{◌≡◌, [], ◌∷◌, ◌++◌, OnOk, IfOk, IfErr, refl, slice_get, Some};
+ghost use Rattle.std.specs.Prelude.{None, length};
 ghost use Rattle.codespan_base.specs.declared.files.Error.TheVariants.{FileMissing};
 
 use crate::error::OutOfMemory;
@@ -69,7 +70,8 @@ impl<'a> NativeFiles<'a> {
 
 impl<'files, 'a: 'files> Files<'files> for NativeFiles<'a> {
     ghost use Rattle.codespan_base.specs.Lemmas.Missing.{same_at};
-    ghost use Rattle.codespan_sources.specs.Lemmas.NativeFiles.{database_is_lawful, database_fails_past_last_line};
+    ghost use Rattle.codespan_sources.specs.Lemmas.NativeFiles.{database_is_lawful};
+    ghost use Rattle.codespan_sources.specs.Lemmas.NativeFiles.{database_fails_past_last_line};
     ghost use Rattle.codespan_sources.specs.SourceModel.{native_file_views};
     ghost use Rattle.codespan_sources.specs.SourceTexts.{native_database};
 

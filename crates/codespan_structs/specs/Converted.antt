@@ -1,5 +1,6 @@
 -- What the structs of C are converted to: a diagnostic, a configuration and its styles, and files.
-use Rattle.std.specs.Prelude.{ℕ, ◌-◌, ◌==◌, if◌then◌else◌, not, min, List, [], ◌∷◌, map, slice_get, Option, Some, None}
+use Rattle.std.specs.Prelude.{ℕ, ◌-◌, ◌==◌, if◌then◌else◌, not, min, List, [], ◌∷◌, map, slice_get}
+use Rattle.std.specs.Prelude.{Option, Some, None}
 use Rattle.std.specs.Option.{option_map_or}
 use Rattle.codespan_base.specs.Characters.{ascii, box_drawing}
 use Rattle.codespan_base.specs.Diagnostics.{DiagnosticView, LabelView}
@@ -9,7 +10,8 @@ use Rattle.codespan_base.specs.StyleSpellings.{ansi_spelling, default_styles}
 use Rattle.codespan_base.specs.declared.diagnostic.LabelStyle.{LabelStyle}
 use Rattle.codespan_base.specs.declared.diagnostic.LabelStyle.TheVariants.{Primary, Secondary}
 use Rattle.codespan_base.specs.declared.diagnostic.Severity.{Severity}
-use Rattle.codespan_base.specs.declared.diagnostic.Severity.TheVariants.{Help, Note, Warning, Error, Bug}
+use Rattle.codespan_base.specs.declared.diagnostic.Severity.TheVariants.{Help, Note, Warning, Error}
+use Rattle.codespan_base.specs.declared.diagnostic.Severity.TheVariants.{Bug}
 use Rattle.codespan_base.specs.declared.term.config.Config.{Config}
 use Rattle.codespan_base.specs.declared.term.config.DisplayStyle.{DisplayStyle}
 use Rattle.codespan_base.specs.declared.term.config.DisplayStyle.TheVariants.{Rich, Medium, Short}
@@ -18,7 +20,9 @@ use Rattle.codespan_base.specs.declared.term.config.Layout.TheVariants.{Classic,
 use Rattle.codespan_base.specs.declared.term.config.chars.Chars.{Chars}
 use Rattle.codespan_base.specs.declared.term.config.chars.SnippetStart.TheVariants.{Fixed}
 use Rattle.codespan_base.specs.declared.term.config.color.Color.{Color}
-use Rattle.codespan_base.specs.declared.term.config.color.Color.TheVariants.{Black, Red, Green, Yellow, Blue, Magenta, Cyan, White}
+use Rattle.codespan_base.specs.declared.term.config.color.Color.TheVariants.{Black, Red, Green}
+use Rattle.codespan_base.specs.declared.term.config.color.Color.TheVariants.{Yellow, Blue, Magenta}
+use Rattle.codespan_base.specs.declared.term.config.color.Color.TheVariants.{Cyan, White}
 use Rattle.codespan_base.specs.declared.term.config.color.ColorSpec.{ColorSpec}
 use Rattle.codespan_base.specs.declared.term.config.styles.Styles.{Styles}
 use Rattle.codespan_structs.specs.declared.raw.RawChars.{RawChars}
@@ -33,7 +37,8 @@ use Rattle.codespan_structs.specs.declared.raw.RawText.{RawText}
 use Rattle.codespan_structs.specs.Constants.{TAB_WIDTH_MAX}
 use Rattle.codespan_structs.specs.StyleMarkBytes.{style_mark_spelling}
 use Rattle.codespan_sources.specs.StatedLines.{location_at}
-use Rattle.codespan_sources.specs.SourceTexts.{SourceTextView, NativeFileView, native_database, stated_text, newline_text}
+use Rattle.codespan_sources.specs.SourceTexts.{SourceTextView, NativeFileView, native_database}
+use Rattle.codespan_sources.specs.SourceTexts.{stated_text, newline_text}
 
 -- ---- numbers of the header
 

@@ -6,7 +6,8 @@ use Rattle.codespan_structs.specs.declared.raw.RawChars.{RawChars}
 use Rattle.codespan_structs.specs.declared.raw.RawConfig.{RawConfig}
 use Rattle.codespan_structs.specs.declared.raw.RawDiagnostic.{RawDiagnostic}
 use Rattle.codespan_structs.specs.declared.raw.RawFile.{RawFile}
-use Rattle.codespan_structs.specs.Validity.{HasValidMessage, HasValidName, HasValidSource, HasValidLines, HasValidLocations, IsValidText}
+use Rattle.codespan_structs.specs.Validity.{HasValidMessage, HasValidName, HasValidSource}
+use Rattle.codespan_structs.specs.Validity.{HasValidLines, HasValidLocations, IsValidText}
 
 -- the caller's characters
 pub record AreCustomChars (c : RawChars) : Type 0 where

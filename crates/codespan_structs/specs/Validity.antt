@@ -4,7 +4,14 @@ use Rattle.std.specs.List.{slice_index_or, HoldsAt, AllWithin}
 use Rattle.std.specs.Char.{InScalarRange}
 use Rattle.std.specs.Str.{IsUtf8}
 use Rattle.codespan_structs.specs.declared.error.Argument.{Argument}
-use Rattle.codespan_structs.specs.declared.error.Argument.TheVariants.{Abi, DisplayStyle, Layout, Spelling, Characters, SnippetStart, Character, Color, FileName, FileSource, FileLines, FileLocations, Severity, Code, Message, LabelStyle, LabelMessage, LabelFile, Note}
+use Rattle.codespan_structs.specs.declared.error.Argument.TheVariants.{Abi, DisplayStyle, Layout}
+use Rattle.codespan_structs.specs.declared.error.Argument.TheVariants.{Spelling, Characters}
+use Rattle.codespan_structs.specs.declared.error.Argument.TheVariants.{SnippetStart, Character}
+use Rattle.codespan_structs.specs.declared.error.Argument.TheVariants.{Color, FileName, FileSource}
+use Rattle.codespan_structs.specs.declared.error.Argument.TheVariants.{FileLines, FileLocations}
+use Rattle.codespan_structs.specs.declared.error.Argument.TheVariants.{Severity, Code, Message}
+use Rattle.codespan_structs.specs.declared.error.Argument.TheVariants.{LabelStyle, LabelMessage}
+use Rattle.codespan_structs.specs.declared.error.Argument.TheVariants.{LabelFile, Note}
 use Rattle.codespan_structs.specs.declared.raw.Detail.{Detail}
 use Rattle.codespan_structs.specs.declared.raw.RawChars.{RawChars}
 use Rattle.codespan_structs.specs.declared.raw.RawColorSpec.{RawColorSpec}

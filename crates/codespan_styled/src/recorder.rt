@@ -6,7 +6,8 @@ ghost use Rattle.codespan_base.specs.declared.term.config.style_mark.StyleMark.T
 ghost use Rattle.codespan_base.specs.WriterLaw.{Writes, AppendsBytes};
 ghost use Rattle.codespan_base.specs.Writers.{fresh_sink};
 ghost use Rattle.codespan_documents.specs.Runs.{styled_runs};
-ghost use Rattle.codespan_styled.specs.Private.Recorded.{recorded_runs, style_number, style_spelling};
+ghost use Rattle.codespan_styled.specs.Private.Recorded.{recorded_runs, style_number};
+ghost use Rattle.codespan_styled.specs.Private.Recorded.{style_spelling};
 
 use codespan_base::diagnostic::{LabelStyle, Severity};
 use codespan_base::files::Error;
@@ -34,7 +35,8 @@ pub struct Recorder {
 }
 
 impl Recorder {
-    ghost use Rattle.codespan_styled.specs.Private.Recorded.{ended_runs, has_failed, recorded, recorder_sink};
+    ghost use Rattle.codespan_styled.specs.Private.Recorded.{ended_runs, has_failed, recorded};
+    ghost use Rattle.codespan_styled.specs.Private.Recorded.{recorder_sink};
 
     /// Returns a writer that has received nothing. Its first run is plain.
     pub fn new(alloc: Global) -> Recorder

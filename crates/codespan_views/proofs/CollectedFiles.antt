@@ -109,7 +109,8 @@ numbered config unbroken s =
 abbrev pub none_of : {Id A : Type 0} → Id → List A
 none_of id = []
 
-pub nothing-of_each : {Id A : Type 0} (ids : List Id) → flat_map (none_of {Id = Id} {A = A}) ids ≡ []
+pub nothing-of_each : {Id A : Type 0} (ids : List Id)
+    → flat_map (none_of {Id = Id} {A = A}) ids ≡ []
 nothing-of_each [] = refl
 nothing-of_each (id ∷ ids) = nothing-of_each ids
 
@@ -199,7 +200,8 @@ module _ {Id : Type 0} {database : FileDatabase Id} (lawful : AreFiles database)
 
   -- the lookups of the loci of files are those of their snippets
   loci-lookups : (fs : List (RustFile Id)) → AllByRecursion (HasLabels same file xs) fs
-      → locus_lookups_of_files fs ≡ flat_map (λ id. lookups_of_file id (locus_lookups database xs id))
+      → locus_lookups_of_files fs
+      ≡ flat_map (λ id. lookups_of_file id (locus_lookups database xs id))
       (ids_view fs)
   loci-lookups [] known = refl
   loci-lookups (f ∷ fs) known =
@@ -207,7 +209,8 @@ module _ {Id : Type 0} {database : FileDatabase Id} (lawful : AreFiles database)
       ++ loci-lookups fs known.1 i
 
   -- so are those of all files
-  loci-are : locus_lookups_of_files collected.files.items ≡ locus_lookups_of_labels database config xs
+  loci-are : locus_lookups_of_files collected.files.items
+      ≡ locus_lookups_of_labels database config xs
   loci-are =
       loci-lookups collected.files.items all.files.labels_are
       ∙ ap (flat_map (λ id. lookups_of_file id (locus_lookups database xs id))) all.files.ids_are
@@ -277,7 +280,8 @@ module _ {Id : Type 0} {database : FileDatabase Id} (lawful : AreFiles database)
           → padding_by_layout layout file collected
           ≡ padding_of config (labeled_file_models same file xs)
       by_layout Classic classic =
-          spanned ∙ spanned-padding_width same file lawful.equivalence lawful.one_file config xs classic
+          spanned
+          ∙ spanned-padding_width same file lawful.equivalence lawful.one_file config xs classic
       by_layout Unbroken unbroken = digits-are unbroken
 
   -- ---- what was collected, looked up

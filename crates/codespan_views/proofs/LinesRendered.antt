@@ -140,7 +140,8 @@ module _ {F Id Name Source : Type 0} {database : F → FileDatabase Id}
         (ap (stream_of_rows (row_context database snippet config))
         (sym
         (append-nil
-        (rows_of_line (f database snippet config) snippet.num_multi_labels (Filled l annotations)))))
+        (rows_of_line (f database snippet config) snippet.num_multi_labels
+        (Filled l annotations)))))
         (record {
           renders = subst
               (λ (k : Config). RendersOne database snippet k

@@ -148,7 +148,8 @@ module _ {Id : Type 0} {view_config : Config} {database : FileDatabase Id} {d : 
           → WritesOutput Rich renderer_config view_config database d s (Err e) s
       failed-looking_up some known =
           failed_early refl (some_early view_config database d some)
-          (λ memory display. early-of_labels_are view_config database source_labels_are succeeded ∙ known memory display)
+          (λ memory display. early-of_labels_are view_config database source_labels_are succeeded
+          ∙ known memory display)
 
       -- all of these lookups succeed
       pub ready : {numbers : List ℕ} {collected : Collected Id} → AreFiles database

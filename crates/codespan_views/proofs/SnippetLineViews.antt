@@ -60,7 +60,8 @@ later-are n rest =
     ap (λ k. take k (drop n rest)) (sym (length-drop n rest)) ∙ take-length (drop n rest)
 
 -- what is known of all annotations is known of the later ones
-pub later-known : {Id : Type 0} (P : RustAnnotation Id → Type 0) (xs later : List (RustAnnotation Id))
+pub later-known : {Id : Type 0} (P : RustAnnotation Id → Type 0)
+    (xs later : List (RustAnnotation Id))
     → later ≡ drop (length xs - length later) xs → All P xs → All P later
 later-known P xs later is all =
     subst (All P) (sym is) (All-drop P (length xs - length later) xs all)

@@ -44,7 +44,8 @@ pub snippet-rendered : (context_by : Config → RowContext) (first lines : List 
     → WroteStream s (stream_of_rows (context_by config) first) t → now ≡ config
     → IsLookupRun failure t (stream_of_rows (context_by now) lines) r u
     → IsLookupRun failure s (stream_of_rows (context_by config) (first ++ lines)) r u
-snippet-rendered context_by first lines {config = config} {failure = failure} {s = s} {t = t} {u = u} {r = r}
+snippet-rendered context_by first lines {config = config} {failure = failure} {s = s} {t = t}
+    {u = u} {r = r}
     written equal rendered =
     let k = context_by config in
     let start : IsLookupRun None s (stream_of_rows k first) (Ok tt) t =

@@ -78,12 +78,16 @@ module _ {Id : Type 0} (database : FileDatabase Id) (view_config : RichDiagnosti
 
   -- the lookups with a file's snippet
   abbrev pub snippet_lookups_of : Id → List (Id × Lookup)
-  snippet_lookups_of = λ id. lookups_of_file id (snippet_lookups database (labels_of (diagnostic_of view_config)) (view_config_of view_config) id)
+  snippet_lookups_of = λ id. lookups_of_file id
+      (snippet_lookups database (labels_of (diagnostic_of view_config))
+      (view_config_of view_config) id)
 
   module _ (collected : Collected Id) where
     -- the rows of the files from an index on
     abbrev pub rows_left : ℕ → List Row
-    rows_left k = snippets (view_config_of view_config) (has_any (notes_of (diagnostic_of view_config))) (drop k (loci_view collected.files.items)) (map labeled (drop k (ids_view collected.files.items)))
+    rows_left k = snippets (view_config_of view_config)
+        (has_any (notes_of (diagnostic_of view_config))) (drop k (loci_view collected.files.items))
+        (map labeled (drop k (ids_view collected.files.items)))
 
     -- their lookups
     abbrev pub lookups_left : ℕ → List (Id × Lookup)
@@ -94,7 +98,8 @@ module _ {Id : Type 0} (database : FileDatabase Id) (view_config : RichDiagnosti
       pub rows : List Row
       pub rendered : IsLookupRun None old
           (stream_of_rows
-          (context_of renderer_config (diagnostic_of view_config).severity collected.padding.digit_count)
+          (context_of renderer_config (diagnostic_of view_config).severity
+          collected.padding.digit_count)
           rows)
           (Ok tt) now
       pub rows_whole : rows ++ rows_left k ≡ rows_left 0
@@ -106,15 +111,24 @@ module _ {Id : Type 0} (database : FileDatabase Id) (view_config : RichDiagnosti
 pub left-start : {Id : Type 0} {database : FileDatabase Id} {view_config : RichDiagnostic Id}
     {renderer_config : Config} {collected : Collected Id} {s : Sink}
     → SnippetsLeft database view_config collected renderer_config 0 s s
-left-start = record { rows = []; rendered = run_of_nothing; rows_whole = refl; lookups = []; succeeded = refl; lookups_whole = refl }
+left-start = record {
+  rows = [];
+  rendered = run_of_nothing;
+  rows_whole = refl;
+  lookups = [];
+  succeeded = refl;
+  lookups_whole = refl;
+}
 
-module _ {Id : Type 0} {database : FileDatabase Id} {view_config : RichDiagnostic Id} {renderer_config : Config} {collected : Collected Id} {k : ℕ} {old mid : Sink}
+module _ {Id : Type 0} {database : FileDatabase Id} {view_config : RichDiagnostic Id}
+    {renderer_config : Config} {collected : Collected Id} {k : ℕ} {old mid : Sink}
     (numbers : List ℕ) (looked_up : IsLookedUp database (view_config_of view_config)
     (labels_of (diagnostic_of view_config)) numbers collected)
     (left : SnippetsLeft database view_config collected renderer_config k old mid) where
   -- what all rows share, in a configuration
   abbrev context_by : Config → RowContext
-  context_by config = context_of config (diagnostic_of view_config).severity collected.padding.digit_count
+  context_by config = context_of config (diagnostic_of view_config).severity
+      collected.padding.digit_count
 
   -- what all of them do
   abbrev context : RowContext
@@ -133,7 +147,8 @@ module _ {Id : Type 0} {database : FileDatabase Id} {view_config : RichDiagnosti
 
   -- the rows of these files, whose snippets have these loci
   abbrev rows_at : List Locus → List Id → List Row
-  rows_at ps js = snippets (view_config_of view_config) has_notes ps (map (labeled database view_config) js)
+  rows_at ps js = snippets (view_config_of view_config) has_notes ps
+      (map (labeled database view_config) js)
 
   -- the rows of the files from an index on, and their lookups
   abbrev rest : ℕ → List Row
@@ -144,11 +159,13 @@ module _ {Id : Type 0} {database : FileDatabase Id} {view_config : RichDiagnosti
 
   -- the rows of all files
   abbrev all_rows : List Row
-  all_rows = snippets (view_config_of view_config) has_notes loci (labeled_file_models database.same database.file (labels_of (diagnostic_of view_config)))
+  all_rows = snippets (view_config_of view_config) has_notes loci
+      (labeled_file_models database.same database.file (labels_of (diagnostic_of view_config)))
 
   -- what all their lookups fail with
   abbrev all_failure : Option Error
-  all_failure = first_error database.failure (late_lookups database (labels_of (diagnostic_of view_config)) (view_config_of view_config))
+  all_failure = first_error database.failure
+      (late_lookups database (labels_of (diagnostic_of view_config)) (view_config_of view_config))
 
   -- the known numbers of files
   abbrev known_of : List Id → List ℕ
@@ -175,20 +192,28 @@ module _ {Id : Type 0} {database : FileDatabase Id} {view_config : RichDiagnosti
   rows-all = ap (rows_at loci) looked_up.collected_is.files.ids_are
 
   failure-all : first_error database.failure (lookups_from 0) ≡ all_failure
-  failure-all = ap (λ js. first_error database.failure (flat_map (snippet_lookups_of database view_config) js)) looked_up.collected_is.files.ids_are
+  failure-all = ap
+      (λ js. first_error database.failure (flat_map (snippet_lookups_of database view_config) js))
+      looked_up.collected_is.files.ids_are
 
   -- all files are rendered
   pub left-end : {files : List (RustFile Id)} → files ≡ collected.files.items → length files ≤ k
       → WritesWithLookups all_failure old (stream_of_rows context all_rows) (Ok tt) mid
   left-end equal past =
       let none : drop k ids ≡ [] =
-      drop-end ids k (omega (arith, ids-count collected.files.items, subst (λ (fs : List (RustFile Id)). length fs ≤ k) equal past)) in
+      drop-end ids k (omega (
+        arith,
+        ids-count collected.files.items,
+        subst (λ (fs : List (RustFile Id)). length fs ≤ k) equal past,
+      )) in
       subst₂ (λ (o : Option Error) (s : Stream). WritesWithLookups o old s (Ok tt) mid)
       (sym left.succeeded ∙ ap (first_error database.failure)
       (sym (append-nil left.lookups) ∙ ap
       (λ js. left.lookups ++ flat_map (snippet_lookups_of database view_config) js) (sym none)
       ∙ left.lookups_whole) ∙ failure-all)
-      (ap (stream_of_rows context) (sym (append-nil left.rows) ∙ ap (λ r. left.rows ++ r) (sym (no-rows (drop k loci)) ∙ ap (rows_at (drop k loci)) (sym none))
+      (ap (stream_of_rows context) (sym (append-nil left.rows)
+      ∙ ap (λ r. left.rows ++ r) (sym (no-rows (drop k loci))
+      ∙ ap (rows_at (drop k loci)) (sym none))
       ∙ left.rows_whole ∙ rows-all))
       left.rendered.renders
     where
@@ -206,7 +231,8 @@ module _ {Id : Type 0} {database : FileDatabase Id} {view_config : RichDiagnosti
 
     -- the rows of the file at the index
     abbrev rows_here : List Row
-    rows_here = snippet (view_config_of view_config) (locus_view f.locus) own ++ empty_row_after (has_any (drop (k + 1) ids) || has_notes) own
+    rows_here = snippet (view_config_of view_config) (locus_view f.locus) own
+        ++ empty_row_after (has_any (drop (k + 1) ids) || has_notes) own
 
     -- its lookups
     abbrev lookups_here : List (Id × Lookup)
@@ -214,9 +240,12 @@ module _ {Id : Type 0} {database : FileDatabase Id} {view_config : RichDiagnosti
 
     -- these rows come first among those that are left
     rows-next : rest k ≡ rows_here ++ rest (k + 1)
-    rows-next = ap (λ (ps : List Locus). rows_at ps (drop k ids)) (drop-one loci k (locus_view f.locus) (locus-inside at) (locus-at at))
-        ∙ ap (rows_at (locus_view f.locus ∷ drop (k + 1) loci)) (drop-one ids k f.file_id (id-inside at) (id-at at))
-        ∙ ap (λ (b : Bool). (snippet (view_config_of view_config) (locus_view f.locus) own ++ empty_row_after b own) ++ rest (k + 1)) (followed-mapped (drop (k + 1) ids))
+    rows-next = ap (λ (ps : List Locus). rows_at ps (drop k ids))
+        (drop-one loci k (locus_view f.locus) (locus-inside at) (locus-at at))
+        ∙ ap (rows_at (locus_view f.locus ∷ drop (k + 1) loci))
+        (drop-one ids k f.file_id (id-inside at) (id-at at))
+        ∙ ap (λ (b : Bool). (snippet (view_config_of view_config) (locus_view f.locus) own
+        ++ empty_row_after b own) ++ rest (k + 1)) (followed-mapped (drop (k + 1) ids))
       where
         followed-mapped : (js : List Id)
             → (has_any (map (labeled database view_config) js) || has_notes)
@@ -226,7 +255,8 @@ module _ {Id : Type 0} {database : FileDatabase Id} {view_config : RichDiagnosti
 
     -- and so do its lookups
     lookups-next : lookups_from k ≡ lookups_here ++ lookups_from (k + 1)
-    lookups-next = ap (flat_map (snippet_lookups_of database view_config)) (drop-one ids k f.file_id (id-inside at) (id-at at))
+    lookups-next = ap (flat_map (snippet_lookups_of database view_config))
+        (drop-one ids k f.file_id (id-inside at) (id-at at))
 
     -- the file is rendered
     left-next : {new : Sink} → IsLookupRun (first_error database.failure lookups_here) mid
@@ -235,13 +265,17 @@ module _ {Id : Type 0} {database : FileDatabase Id} {view_config : RichDiagnosti
     left-next rendered =
         record {
           rows = left.rows ++ rows_here;
-          rendered = run_as rendered.renders.0 (sym (rows-two context left.rows rows_here)) (run_then left.rendered rendered);
-          rows_whole = append_assoc left.rows rows_here (rest (k + 1)) ∙ ap (λ (r : List Row). left.rows ++ r) (sym rows-next) ∙ left.rows_whole;
+          rendered = run_as rendered.renders.0 (sym (rows-two context left.rows rows_here))
+              (run_then left.rendered rendered);
+          rows_whole = append_assoc left.rows rows_here (rest (k + 1))
+              ∙ ap (λ (r : List Row). left.rows ++ r) (sym rows-next) ∙ left.rows_whole;
           lookups = left.lookups ++ lookups_here;
           succeeded = first_error-append database.failure left.lookups lookups_here
               ∙ ap (λ (o : Option Error). or_failure o (first_error database.failure lookups_here))
               left.succeeded ∙ rendered.renders.0;
-          lookups_whole = append_assoc left.lookups lookups_here (lookups_from (k + 1)) ∙ ap (λ (ls : List (Id × Lookup)). left.lookups ++ ls) (sym lookups-next) ∙ left.lookups_whole;
+          lookups_whole = append_assoc left.lookups lookups_here (lookups_from (k + 1))
+              ∙ ap (λ (ls : List (Id × Lookup)). left.lookups ++ ls) (sym lookups-next)
+              ∙ left.lookups_whole;
         }
 
     -- the file was cut short
@@ -257,10 +291,15 @@ module _ {Id : Type 0} {database : FileDatabase Id} {view_config : RichDiagnosti
         ∙ ap (or_failure (first_error database.failure left.lookups))
         (sym (first_error-append database.failure lookups_here (lookups_from (k + 1)))
         ∙ ap (first_error database.failure) (sym lookups-next))
-        ∙ sym (first_error-append database.failure left.lookups (lookups_from k)) ∙ ap (first_error database.failure) left.lookups_whole ∙ failure-all)
-        (ap (λ (s : Stream). stream_of_rows context left.rows ++ s) (sym (rows-two context rows_here (rest (k + 1))) ∙ ap (stream_of_rows context) (sym rows-next))
-        ∙ sym (rows-two context left.rows (rest k)) ∙ ap (stream_of_rows context) (left.rows_whole ∙ rows-all))
-        (run_then left.rendered (run_cut after (stream_of_rows context (rest (k + 1))) rendered))).renders
+        ∙ sym (first_error-append database.failure left.lookups (lookups_from k))
+        ∙ ap (first_error database.failure) left.lookups_whole ∙ failure-all)
+        (ap (λ (s : Stream). stream_of_rows context left.rows ++ s)
+        (sym (rows-two context rows_here (rest (k + 1)))
+        ∙ ap (stream_of_rows context) (sym rows-next))
+        ∙ sym (rows-two context left.rows (rest k))
+        ∙ ap (stream_of_rows context) (left.rows_whole ∙ rows-all))
+        (run_then left.rendered
+        (run_cut after (stream_of_rows context (rest (k + 1))) rendered))).renders
 
     -- the rows of its snippet
     abbrev own_rows : List Row
@@ -277,7 +316,8 @@ module _ {Id : Type 0} {database : FileDatabase Id} {view_config : RichDiagnosti
 
     -- its lookups, after that of its source
     abbrev lookups_in : List ℕ → Option Error
-    lookups_in left = first_error database.failure (lookups_of_file f.file_id (lookups_with left (filled_lines_of snippet_lines)))
+    lookups_in left = first_error database.failure
+        (lookups_of_file f.file_id (lookups_with left (filled_lines_of snippet_lines)))
 
     module _ {numbers_now : List ℕ} (left_are : numbers_now ≡ numbers_left k) where
       -- the numbers that are left are its own, and those of later files
@@ -285,7 +325,8 @@ module _ {Id : Type 0} {database : FileDatabase Id} {view_config : RichDiagnosti
       left-both = left_are ∙ ap known_of (drop-one ids k f.file_id (id-inside at) (id-at at))
 
       -- they are those of its filled lines
-      pub own-numbers : AreNumbersOf (database.file f.file_id) numbers_now (filled_lines_of snippet_lines)
+      pub own-numbers : AreNumbersOf (database.file f.file_id) numbers_now
+          (filled_lines_of snippet_lines)
       own-numbers =
           rw (left-both, is.lines_are.fills)
           (are-known (database.file f.file_id) (view_config_of view_config).layout
@@ -315,7 +356,8 @@ module _ {Id : Type 0} {database : FileDatabase Id} {view_config : RichDiagnosti
       lookups_here-are : or_failure (database.failure f.file_id Source) (lookups_in numbers_now)
           ≡ first_error database.failure lookups_here
       lookups_here-are =
-          ap (λ (ls : List Lookup). first_error database.failure (lookups_of_file f.file_id (Source ∷ ls)))
+          ap (λ (ls : List Lookup). first_error database.failure
+          (lookups_of_file f.file_id (Source ∷ ls)))
           lookups-are
 
       -- the lookup of its source failed
@@ -324,13 +366,17 @@ module _ {Id : Type 0} {database : FileDatabase Id} {view_config : RichDiagnosti
           → WritesWithLookups all_failure old (stream_of_rows context all_rows) (Err e) mid
       cut-at_source {e} known =
           left-cut
-          (record { renders = run_failed (λ m. sym lookups_here-are ∙ or_failure-some _ (lookups_in numbers_now) e (known m)) })
+          (record {
+            renders = run_failed (λ m. sym lookups_here-are
+                ∙ or_failure-some _ (lookups_in numbers_now) e (known m));
+          })
 
       module _ (succeeded : database.failure f.file_id Source ≡ None) {now : Config}
           (equal : now ≡ renderer_config) where
         -- its snippet is rendered, by an equal configuration, after that lookup
         own-rendered : {r : Result (Unit {0}) Error} {new : Sink}
-            → WritesWithLookups (lookups_in numbers_now) mid (stream_of_rows (context_by now) own_rows) r new
+            → WritesWithLookups (lookups_in numbers_now) mid
+            (stream_of_rows (context_by now) own_rows) r new
             → IsLookupRun (first_error database.failure lookups_here) mid
             (stream_of_rows context own_rows) r new
         own-rendered renders =
@@ -348,14 +394,18 @@ module _ {Id : Type 0} {database : FileDatabase Id} {view_config : RichDiagnosti
             ≡ stream_of_rows context rows_here
         both-are follows follows_is =
             let followed : follows ≡ (has_any (drop (k + 1) ids) || has_notes) =
-            follows_is ∙ ap (λ n. has_notes || nat_lt (k + 1) n) (sym (ids-count collected.files.items)) ∙ sym (followed-at has_notes ids k) in
+            follows_is ∙ ap (λ n. has_notes || nat_lt (k + 1) n)
+            (sym (ids-count collected.files.items)) ∙ sym (followed-at has_notes ids k) in
             sym (rows-two context own_rows (end_rows follows))
             ∙ ap (stream_of_rows context) (rows-are is follows)
-            ∙ ap (λ (b : Bool). stream_of_rows context (snippet (view_config_of view_config) (locus_view f.locus) own ++ empty_row_after b own)) followed
+            ∙ ap (λ (b : Bool). stream_of_rows context
+            (snippet (view_config_of view_config) (locus_view f.locus) own
+            ++ empty_row_after b own)) followed
 
         -- the snippet was cut short
         pub cut-in_snippet : {new : Sink} {e : Error}
-            → WritesWithLookups (lookups_in numbers_now) mid (stream_of_rows (context_by now) own_rows) (Err e) new
+            → WritesWithLookups (lookups_in numbers_now) mid
+            (stream_of_rows (context_by now) own_rows) (Err e) new
             → WritesWithLookups all_failure old (stream_of_rows context all_rows) (Err e) new
         cut-in_snippet renders =
             let follows : Bool = has_notes || nat_lt (k + 1) (length collected.files.items) in
@@ -364,7 +414,8 @@ module _ {Id : Type 0} {database : FileDatabase Id} {view_config : RichDiagnosti
             (run_cut None (stream_of_rows context (end_rows follows)) (own-rendered renders)))
 
         module _ {inner : Sink}
-            (renders : WritesWithLookups (lookups_in numbers_now) mid (stream_of_rows (context_by now) own_rows) (Ok tt) inner)
+            (renders : WritesWithLookups (lookups_in numbers_now) mid
+            (stream_of_rows (context_by now) own_rows) (Ok tt) inner)
             {follows : Bool}
             (follows_is : follows ≡ (has_notes || nat_lt (k + 1) (length collected.files.items)))
             {after : Config} (equal_after : after ≡ now) where

@@ -1,10 +1,13 @@
 -- How worked outputs are written down: texts by their characters, outputs row by row.
-use Rattle.std.specs.Prelude.{ℕ, ◌+◌, ◌*◌, ◌/◌, ◌%◌, ◌==◌, if◌then◌else◌, List, [], ◌∷◌, ◌++◌, map, flat_map, codes, decimal, encode_utf8_all, slice_get, Option, Some, None}
+use Rattle.std.specs.Prelude.{ℕ, ◌+◌, ◌*◌, ◌/◌, ◌%◌, ◌==◌, if◌then◌else◌, List, [], ◌∷◌, ◌++◌, map}
+use Rattle.std.specs.Prelude.{flat_map, codes, decimal, encode_utf8_all, slice_get, Option, Some}
+use Rattle.std.specs.Prelude.{None}
 use Rattle.std.specs.List.{range_with_len}
 use Rattle.std.specs.Fmt.{digits}
 use Rattle.std.specs.Option.{option_map_or}
 use Rattle.unicode_width.proofs.Computing.{unicode_width}
-use Rattle.codespan_picture.specs.Types.{Config, DisplayStyle, Rich, Medium, Short, Severity, LabelStyle, Primary, Secondary}
+use Rattle.codespan_picture.specs.Types.{Config, DisplayStyle, Rich, Medium, Short, Severity}
+use Rattle.codespan_picture.specs.Types.{LabelStyle, Primary, Secondary}
 use Rattle.codespan_base.specs.declared.diagnostic.Severity.TheVariants.{Error}
 use Rattle.codespan_base.specs.FileModel.{FileModel, line_of}
 use Rattle.codespan_base.specs.SimpleModel.{simple_file, missing_file}

@@ -4,9 +4,11 @@ ghost use Rattle.std.specs.Prelude.{◌≡◌, ◌++◌, [], ◌∷◌, codes};
 ghost use Rattle.codespan_base.specs.Defaults.{default_config};
 ghost use Rattle.codespan_base.specs.Streams.{text_of};
 ghost use Rattle.codespan_base.specs.declared.diagnostic.Severity.TheVariants.{Error};
-ghost use Rattle.codespan_base.specs.declared.diagnostic.LabelStyle.TheVariants.{Primary, Secondary};
+ghost use Rattle.codespan_base.specs.declared.diagnostic.LabelStyle.TheVariants.{Primary};
+ghost use Rattle.codespan_base.specs.declared.diagnostic.LabelStyle.TheVariants.{Secondary};
 ghost use Rattle.codespan_base.specs.declared.term.config.Layout.TheVariants.{Unbroken};
-ghost use Rattle.codespan_worked.specs.Worked.{text_file, label, message_only, with_code, with_note, rich, rows, nat_files, nat_error};
+ghost use Rattle.codespan_worked.specs.Worked.{text_file, label, message_only, with_code};
+ghost use Rattle.codespan_worked.specs.Worked.{with_note, rich, rows, nat_files, nat_error};
 
 /// Computes the output of a label with two lines of context before it.
 fn surrounding_lines()

@@ -10,7 +10,9 @@ ghost use Rattle.codespan_base.specs.declared.diagnostic.Severity.TheVariants.{E
 ghost use Rattle.codespan_base.specs.declared.diagnostic.LabelStyle.TheVariants.{Primary};
 ghost use Rattle.codespan_base.specs.declared.files.Error.TheVariants.{FileMissing};
 ghost use Rattle.codespan_picture.specs.Lookups.{first_error, header_lookups_of};
-ghost use Rattle.codespan_worked.specs.Worked.{text_file, mapped_text_file, from_zero, label, message_only, rich, short, rows, many_lines, many_labels, evens, odds};
+ghost use Rattle.codespan_worked.specs.Worked.{text_file, mapped_text_file, from_zero, label};
+ghost use Rattle.codespan_worked.specs.Worked.{message_only, rich, short, rows, many_lines};
+ghost use Rattle.codespan_worked.specs.Worked.{many_labels, evens, odds};
 
 /// Computes the output of a line whose number is set, and of those after it.
 fn mapped_numbers()

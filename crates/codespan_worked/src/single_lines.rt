@@ -5,8 +5,10 @@ ghost use Rattle.codespan_base.specs.Defaults.{default_config};
 ghost use Rattle.codespan_base.specs.Characters.{ascii};
 ghost use Rattle.codespan_base.specs.Streams.{text_of};
 ghost use Rattle.codespan_base.specs.declared.diagnostic.Severity.TheVariants.{Bug, Error, Note};
-ghost use Rattle.codespan_base.specs.declared.diagnostic.LabelStyle.TheVariants.{Primary, Secondary};
-ghost use Rattle.codespan_worked.specs.Worked.{text_file, label, message_only, with_code, rich, rows, tabbed_file};
+ghost use Rattle.codespan_base.specs.declared.diagnostic.LabelStyle.TheVariants.{Primary};
+ghost use Rattle.codespan_base.specs.declared.diagnostic.LabelStyle.TheVariants.{Secondary};
+ghost use Rattle.codespan_worked.specs.Worked.{text_file, label, message_only, with_code, rich};
+ghost use Rattle.codespan_worked.specs.Worked.{rows, tabbed_file};
 
 /// Computes the output of a diagnostic without labels: the header and the final row.
 fn bare_bug()

@@ -4,8 +4,11 @@ ghost use Rattle.std.specs.Prelude.{◌≡◌, ◌++◌, [], ◌∷◌, codes};
 ghost use Rattle.codespan_base.specs.Defaults.{default_config};
 ghost use Rattle.codespan_base.specs.Streams.{text_of, spelled};
 ghost use Rattle.codespan_base.specs.declared.diagnostic.Severity.TheVariants.{Bug, Error};
-ghost use Rattle.codespan_base.specs.declared.diagnostic.LabelStyle.TheVariants.{Primary, Secondary};
-ghost use Rattle.codespan_worked.specs.Worked.{text_file, label, message_only, with_code, with_note, rich, medium, short, rows, ansi, nat_files, nat_error};
+ghost use Rattle.codespan_base.specs.declared.diagnostic.LabelStyle.TheVariants.{Primary};
+ghost use Rattle.codespan_base.specs.declared.diagnostic.LabelStyle.TheVariants.{Secondary};
+ghost use Rattle.codespan_worked.specs.Worked.{text_file, label, message_only, with_code};
+ghost use Rattle.codespan_worked.specs.Worked.{with_note, rich, medium, short, rows, ansi};
+ghost use Rattle.codespan_worked.specs.Worked.{nat_files, nat_error};
 
 /// Computes the output of a diagnostic without labels in short style: the header alone.
 fn bare_bug_short()

@@ -2,7 +2,8 @@
 use Rattle.std.specs.Prelude.{ℕ}
 use Rattle.std.specs.declared.ops.Range.{Range}
 use Rattle.examples.specs.declared.errors.settings.SettingsError.{SettingsError}
-use Rattle.examples.specs.declared.errors.settings.SettingsError.TheVariants.{NotANumber, SetTwice, UnknownKey}
+use Rattle.examples.specs.declared.errors.settings.SettingsError.TheVariants.{NotANumber, SetTwice}
+use Rattle.examples.specs.declared.errors.settings.SettingsError.TheVariants.{UnknownKey}
 
 -- the bytes that are wrong: of a key that is set twice, the second time
 abbrev pub error_range : SettingsError → Range ℕ

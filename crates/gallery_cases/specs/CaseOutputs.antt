@@ -5,13 +5,15 @@ use Rattle.codespan_base.specs.Diagnostics.{diagnostic_view}
 use Rattle.codespan_base.specs.declared.files.Error.{Error}
 use Rattle.codespan_base.specs.FileModel.{FileDatabase, FileModel, Lookup}
 use Rattle.codespan_base.specs.MappedModel.{mapped_file, mapped_failure}
-use Rattle.codespan_base.specs.SimpleModel.{simple_file, simple_failure, database_file, database_failure}
+use Rattle.codespan_base.specs.SimpleModel.{simple_file, simple_failure, database_file}
+use Rattle.codespan_base.specs.SimpleModel.{database_failure}
 use Rattle.codespan_views.specs.Output.{IsRendered}
 use Rattle.gallery_script.specs.declared.case.Case.{Case}
 use Rattle.gallery_script.specs.declared.case.DatabaseKind.{DatabaseKind}
 use Rattle.gallery_script.specs.declared.case.DatabaseKind.TheVariants.{One, Several, Mapped}
 use Rattle.gallery_script.specs.Cases.{file_view}
-use Rattle.gallery_script.specs.Database.{BorrowedFile, borrowed_view, with_set_numbers, with_unit_ids}
+use Rattle.gallery_script.specs.Database.{BorrowedFile, borrowed_view, with_set_numbers}
+use Rattle.gallery_script.specs.Database.{with_unit_ids}
 
 -- ---- file databases
 

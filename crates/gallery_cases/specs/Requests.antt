@@ -5,7 +5,8 @@ use Rattle.codespan_base.specs.StyleSpellings.{default_styles}
 use Rattle.codespan_styled.specs.StyleSheet.{style_sheet}
 use Rattle.gallery_script.specs.declared.case.Case.{Case}
 use Rattle.gallery_script.specs.declared.errors.GalleryError.{GalleryError}
-use Rattle.gallery_script.specs.declared.errors.GalleryError.TheVariants.{CannotRender, Line, UnknownCase}
+use Rattle.gallery_script.specs.declared.errors.GalleryError.TheVariants.{CannotRender, Line}
+use Rattle.gallery_script.specs.declared.errors.GalleryError.TheVariants.{UnknownCase}
 use Rattle.gallery_script.specs.declared.request.Format.{Format}
 use Rattle.gallery_script.specs.Cases.{IsFirstLineError, AppliesLines, case_named}
 use Rattle.gallery_script.specs.Requests.{GalleryRequestView}

@@ -4,7 +4,8 @@ ghost use Rattle.std.specs.Prelude.{◌≡◌, ℕ, List, ◌++◌, IfOk, OnOk};
 ghost use Rattle.gallery_script.specs.declared.case.ColorChoice.TheVariants.{Plain, Svg};
 ghost use Rattle.gallery_cases.specs.CaseOutputs.{AppendsOutput};
 ghost use Rattle.gallery_cases.specs.Documents.{AppendsSvg};
-ghost use Rattle.gallery_cases.specs.Galleries.{heading, with_escapes, IsSection, IsGallery, IsErrorLine};
+ghost use Rattle.gallery_cases.specs.Galleries.{heading, with_escapes, IsSection, IsGallery};
+ghost use Rattle.gallery_cases.specs.Galleries.{IsErrorLine};
 
 use crate::document::document;
 use crate::rendering::render;

@@ -1,8 +1,10 @@
 //! One run of the program.
 
-ghost use Rattle.std.specs.Prelude.{◌≡◌, ◌≢◌, ◌≤◌, ◌↔◌, ℕ, List, MatchResult, None, OnOk, IfErr, IfOk, IfSome, IsErrAnd, IsErrOf, IsOkAnd, map, string_bytes};
+ghost use Rattle.std.specs.Prelude.{◌≡◌, ◌≢◌, ◌≤◌, ◌↔◌, ℕ, List, MatchResult, None, OnOk, IfErr};
+ghost use Rattle.std.specs.Prelude.{IfOk, IfSome, IsErrAnd, IsErrOf, IsOkAnd, map, string_bytes};
 ghost use Rattle.std.specs.Io.KnownBytes.{Appends};
-ghost use Rattle.gallery_cases.specs.Requests.{IsResponse, IsResponseOf, IsGalleryRunError, IsResponseError};
+ghost use Rattle.gallery_cases.specs.Requests.{IsResponse, IsResponseOf, IsGalleryRunError};
+ghost use Rattle.gallery_cases.specs.Requests.{IsResponseError};
 ghost use Rattle.gallery_script.specs.Requests.{gallery_request_of, gallery_request_view};
 
 use crate::document::{default_style_sheet, document};

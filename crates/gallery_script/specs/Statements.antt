@@ -1,17 +1,23 @@
 -- What a line states.
-use Rattle.std.specs.Prelude.{◌≡◌, ◌≢◌, ◌⊎◌, ℕ, true, false, List, Option, Some, None, IsSomeAnd, codes, string_bytes}
+use Rattle.std.specs.Prelude.{◌≡◌, ◌≢◌, ◌⊎◌, ℕ, true, false, List, Option, Some, None, IsSomeAnd}
+use Rattle.std.specs.Prelude.{codes, string_bytes}
 use Rattle.codespan_base.specs.declared.diagnostic.Label.{Label}
 use Rattle.codespan_base.specs.declared.diagnostic.LabelStyle.{LabelStyle}
 use Rattle.codespan_base.specs.declared.diagnostic.LabelStyle.TheVariants as styles
 use Rattle.gallery_script.specs.declared.errors.LineError.{LineError}
-use Rattle.gallery_script.specs.declared.errors.LineError.TheVariants.{UnknownWord, UnknownName, BadNumber, BadEscape, NoCase, NoFile, OutOfMemory}
+use Rattle.gallery_script.specs.declared.errors.LineError.TheVariants.{UnknownWord, UnknownName}
+use Rattle.gallery_script.specs.declared.errors.LineError.TheVariants.{BadNumber, BadEscape, NoCase}
+use Rattle.gallery_script.specs.declared.errors.LineError.TheVariants.{NoFile, OutOfMemory}
 use Rattle.gallery_script.specs.declared.statement.ContextLines as context_lines
 use Rattle.gallery_script.specs.declared.statement.Line.{Line}
 use Rattle.gallery_script.specs.declared.statement.Line.TheVariants.{Ignored, NewCase, OfLastCase}
 use Rattle.gallery_script.specs.declared.statement.Statement.{Statement}
 use Rattle.gallery_script.specs.declared.statement.Statement.TheVariants as statements
 use Rattle.gallery_script.specs.declared.words.Word.{Word}
-use Rattle.gallery_script.specs.declared.words.Word.TheVariants.{Database, File, Source, Number, Style, Layout, Tab, Context, Characters, Colors, Severity, Code, Message, Primary, Secondary, Note}
+use Rattle.gallery_script.specs.declared.words.Word.TheVariants.{Database, File, Source, Number}
+use Rattle.gallery_script.specs.declared.words.Word.TheVariants.{Style, Layout, Tab, Context}
+use Rattle.gallery_script.specs.declared.words.Word.TheVariants.{Characters, Colors, Severity, Code}
+use Rattle.gallery_script.specs.declared.words.Word.TheVariants.{Message, Primary, Secondary, Note}
 use Rattle.gallery_script.specs.Escapes.{Unescapes}
 use Rattle.program_io.specs.Fields.{field_of, past_space, is_ignored_text}
 use Rattle.program_io.specs.Names.{severity_named, display_style_named}

@@ -12,7 +12,10 @@ use Rattle.gallery_script.specs.declared.case.ColorChoice.TheVariants.{Plain, An
 use Rattle.gallery_script.specs.declared.case.CharacterSet.{CharacterSet}
 use Rattle.gallery_script.specs.declared.case.CharacterSet.TheVariants as sets
 use Rattle.gallery_script.specs.declared.words.Word.{Word}
-use Rattle.gallery_script.specs.declared.words.Word.TheVariants.{Database, File, Source, Number, Style, Layout, Tab, Context, Characters, Colors, Severity, Code, Message, Primary, Secondary, Note}
+use Rattle.gallery_script.specs.declared.words.Word.TheVariants.{Database, File, Source, Number}
+use Rattle.gallery_script.specs.declared.words.Word.TheVariants.{Style, Layout, Tab, Context}
+use Rattle.gallery_script.specs.declared.words.Word.TheVariants.{Characters, Colors, Severity, Code}
+use Rattle.gallery_script.specs.declared.words.Word.TheVariants.{Message, Primary, Secondary, Note}
 
 -- the word that this text is
 unfoldable pub case_word_named : List ℕ → Option Word

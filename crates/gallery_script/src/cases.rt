@@ -11,7 +11,9 @@
 ghost use Rattle.std.specs.Prelude.{◌≡◌, [], map, OnOk, IfOk, IfErr};
 ghost use Rattle.std.specs.Option.{option_copied};
 ghost use Rattle.std.specs.Str.Lines.{lines};
-ghost use Rattle.gallery_script.specs.Cases.{AppliesLine, AppliesLines, IsLineError, IsFirstLineError, AppliesToLast, FailsAtLast, case_named};
+ghost use Rattle.gallery_script.specs.Cases.{AppliesLine, AppliesLines, IsLineError};
+ghost use Rattle.gallery_script.specs.Cases.{IsFirstLineError, AppliesToLast, FailsAtLast};
+ghost use Rattle.gallery_script.specs.Cases.{case_named};
 
 use crate::case::Case;
 use crate::errors::{GalleryError, LineError};

@@ -2,10 +2,12 @@
 
 ghost use Rattle.std.specs.Prelude.{◌≡◌, ◌∷◌, [], map, IfOk};
 ghost use Rattle.codespan_base.specs.Diagnostics.{diagnostic_view, label_view};
-ghost use Rattle.codespan_base.specs.MappedFileViews.{mapped_name_of, mapped_source_of, set_numbers_of};
+ghost use Rattle.codespan_base.specs.MappedFileViews.{mapped_name_of, mapped_source_of};
+ghost use Rattle.codespan_base.specs.MappedFileViews.{set_numbers_of};
 ghost use Rattle.codespan_base.specs.SimpleFilesViews.{entries};
 ghost use Rattle.gallery_script.specs.Cases.{file_view};
-ghost use Rattle.gallery_script.specs.Database.{IsDatabaseOf, with_unit_ids, label_with_unit_id, borrowed_view, with_set_numbers};
+ghost use Rattle.gallery_script.specs.Database.{IsDatabaseOf, with_unit_ids, label_with_unit_id};
+ghost use Rattle.gallery_script.specs.Database.{borrowed_view, with_set_numbers};
 
 use crate::case::{Case, DatabaseKind, File, SetNumber};
 use codespan_base::diagnostic::{Diagnostic, Label};

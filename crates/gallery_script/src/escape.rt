@@ -1,9 +1,12 @@
 //! Texts with escapes.
 
-ghost use Rattle.std.specs.Prelude.{◌≡◌, ◌⊎◌, ℕ, ◌≤◌, ◌<◌, length, IfSome, MatchResult, Some, None, string_bytes};
+ghost use Rattle.std.specs.Prelude.{◌≡◌, ◌⊎◌, ℕ, ◌≤◌, ◌<◌, length, IfSome, MatchResult, Some, None};
+ghost use Rattle.std.specs.Prelude.{string_bytes};
 ghost use Rattle.std.specs.Option.{option_map};
-ghost use Rattle.gallery_script.specs.Escapes.{Unescapes, ParsesEscape, ParsesUnicodeEscape, IsHexCharacter};
-ghost use Rattle.gallery_script.specs.declared.errors.LineError.TheVariants.{BadEscape, OutOfMemory};
+ghost use Rattle.gallery_script.specs.Escapes.{Unescapes, ParsesEscape, ParsesUnicodeEscape};
+ghost use Rattle.gallery_script.specs.Escapes.{IsHexCharacter};
+ghost use Rattle.gallery_script.specs.declared.errors.LineError.TheVariants.{BadEscape};
+ghost use Rattle.gallery_script.specs.declared.errors.LineError.TheVariants.{OutOfMemory};
 
 use crate::errors::LineError;
 use std::alloc::Global;

@@ -2,7 +2,8 @@
 
 ghost use Rattle.std.specs.Prelude.{◌≡◌, Some, IfOk, IfErr};
 ghost use Rattle.std.specs.Option.{ok_or};
-ghost use Rattle.gallery_script.specs.Statements.{ParsesTo, States, IsWrong, IsWrongLine, label_style_word};
+ghost use Rattle.gallery_script.specs.Statements.{ParsesTo, States, IsWrong, IsWrongLine};
+ghost use Rattle.gallery_script.specs.Statements.{label_style_word};
 ghost use Rattle.gallery_script.specs.declared.errors.LineError.TheVariants.{UnknownName};
 ghost use Rattle.gallery_script.specs.declared.words.Word.TheVariants as words;
 

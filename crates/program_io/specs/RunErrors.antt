@@ -5,7 +5,10 @@ use Rattle.program_io.specs.declared.arguments.ArgumentsError.TheVariants as arg
 use Rattle.program_io.specs.declared.input.InputError.{InputError}
 use Rattle.program_io.specs.declared.input.InputError.TheVariants as input
 use Rattle.program_io.specs.declared.run_error.RunError.{RunError}
-use Rattle.program_io.specs.declared.run_error.RunError.TheVariants.{WrongArguments, CannotReadInput, NotUtf8, OutOfMemory, CannotWriteOutput, Program}
+use Rattle.program_io.specs.declared.run_error.RunError.TheVariants.{WrongArguments}
+use Rattle.program_io.specs.declared.run_error.RunError.TheVariants.{CannotReadInput, NotUtf8}
+use Rattle.program_io.specs.declared.run_error.RunError.TheVariants.{OutOfMemory, CannotWriteOutput}
+use Rattle.program_io.specs.declared.run_error.RunError.TheVariants.{Program}
 
 -- the status of an outcome: 0 without an error, 2 for wrong arguments, 1 for any other error
 abbrev pub IsStatusOf : {E : Type 0} → Result (Unit {0}) (RunError E) → ℕ → Type 0

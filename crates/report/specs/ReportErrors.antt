@@ -1,5 +1,6 @@
 -- The errors of a run.
-use Rattle.std.specs.Prelude.{◌≡◌, ◌⊎◌, ℕ, List, ◌++◌, Option, Some, Result, Ok, Err, codes, string_bytes}
+use Rattle.std.specs.Prelude.{◌≡◌, ◌⊎◌, ℕ, List, ◌++◌, Option, Some, Result, Ok, Err, codes}
+use Rattle.std.specs.Prelude.{string_bytes}
 use Rattle.std.specs.Global.{Global}
 use Rattle.std.specs.Option.{option_map}
 use Rattle.std.specs.declared.string.String.{String}
@@ -8,7 +9,10 @@ use Rattle.codespan_core.specs.ErrorText.{error_text}
 use Rattle.program_io.specs.Output.{AppendsPrefix}
 use Rattle.program_io.specs.RunErrors.{IsStatusOf, failed_output_line}
 use Rattle.program_io.specs.declared.run_error.RunError.{RunError}
-use Rattle.program_io.specs.declared.run_error.RunError.TheVariants.{WrongArguments, CannotReadInput, NotUtf8, OutOfMemory, CannotWriteOutput, Program}
+use Rattle.program_io.specs.declared.run_error.RunError.TheVariants.{WrongArguments}
+use Rattle.program_io.specs.declared.run_error.RunError.TheVariants.{CannotReadInput, NotUtf8}
+use Rattle.program_io.specs.declared.run_error.RunError.TheVariants.{OutOfMemory, CannotWriteOutput}
+use Rattle.program_io.specs.declared.run_error.RunError.TheVariants.{Program}
 use Rattle.report.specs.declared.report_error.ReportError.{ReportError}
 use Rattle.report.specs.declared.report_error.ReportError.TheVariants.{CannotRender, BadScript}
 use Rattle.report.specs.RenderedTexts.{IsRenderError, rendering_of}

@@ -3,7 +3,8 @@
 ghost use Rattle.std.specs.Prelude.{◌≡◌, IfOk, IfErr, Ok, string_bytes};
 ghost use Rattle.codespan_core.specs.ConfigEquality.{IsEqualConfig};
 ghost use Rattle.codespan_core.specs.Diagnostics.{diagnostic_view};
-ghost use Rattle.report.specs.RenderedTexts.{report_config, rendering_of, rendering_of_script, output_text, IsRenderError};
+ghost use Rattle.report.specs.RenderedTexts.{report_config, rendering_of, rendering_of_script};
+ghost use Rattle.report.specs.RenderedTexts.{output_text, IsRenderError};
 ghost use Rattle.report_script.specs.Requests.{request_view};
 ghost use Rattle.report_script.specs.Scripts.{parsed_script};
 

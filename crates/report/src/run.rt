@@ -1,12 +1,14 @@
 //! One run of the program.
 
-ghost use Rattle.std.specs.Prelude.{◌≡◌, ◌≢◌, ◌≤◌, ◌↔◌, ◌⊎◌, ℕ, List, None, Ok, Err, IfErr, IsErrOf, OnOk, codes, map, string_bytes};
+ghost use Rattle.std.specs.Prelude.{◌≡◌, ◌≢◌, ◌≤◌, ◌↔◌, ◌⊎◌, ℕ, List, None, Ok, Err, IfErr};
+ghost use Rattle.std.specs.Prelude.{IsErrOf, OnOk, codes, map, string_bytes};
 ghost use Rattle.std.specs.Io.KnownBytes.{Appends, IsAtEnd};
 ghost use Rattle.std.specs.Str.{IsUtf8};
 ghost use Rattle.report.specs.RenderedTexts.{rendering_of};
 ghost use Rattle.program_io.specs.Output.{AppendsPrefix};
 ghost use Rattle.program_io.specs.RunErrors.{failed_output_line};
-ghost use Rattle.report.specs.ReportErrors.{IsRunError, IfBadScript, IsReportStatusOf, UnchangedUnlessRendered};
+ghost use Rattle.report.specs.ReportErrors.{IsRunError, IfBadScript, IsReportStatusOf};
+ghost use Rattle.report.specs.ReportErrors.{UnchangedUnlessRendered};
 ghost use Rattle.report_script.specs.Requests.{WhereKnown, request_of};
 
 use crate::rendering::render;

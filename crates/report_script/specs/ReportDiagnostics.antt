@@ -6,7 +6,9 @@ use Rattle.codespan_core.specs.declared.diagnostic.Severity.TheVariants as sever
 use Rattle.codespan_core.specs.Diagnostics.{DiagnosticView, LabelView}
 use Rattle.report_script.specs.declared.script.Fault.{Fault}
 use Rattle.report_script.specs.declared.script.FaultKind.{FaultKind}
-use Rattle.report_script.specs.declared.script.FaultKind.TheVariants.{UnknownWord, UnknownSeverity, BadNumber, RepeatedWord, MissingEnd}
+use Rattle.report_script.specs.declared.script.FaultKind.TheVariants.{UnknownWord, UnknownSeverity}
+use Rattle.report_script.specs.declared.script.FaultKind.TheVariants.{BadNumber, RepeatedWord}
+use Rattle.report_script.specs.declared.script.FaultKind.TheVariants.{MissingEnd}
 use Rattle.report_script.specs.Requests.{LabelRequestView}
 
 -- the diagnostic of a label request: an error with its message, and one primary label with the same

@@ -1,5 +1,6 @@
 -- The first error of a script.
-use Rattle.std.specs.Prelude.{◌≡◌, ℕ, List, [], ◌∷◌, ◌++◌, length, Option, Some, None, Result, Err, if◌then◌else◌, is_some}
+use Rattle.std.specs.Prelude.{◌≡◌, ℕ, List, [], ◌∷◌, ◌++◌, length, Option, Some, None, Result, Err}
+use Rattle.std.specs.Prelude.{if◌then◌else◌, is_some}
 use Rattle.std.specs.Option.{option_map}
 use Rattle.std.specs.Str.{bytes_eq}
 use Rattle.std.specs.declared.ops.Range.{Range}
@@ -7,11 +8,14 @@ use Rattle.program_io.specs.Fields.{field_of, past_space}
 use Rattle.program_io.specs.Names.{severity_named}
 use Rattle.report_script.specs.declared.script.Fault.{Fault}
 use Rattle.report_script.specs.declared.script.FaultKind.{FaultKind}
-use Rattle.report_script.specs.declared.script.FaultKind.TheVariants.{UnknownWord, UnknownSeverity, BadNumber, RepeatedWord, MissingEnd}
+use Rattle.report_script.specs.declared.script.FaultKind.TheVariants.{UnknownWord, UnknownSeverity}
+use Rattle.report_script.specs.declared.script.FaultKind.TheVariants.{BadNumber, RepeatedWord}
+use Rattle.report_script.specs.declared.script.FaultKind.TheVariants.{MissingEnd}
 use Rattle.report_script.specs.declared.script.ScriptError.{ScriptError}
 use Rattle.report_script.specs.declared.script.ScriptError.TheVariants as errors
 use Rattle.report_script.specs.declared.script.words.Word.{Word}
-use Rattle.report_script.specs.declared.script.words.Word.TheVariants.{Severity, Code, Message, Primary, Secondary, Note}
+use Rattle.report_script.specs.declared.script.words.Word.TheVariants.{Severity, Code, Message}
+use Rattle.report_script.specs.declared.script.words.Word.TheVariants.{Primary, Secondary, Note}
 use Rattle.report_script.specs.Requests.{number_of}
 use Rattle.report_script.specs.ScriptLines.{ScriptLineView, is_ignored, word_of, rest_of}
 use Rattle.report_script.specs.ScriptLines.{range_at, word_range}

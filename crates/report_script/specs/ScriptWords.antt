@@ -2,7 +2,8 @@
 use Rattle.std.specs.Prelude.{ℕ, List, Option, Some, None, codes, if◌then◌else◌}
 use Rattle.std.specs.Str.{bytes_eq}
 use Rattle.report_script.specs.declared.script.words.Word.{Word}
-use Rattle.report_script.specs.declared.script.words.Word.TheVariants.{Severity, Code, Message, Primary, Secondary, Note}
+use Rattle.report_script.specs.declared.script.words.Word.TheVariants.{Severity, Code, Message}
+use Rattle.report_script.specs.declared.script.words.Word.TheVariants.{Primary, Secondary, Note}
 
 -- the word that this text is
 unfoldable pub script_word_named : List ℕ → Option Word

@@ -1,5 +1,6 @@
 -- What a script states.
-use Rattle.std.specs.Prelude.{ℕ, List, [], map, Option, Some, None, Result, Ok, Err, codes, if◌then◌else◌, unwrap_or}
+use Rattle.std.specs.Prelude.{ℕ, List, [], map, Option, Some, None, Result, Ok, Err, codes}
+use Rattle.std.specs.Prelude.{if◌then◌else◌, unwrap_or}
 use Rattle.std.specs.Borrow.{Bor}
 use Rattle.std.specs.List.{filter_map}
 use Rattle.std.specs.Option.{option_map, option_and_then}
@@ -18,7 +19,8 @@ use Rattle.report_script.specs.declared.script.words.Word.{Word}
 use Rattle.report_script.specs.declared.script.words.Word.TheVariants.{Primary, Secondary}
 use Rattle.report_script.specs.Requests.{number_of}
 use Rattle.report_script.specs.ScriptFaults.{line_of_word, fault_from, missing_end}
-use Rattle.report_script.specs.ScriptLines.{ScriptLineView, script_lines, body, script_source, word_of, rest_of}
+use Rattle.report_script.specs.ScriptLines.{ScriptLineView, script_lines, body, script_source}
+use Rattle.report_script.specs.ScriptLines.{word_of, rest_of}
 use Rattle.report_script.specs.ScriptWords.{script_word_named}
 
 -- what a script states: a diagnostic of one file, and that file's source

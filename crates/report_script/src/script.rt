@@ -60,7 +60,8 @@ pub enum FaultKind {
 }
 
 impl FaultKind {
-    ghost use Rattle.report_script.specs.ReportDiagnostics.{fault_code, fault_message, fault_label_message};
+    ghost use Rattle.report_script.specs.ReportDiagnostics.{fault_code, fault_message};
+    ghost use Rattle.report_script.specs.ReportDiagnostics.{fault_label_message};
 
     /// Returns the code of the diagnostic, from `S1` to `S5` in the order of the kinds.
     pub fn code(self) -> &'static str

@@ -3,7 +3,12 @@ use Rattle.std.specs.Prelude.{ℕ, Bool, List, [], Option, codes, if◌then◌el
 use Rattle.codespan_base.specs.declared.diagnostic.LabelStyle.TheVariants.{Primary, Secondary}
 use Rattle.codespan_base.specs.declared.term.config.color.ColorSpec.{ColorSpec}
 use Rattle.codespan_base.specs.declared.term.config.style_mark.StyleMark.{StyleMark}
-use Rattle.codespan_base.specs.declared.term.config.style_mark.StyleMark.TheVariants.{Header, HeaderMessage, LineNumber, NoteBullet, SourceBorder, Label, Reset}
+use Rattle.codespan_base.specs.declared.term.config.style_mark.StyleMark.TheVariants.{Header}
+use Rattle.codespan_base.specs.declared.term.config.style_mark.StyleMark.TheVariants.{HeaderMessage}
+use Rattle.codespan_base.specs.declared.term.config.style_mark.StyleMark.TheVariants.{LineNumber}
+use Rattle.codespan_base.specs.declared.term.config.style_mark.StyleMark.TheVariants.{NoteBullet}
+use Rattle.codespan_base.specs.declared.term.config.style_mark.StyleMark.TheVariants.{SourceBorder}
+use Rattle.codespan_base.specs.declared.term.config.style_mark.StyleMark.TheVariants.{Label, Reset}
 use Rattle.codespan_base.specs.WriterLaw.{Sink}
 
 -- the tag of a style mark

@@ -1,6 +1,7 @@
 //! A file database of many files, each a name and a source.
 
-ghost use Rattle.std.specs.Prelude.{◌≡◌, ◌+◌, ◌<◌, ◌++◌, ◌∷◌, ◌↔◌, [], IfOk, IfErr, IfSome, IsOk, OnOk, OnErr, IsErrOf, length, refl, slice_get, Some, None};
+ghost use Rattle.std.specs.Prelude.{◌≡◌, ◌+◌, ◌<◌, ◌++◌, ◌∷◌, ◌↔◌, [], IfOk, IfErr, IfSome, IsOk};
+ghost use Rattle.std.specs.Prelude.{OnOk, OnErr, IsErrOf, length, refl, slice_get, Some, None};
 ghost use Rattle.codespan_core.specs.declared.files.Error.TheVariants.{OutOfMemory, FileMissing};
 
 use codespan_core::files::{Error, Files, Location, SimpleFile, default_line_number};
@@ -77,14 +78,21 @@ impl<Name, Source: AsStr> SimpleFiles<Name, Source> {
 
 /// No call allocates. Each call but `line_number` looks the file up.
 impl<'a, Name: Display + 'a, Source: AsStr + 'a> Files<'a> for SimpleFiles<Name, Source> {
-    ghost use Rattle.codespan_base.specs.SimpleFilesViews.{entries, database_failure_of, database_file_of};
+    ghost use Rattle.codespan_base.specs.SimpleFilesViews.{entries, database_failure_of};
+    ghost use Rattle.codespan_base.specs.SimpleFilesViews.{database_file_of};
     ghost use Rattle.codespan_core.specs.SimpleFileViews.{name_of, source_of, file_text_of};
     ghost use Rattle.codespan_core.specs.SimpleModel.{simple_failure};
     ghost use Rattle.codespan_core.specs.FileModel.{line_of};
-    ghost use Rattle.codespan_core.specs.LawfulFiles.{IsLineRange, NeedsNoMemory, FailsBy, line_number_failure};
-    ghost use Rattle.codespan_core.specs.FileModel.Lookup.{Name as NameLookup, Source as SourceLookup, LineIndex, LineNumber, ColumnNumber, LocationAt, LineRange};
-    ghost use Rattle.codespan_core.specs.Lemmas.Simple.{simple_lawful, simple_past_last_line, text_fits, text_is_utf8};
-    ghost use Rattle.codespan_core.specs.Lemmas.Missing.{database_lawful, past_last_line_or, same_at};
+    ghost use Rattle.codespan_core.specs.LawfulFiles.{IsLineRange, NeedsNoMemory, FailsBy};
+    ghost use Rattle.codespan_core.specs.LawfulFiles.{line_number_failure};
+    ghost use Rattle.codespan_core.specs.FileModel.Lookup.{Name as NameLookup};
+    ghost use Rattle.codespan_core.specs.FileModel.Lookup.{Source as SourceLookup, LineIndex};
+    ghost use Rattle.codespan_core.specs.FileModel.Lookup.{LineNumber, ColumnNumber, LocationAt};
+    ghost use Rattle.codespan_core.specs.FileModel.Lookup.{LineRange};
+    ghost use Rattle.codespan_core.specs.Lemmas.Simple.{simple_lawful, simple_past_last_line};
+    ghost use Rattle.codespan_core.specs.Lemmas.Simple.{text_fits, text_is_utf8};
+    ghost use Rattle.codespan_core.specs.Lemmas.Missing.{database_lawful, past_last_line_or};
+    ghost use Rattle.codespan_core.specs.Lemmas.Missing.{same_at};
 
     /// The index of a file, from 0.
     type FileId = usize;

@@ -2,7 +2,8 @@
 //! are those of the Rust crate's default bodies.
 
 ghost use Rattle.std.specs.Prelude.{◌≡◌, ◌+◌, IfOk};
-ghost use Rattle.codespan_core.specs.LawfulFiles.{FailsBy, column_index_on, location_of, column_number_failure, location_failure};
+ghost use Rattle.codespan_core.specs.LawfulFiles.{FailsBy, column_index_on, location_of};
+ghost use Rattle.codespan_core.specs.LawfulFiles.{column_number_failure, location_failure};
 
 use crate::files::{Error, Files, Location};
 use std::convert::AsStr;

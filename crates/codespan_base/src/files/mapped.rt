@@ -1,8 +1,10 @@
 //! A file database of one text whose line numbers can be set, as `#line` does in C.
 
-ghost use Rattle.std.specs.Prelude.{◌≡◌, ◌≤◌, [], refl, IfOk, IsOk, IfErr, IfSome, OnOk, OnErr, IsErrOf, None, option_map};
+ghost use Rattle.std.specs.Prelude.{◌≡◌, ◌≤◌, [], refl, IfOk, IsOk, IfErr, IfSome, OnOk, OnErr};
+ghost use Rattle.std.specs.Prelude.{IsErrOf, None, option_map};
 ghost use Rattle.codespan_core.specs.Lines.{line_starts_of};
-ghost use Rattle.codespan_base.specs.SetLineNumbers.{set_number_view, set_number_views, IsStrictlySorted, IsSetAt, IsInsertionPoint};
+ghost use Rattle.codespan_base.specs.SetLineNumbers.{set_number_view, set_number_views};
+ghost use Rattle.codespan_base.specs.SetLineNumbers.{IsStrictlySorted, IsSetAt, IsInsertionPoint};
 
 use codespan_core::files::{Error, Files, Location, SimpleFile, column_index, default_line_number};
 use std::alloc::Global;
@@ -45,7 +47,8 @@ struct SetNumber {
 }
 
 impl<Name: Drop, Source: AsStr + Drop> MappedFile<Name, Source> {
-    ghost use Rattle.codespan_base.specs.MappedFileViews.{mapped_name_of, mapped_source_of, set_numbers_of};
+    ghost use Rattle.codespan_base.specs.MappedFileViews.{mapped_name_of, mapped_source_of};
+    ghost use Rattle.codespan_base.specs.MappedFileViews.{set_numbers_of};
 
     /// Returns a database of this name and source, with no line number set.
     ///
@@ -67,7 +70,8 @@ impl<Name: Drop, Source: AsStr + Drop> MappedFile<Name, Source> {
 }
 
 impl<Name, Source: AsStr> MappedFile<Name, Source> {
-    ghost use Rattle.codespan_base.specs.MappedFileViews.{mapped_name_of, mapped_source_of, mapped_text_of, set_numbers_of};
+    ghost use Rattle.codespan_base.specs.MappedFileViews.{mapped_name_of, mapped_source_of};
+    ghost use Rattle.codespan_base.specs.MappedFileViews.{mapped_text_of, set_numbers_of};
     ghost use Rattle.codespan_core.specs.LawfulFiles.{FailsBy};
     ghost use Rattle.codespan_core.specs.SimpleModel.{past_last_line_failure};
     ghost use Rattle.codespan_base.specs.MappedModel.{nearest_set, with_set_number};
@@ -127,9 +131,12 @@ impl<Name, Source: AsStr> MappedFile<Name, Source> {
 
 /// No call allocates. Names are borrowed, since the clone of a name need not display the same text.
 impl<'a, Name: Display + 'a, Source: AsStr + 'a> Files<'a> for MappedFile<Name, Source> {
-    ghost use Rattle.codespan_base.specs.MappedFileViews.{mapped_failure_of, mapped_file_of, mapped_name_of, mapped_text_of, set_numbers_of};
+    ghost use Rattle.codespan_base.specs.MappedFileViews.{mapped_failure_of, mapped_file_of};
+    ghost use Rattle.codespan_base.specs.MappedFileViews.{mapped_name_of, mapped_text_of};
+    ghost use Rattle.codespan_base.specs.MappedFileViews.{set_numbers_of};
     ghost use Rattle.codespan_core.specs.SimpleModel.{past_last_line_failure};
-    ghost use Rattle.codespan_base.specs.MappedModel.{mapped_column_number, mapped_location, number_from, nearest_set};
+    ghost use Rattle.codespan_base.specs.MappedModel.{mapped_column_number, mapped_location};
+    ghost use Rattle.codespan_base.specs.MappedModel.{number_from, nearest_set};
     ghost use Rattle.codespan_core.specs.FileModel.{line_of};
     ghost use Rattle.codespan_core.specs.LawfulFiles.{IsLineRange, NeedsNoMemory, FailsBy};
     ghost use Rattle.codespan_core.specs.FileModel.Lookup.{LineNumber, LocationAt};

@@ -1,6 +1,7 @@
 -- For the members and calls of `SimpleFile`, and of other databases of texts: the file of a text is
 -- lawful, and which line has a byte.
-use Rattle.std.proofs.Common.{◌≡◌, ℕ, zero, suc, ◌+◌, ◌-◌, ◌^◌, ◌<◌, ◌≤◌, List, [], ◌∷◌, length, get_or, refl, arith, Option, ◌⊎◌, ⊎_elim, inl, inr}
+use Rattle.std.proofs.Common.{◌≡◌, ℕ, zero, suc, ◌+◌, ◌-◌, ◌^◌, ◌<◌, ◌≤◌, List, [], ◌∷◌, length}
+use Rattle.std.proofs.Common.{get_or, refl, arith, Option, ◌⊎◌, ⊎_elim, inl, inr}
 use Rattle.std.proofs.lemmas.Bool.{cases_lt}
 use Rattle.std.proofs.lemmas.Bool.Decides.{leb_tells}
 use Rattle.std.proofs.Common.{add-zero, Ok, Err}
@@ -16,7 +17,8 @@ use Rattle.std.specs.declared.convert.AsStr.{Ghosts}
 use Rattle.std.proofs.lemmas.Str.{IsUtf8-had}
 use Rattle.codespan_core.specs.declared.files.simple.SimpleFile.{SimpleFile}
 use Rattle.codespan_core.specs.SimpleFileViews.{source_of}
-use Rattle.std.proofs.lemmas.Str.{IsCharBoundary-after_ascii, IsCharBoundary-start, IsCharBoundary-end}
+use Rattle.std.proofs.lemmas.Str.{IsCharBoundary-after_ascii, IsCharBoundary-start}
+use Rattle.std.proofs.lemmas.Str.{IsCharBoundary-end}
 use Rattle.std.proofs.lemmas.List.{get_or_append_left, get_or_push, length-append}
 use Rattle.codespan_core.specs.Lines.{line_starts_of, starts_after}
 use Rattle.codespan_core.specs.SimpleModel.{simple_file, simple_failure, line_ends}

@@ -1,7 +1,8 @@
 //! The error of file databases, of diagnostics and configurations, and of rendering.
 
 ghost use Rattle.std.specs.Prelude.{◌≡◌};
-ghost use Rattle.codespan_core.specs.declared.files.error.Error.TheVariants.{Io, FormatError, OutOfMemory};
+ghost use Rattle.codespan_core.specs.declared.files.error.Error.TheVariants.{Io, FormatError};
+ghost use Rattle.codespan_core.specs.declared.files.error.Error.TheVariants.{OutOfMemory};
 
 use std::alloc::{AllocError, AllocFailed};
 use std::{fmt, io};

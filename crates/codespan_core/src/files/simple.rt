@@ -1,6 +1,7 @@
 //! A file database of one text.
 
-ghost use Rattle.std.specs.Prelude.{◌≡◌, ◌-◌, ◌+◌, ◌^◌, ◌<◌, ◌≤◌, length, refl, IfOk, IsOk, OnOk, OnErr, IsErrOf, None};
+ghost use Rattle.std.specs.Prelude.{◌≡◌, ◌-◌, ◌+◌, ◌^◌, ◌<◌, ◌≤◌, length, refl, IfOk, IsOk, OnOk};
+ghost use Rattle.std.specs.Prelude.{OnErr, IsErrOf, None};
 ghost use Rattle.std.specs.Str.{IsUtf8};
 ghost use Rattle.codespan_core.specs.Lines.{line_starts_of};
 
@@ -118,10 +119,13 @@ impl<Name, Source: AsStr> SimpleFile<Name, Source> {
 /// No call allocates. Names are borrowed, since the clone of a name need not display the same text.
 impl<'a, Name: Display + 'a, Source: AsStr + 'a> Files<'a> for SimpleFile<Name, Source> {
     ghost use Rattle.codespan_core.specs.SimpleFileViews.{file_of, name_of, file_text_of};
-    ghost use Rattle.codespan_core.specs.SimpleModel.{simple_failure, simple_column_number, simple_location, past_last_line_failure};
+    ghost use Rattle.codespan_core.specs.SimpleModel.{simple_failure, simple_column_number};
+    ghost use Rattle.codespan_core.specs.SimpleModel.{simple_location, past_last_line_failure};
     ghost use Rattle.codespan_core.specs.FileModel.{line_of};
-    ghost use Rattle.codespan_core.specs.LawfulFiles.{IsLineRange, NeedsNoMemory, FailsBy, line_number_failure};
-    ghost use Rattle.codespan_core.specs.Lemmas.Simple.{simple_lawful, simple_past_last_line, text_fits, text_is_utf8};
+    ghost use Rattle.codespan_core.specs.LawfulFiles.{IsLineRange, NeedsNoMemory, FailsBy};
+    ghost use Rattle.codespan_core.specs.LawfulFiles.{line_number_failure};
+    ghost use Rattle.codespan_core.specs.Lemmas.Simple.{simple_lawful, simple_past_last_line};
+    ghost use Rattle.codespan_core.specs.Lemmas.Simple.{text_fits, text_is_utf8};
 
     /// The one id.
     type FileId = ();

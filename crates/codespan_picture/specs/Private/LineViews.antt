@@ -8,8 +8,10 @@ use Rattle.codespan_picture.specs.declared.rows.lanes.LaneRowKind.TheVariants as
 use Rattle.codespan_picture.specs.declared.rows.line.RowContext as rust_context
 use Rattle.codespan_picture.specs.declared.rows.line.Lanes as rust_lanes
 use Rattle.codespan_picture.specs.declared.rows.line.Line as rust_line
-use Rattle.codespan_picture.specs.Arguments.{LaneMarkTuple, single_label_views, lanes_of, lane_mark_view}
-use Rattle.codespan_picture.specs.Lanes.{LaneRowKind, Source, EmptyOrBreak, SingleLabels, Underline, row_shape, row_crossing}
+use Rattle.codespan_picture.specs.Arguments.{LaneMarkTuple, single_label_views, lanes_of}
+use Rattle.codespan_picture.specs.Arguments.{lane_mark_view}
+use Rattle.codespan_picture.specs.Lanes.{LaneRowKind, Source, EmptyOrBreak, SingleLabels, Underline}
+use Rattle.codespan_picture.specs.Lanes.{row_shape, row_crossing}
 use Rattle.codespan_picture.specs.Rows.{RowContext, Lanes, Line}
 use Rattle.codespan_picture.specs.RowParts.{inner_gutter_column, inner_gutter}
 

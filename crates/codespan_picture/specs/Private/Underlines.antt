@@ -5,7 +5,8 @@ use Rattle.codespan_core.specs.Labels.{MultiLabel, Top, Left, Bottom}
 use Rattle.codespan_core.specs.Streams.{Stream, glyph, repeated}
 use Rattle.codespan_picture.specs.declared.char_metrics.Metrics.{Metrics}
 use Rattle.codespan_picture.specs.CharMetrics.{width_of}
-use Rattle.codespan_picture.specs.RowParts.{metrics_before, metrics_up_to, end_caret, start_caret, underline_message}
+use Rattle.codespan_picture.specs.RowParts.{metrics_before, metrics_up_to, end_caret, start_caret}
+use Rattle.codespan_picture.specs.RowParts.{underline_message}
 
 -- how many cells an underline has between its lanes and its caret
 abbrev pub underline_width : List Metrics → MultiLabel → ℕ

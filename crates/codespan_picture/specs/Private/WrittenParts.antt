@@ -8,10 +8,14 @@ use Rattle.codespan_core.specs.Streams.{Stream, byte_stream, newline, style_mark
 use Rattle.codespan_core.specs.declared.term.config.style_mark.StyleMark.TheVariants.{Header}
 use Rattle.codespan_picture.specs.declared.char_metrics.Metrics.{Metrics}
 use Rattle.codespan_picture.specs.CharMetrics.{char_metrics_to_end}
-use Rattle.codespan_picture.specs.Arguments.{SingleLabelTuple, LaneMarkTuple, single_label_view, single_label_views, lane_mark_view, locus_view, text_now}
+use Rattle.codespan_picture.specs.Arguments.{SingleLabelTuple, LaneMarkTuple, single_label_view}
+use Rattle.codespan_picture.specs.Arguments.{single_label_views, lane_mark_view, locus_view}
+use Rattle.codespan_picture.specs.Arguments.{text_now}
 use Rattle.codespan_picture.specs.Lanes.{Source, Underline, crossing_characters, label_glyph}
 use Rattle.codespan_picture.specs.Rows.{caret_rows, hanging_labels, pointer_and_hanging_rows}
-use Rattle.codespan_picture.specs.RowParts.{border_left, carets, outer_gutter, label_message, leading_of, outer_gutter_number, inner_gutter, severity_name}
+use Rattle.codespan_picture.specs.RowParts.{border_left, carets, outer_gutter, label_message}
+use Rattle.codespan_picture.specs.RowParts.{leading_of, outer_gutter_number, inner_gutter}
+use Rattle.codespan_picture.specs.RowParts.{severity_name}
 use Rattle.codespan_picture.specs.RowStreams.{bracketed, header_locus, pointer_row, stream_of_rows}
 use Rattle.codespan_picture.specs.declared.arguments.Locus as rust_locus
 use Rattle.codespan_picture.specs.declared.rows.line.RowContext as rust_context

@@ -8,7 +8,9 @@ ghost use Rattle.codespan_picture.specs.Arguments.{single_label_view, single_lab
 ghost use Rattle.codespan_picture.specs.Private.Runs.{caret_run};
 ghost use Rattle.codespan_picture.specs.Private.RowLabels.{optional_label_view};
 ghost use Rattle.codespan_picture.specs.Private.LineViews.{context_view, line_view};
-ghost use Rattle.codespan_picture.specs.Private.WrittenParts.{carets_stream, line_metrics_to_end_view, label_message_stream};
+ghost use Rattle.codespan_picture.specs.Private.WrittenParts.{carets_stream};
+ghost use Rattle.codespan_picture.specs.Private.WrittenParts.{line_metrics_to_end_view};
+ghost use Rattle.codespan_picture.specs.Private.WrittenParts.{label_message_stream};
 ghost use Rattle.codespan_picture.specs.RowParts.{carets, style_change, trailing_message};
 ghost use Rattle.codespan_picture.specs.RowStreams.{caret_row};
 

@@ -4,10 +4,14 @@ ghost use Rattle.std.specs.Prelude.{◌≡◌, ◌+◌, ◌<◌, ◌≤◌, ℕ,
 ghost use Rattle.std.specs.Option.{option_map};
 ghost use Rattle.codespan_core.specs.WriterLaw.{Writes};
 ghost use Rattle.codespan_picture.specs.Arguments.{lane_mark_view, multi_label_view};
-ghost use Rattle.codespan_picture.specs.Private.LineViews.{context_view, lanes_view, lane_row_kind_view, row_lane_stream, row_lanes_stream};
+ghost use Rattle.codespan_picture.specs.Private.LineViews.{context_view, lanes_view};
+ghost use Rattle.codespan_picture.specs.Private.LineViews.{lane_row_kind_view, row_lane_stream};
+ghost use Rattle.codespan_picture.specs.Private.LineViews.{row_lanes_stream};
 ghost use Rattle.codespan_picture.specs.Private.WrittenParts.{lane_glyph_stream};
-ghost use Rattle.codespan_picture.specs.Private.RemainingLaneMarks.{lane_mark_here, lane_marks_after};
-ghost use Rattle.codespan_picture.specs.Lanes.{crossing_characters, lane_characters, underline_char, row_crossing};
+ghost use Rattle.codespan_picture.specs.Private.RemainingLaneMarks.{lane_mark_here};
+ghost use Rattle.codespan_picture.specs.Private.RemainingLaneMarks.{lane_marks_after};
+ghost use Rattle.codespan_picture.specs.Lanes.{crossing_characters, lane_characters};
+ghost use Rattle.codespan_picture.specs.Lanes.{underline_char, row_crossing};
 
 use crate::arguments::MultiLabel;
 pub use crate::lane_shapes::Shape;

@@ -2,7 +2,8 @@
 
 ghost use Rattle.std.specs.Prelude.{◌≡◌, IsTrue};
 ghost use Rattle.std.specs.Str.{IsUtf8};
-ghost use Rattle.codespan_picture.specs.CharMetrics.{leading_whitespace, text_without_line_end, is_line_end};
+ghost use Rattle.codespan_picture.specs.CharMetrics.{leading_whitespace, text_without_line_end};
+ghost use Rattle.codespan_picture.specs.CharMetrics.{is_line_end};
 ghost use Rattle.codespan_picture.specs.Arguments.{lanes_in_order};
 
 use crate::arguments::{MultiLabel, SingleLabel};

@@ -5,7 +5,8 @@ ghost use Rattle.std.specs.Str.Lines.{lines};
 ghost use Rattle.codespan_core.specs.Streams.{newline};
 ghost use Rattle.codespan_core.specs.WriterLaw.{Writes};
 ghost use Rattle.codespan_picture.specs.Private.LineViews.{context_view, lanes_view};
-ghost use Rattle.codespan_picture.specs.RowStreams.{empty_row, break_row, first_note_row, later_note_row};
+ghost use Rattle.codespan_picture.specs.RowStreams.{empty_row, break_row, first_note_row};
+ghost use Rattle.codespan_picture.specs.RowStreams.{later_note_row};
 ghost use Rattle.codespan_picture.specs.RenderedRows.{note_stream};
 
 use crate::rows::lanes::{LaneRowKind, inner_gutter};

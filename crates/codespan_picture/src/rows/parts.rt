@@ -5,7 +5,8 @@ ghost use Rattle.codespan_core.specs.WriterLaw.{Writes};
 ghost use Rattle.codespan_picture.specs.Arguments.{locus_view};
 ghost use Rattle.codespan_picture.specs.Private.LineViews.{context_view, line_view};
 ghost use Rattle.codespan_picture.specs.Lanes.{label_glyph};
-ghost use Rattle.codespan_picture.specs.RowParts.{outer_gutter, outer_gutter_number, border_left, border_left_break, snippet_locus, style_change};
+ghost use Rattle.codespan_picture.specs.RowParts.{outer_gutter, outer_gutter_number, border_left};
+ghost use Rattle.codespan_picture.specs.RowParts.{border_left_break, snippet_locus, style_change};
 ghost use Rattle.codespan_picture.specs.RowStreams.{row_start};
 
 use crate::arguments::Locus;

@@ -4,7 +4,8 @@ ghost use Rattle.std.specs.Prelude.{◌≡◌, ◌||◌, ◌+◌, ◌^◌, ◌<�
 ghost use Rattle.codespan_picture.specs.declared.char_metrics.Metrics as metrics;
 ghost use Rattle.codespan_picture.specs.Arguments.{lane_mark_view, multi_label_view};
 ghost use Rattle.codespan_picture.specs.RowParts.{multi_label_covers};
-ghost use Rattle.codespan_picture.specs.Private.PrimaryCover.{CoversAsLaneMarks, is_from, covers_char};
+ghost use Rattle.codespan_picture.specs.Private.PrimaryCover.{CoversAsLaneMarks, is_from};
+ghost use Rattle.codespan_picture.specs.Private.PrimaryCover.{covers_char};
 
 use crate::arguments::MultiLabel;
 use crate::char_metrics::Metrics;

@@ -10,7 +10,8 @@ ghost use Rattle.codespan_picture.specs.Private.WrittenParts.{underline_row_star
 ghost use Rattle.codespan_picture.specs.Private.Underlines.{underline_by_width, underline_width};
 ghost use Rattle.codespan_picture.specs.Private.LineCharacters.{metrics_of};
 ghost use Rattle.codespan_picture.specs.Rows.{has_underline, underline_rows};
-ghost use Rattle.codespan_picture.specs.RowParts.{underline_message, start_caret, end_caret, metrics_before, metrics_up_to};
+ghost use Rattle.codespan_picture.specs.RowParts.{underline_message, start_caret, end_caret};
+ghost use Rattle.codespan_picture.specs.RowParts.{metrics_before, metrics_up_to};
 ghost use Rattle.codespan_picture.specs.RowStreams.{underline_row, stream_of_rows};
 
 use crate::arguments::MultiLabel;

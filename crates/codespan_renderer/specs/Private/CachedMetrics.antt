@@ -7,7 +7,8 @@ use Rattle.codespan_picture.specs.CharMetrics.{metrics_then}
 use Rattle.codespan_picture.specs.RowParts.{metrics_up_to}
 use Rattle.codespan_renderer.specs.declared.term.renderer.char_metrics.CharMetrics.{CharMetrics}
 use Rattle.codespan_renderer.specs.declared.term.renderer.cached.cached_metrics.MetricsFromCache.{MetricsFromCache}
-use Rattle.codespan_renderer.specs.Private.RemainingMetrics.{MetricsAfterEnd, metrics_from, remaining_metrics, no_more}
+use Rattle.codespan_renderer.specs.Private.RemainingMetrics.{MetricsAfterEnd, metrics_from}
+use Rattle.codespan_renderer.specs.Private.RemainingMetrics.{remaining_metrics, no_more}
 
 -- the characters that are left: the cached ones, and then those of the iterator
 abbrev pub remaining_from_cache : MetricsFromCache → List Metrics

@@ -1,5 +1,6 @@
 -- Cursors over the labels of a line, which pass them as they start.
-use Rattle.std.specs.Prelude.{◌≡◌, ℕ, ◌+◌, ◌≤◌, Bool, true, ◌||◌, ◌&&◌, nat_lt, max, if◌then◌else◌, List, drop, filter, Option}
+use Rattle.std.specs.Prelude.{◌≡◌, ℕ, ◌+◌, ◌≤◌, Bool, true, ◌||◌, ◌&&◌, nat_lt, max, if◌then◌else◌}
+use Rattle.std.specs.Prelude.{List, drop, filter, Option}
 use Rattle.codespan_core.specs.Labels.{LabelModel, has_message, is_primary}
 use Rattle.codespan_picture.specs.Types.{LabelStyle}
 use Rattle.codespan_picture.specs.declared.char_metrics.Metrics.{Metrics}

@@ -66,8 +66,10 @@ impl<'writer, 'config, W: WriteStyle> Renderer<'writer, 'config, W> {
     ghost use Rattle.codespan_core.specs.Streams.{newline};
     ghost use Rattle.codespan_picture.specs.Private.LineViews.{context_view};
     ghost use Rattle.codespan_picture.specs.OutputStreams.{context_of};
-    ghost use Rattle.codespan_renderer.specs.Renderers.{writer_of, reference_of, config_of, Renders};
-    ghost use Rattle.codespan_picture.specs.RenderedRows.{rendered_header, rendered_start, rendered_snippet_empty};
+    ghost use Rattle.codespan_renderer.specs.Renderers.{writer_of, reference_of, config_of};
+    ghost use Rattle.codespan_renderer.specs.Renderers.{Renders};
+    ghost use Rattle.codespan_picture.specs.RenderedRows.{rendered_header, rendered_start};
+    ghost use Rattle.codespan_picture.specs.RenderedRows.{rendered_snippet_empty};
     ghost use Rattle.codespan_picture.specs.RenderedRows.{rendered_break, rendered_note};
     ghost use Rattle.codespan_picture.specs.RenderedRows.{rendered_source, source_line};
 

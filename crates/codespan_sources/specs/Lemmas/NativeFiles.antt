@@ -11,8 +11,10 @@ use Rattle.codespan_sources.specs.declared.native_file.text.SourceText.{SourceTe
 use Rattle.codespan_sources.specs.declared.native_file.text.SourceText.TheVariants.{Newline, Stated}
 use Rattle.codespan_sources.specs.declared.native_files.NativeFiles.{NativeFiles}
 use Rattle.codespan_sources.specs.Lemmas.SourceTexts.{newline_lawful, stated_lawful}
-use Rattle.codespan_sources.specs.SourceModel.{source_text_view, native_file_view, native_file_views, stated_view}
-use Rattle.codespan_sources.specs.SourceTexts.{NativeFileView, native_database, native_failure, native_file_model}
+use Rattle.codespan_sources.specs.SourceModel.{source_text_view, native_file_view}
+use Rattle.codespan_sources.specs.SourceModel.{native_file_views, stated_view}
+use Rattle.codespan_sources.specs.SourceTexts.{NativeFileView, native_database, native_failure}
+use Rattle.codespan_sources.specs.SourceTexts.{native_file_model}
 use Rattle.codespan_sources.specs.StatedLines.{location_at}
 
 -- a text of stated lines makes a lawful file, whatever its locations are

@@ -3,7 +3,8 @@
 ghost use Rattle.std.specs.Prelude.{◌≡◌, IfOk};
 ghost use Rattle.codespan_base.specs.FileModel.{line_of};
 ghost use Rattle.codespan_base.specs.LawfulFiles.{FailsBy};
-ghost use Rattle.codespan_sources.specs.SourceTexts.{IsSourceLineRange, newline_text, source_line_failure};
+ghost use Rattle.codespan_sources.specs.SourceTexts.{IsSourceLineRange, newline_text};
+ghost use Rattle.codespan_sources.specs.SourceTexts.{source_line_failure};
 
 use crate::error::OutOfMemory;
 use codespan_base::files::{Error, Files, SimpleFile};

@@ -5,7 +5,8 @@ ghost use Rattle.std.specs.Str.{IsUtf8};
 ghost use Rattle.codespan_base.specs.FileModel.{line_of};
 ghost use Rattle.codespan_base.specs.LawfulFiles.{FailsBy};
 ghost use Rattle.codespan_sources.specs.StatedLines.{are_lines};
-ghost use Rattle.codespan_sources.specs.SourceTexts.{IsSourceLineRange, stated_text, source_line_failure};
+ghost use Rattle.codespan_sources.specs.SourceTexts.{IsSourceLineRange, stated_text};
+ghost use Rattle.codespan_sources.specs.SourceTexts.{source_line_failure};
 
 use crate::raw::RawLine;
 use codespan_base::files::Error;

@@ -2,7 +2,8 @@
 
 ghost use Rattle.std.specs.Prelude.{◌≡◌, All, IfOk, map};
 ghost use Rattle.codespan_structs.specs.Converted.{converted_file};
-ghost use Rattle.codespan_sources.specs.SourceModel.{source_text_view, native_file_view, native_file_views};
+ghost use Rattle.codespan_sources.specs.SourceModel.{source_text_view, native_file_view};
+ghost use Rattle.codespan_sources.specs.SourceModel.{native_file_views};
 ghost use Rattle.codespan_structs.specs.ValidParts.{IsValidFile};
 
 use crate::convert::text::str_of;

@@ -4,7 +4,9 @@ ghost use Rattle.std.specs.Prelude.{◌≡◌, IsTrue, ◌↔◌};
 ghost use Rattle.std.specs.Char.{InScalarRange};
 ghost use Rattle.std.specs.Str.{IsUtf8};
 ghost use Rattle.codespan_structs.specs.Constants.{ABI};
-ghost use Rattle.codespan_structs.specs.Validity.{code_points_of, color_specs_of, FindsFirstInvalid, FindsFirstWithout, HoldsIfAt, IsValidColorSpec};
+ghost use Rattle.codespan_structs.specs.Validity.{code_points_of, color_specs_of};
+ghost use Rattle.codespan_structs.specs.Validity.{FindsFirstInvalid, FindsFirstWithout, HoldsIfAt};
+ghost use Rattle.codespan_structs.specs.Validity.{IsValidColorSpec};
 
 use crate::raw::{ABI, RawChars, RawColorSpec, RawConfig, RawStyles};
 use crate::validate::values::{is_scalar_value, is_utf8, is_valid_color_spec};

@@ -1,7 +1,8 @@
 //! Validates the files.
 
 ghost use Rattle.std.specs.Prelude.{IsTrue, ◌↔◌};
-ghost use Rattle.codespan_structs.specs.Validity.{FindsFirstWithout, HasValidName, HasValidSource, HasValidLines, HasValidLocations};
+ghost use Rattle.codespan_structs.specs.Validity.{FindsFirstWithout, HasValidName, HasValidSource};
+ghost use Rattle.codespan_structs.specs.Validity.{HasValidLines, HasValidLocations};
 
 use crate::raw::RawFile;
 use crate::validate::values::is_utf8;

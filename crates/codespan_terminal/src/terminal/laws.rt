@@ -6,7 +6,8 @@ ghost use Rattle.codespan_base.specs.Streams.{Stream, spelled};
 ghost use Rattle.codespan_base.specs.declared.term.config.styles.Styles.{Styles};
 ghost use Rattle.codespan_documents.specs.Runs.{TextsAreUtf8, RunView, runs_of};
 ghost use Rattle.codespan_base.specs.StyleSpellings.{ansi_spelling};
-ghost use Rattle.codespan_terminal.specs.Terminal.{AreSafe, ShowsSafe, columns, safe_characters, safe_columns, terminal_text};
+ghost use Rattle.codespan_terminal.specs.Terminal.{AreSafe, ShowsSafe, columns, safe_characters};
+ghost use Rattle.codespan_terminal.specs.Terminal.{safe_columns, terminal_text};
 
 /// States that a text for a terminal, read as a terminal reads it, has no escape sequence but those
 /// of styles, no other control character but tab and newline, and no directional control, and shows

@@ -85,11 +85,19 @@ fn is_from_index(failed: Option<usize>, position: usize) -> bool
 impl<'a, 'text: 'a> Files<'a> for Listing<'text> {
     ghost use Rattle.codespan_base.specs.SimpleFileViews.{name_of, source_of};
     ghost use Rattle.codespan_base.specs.FileModel.{line_of, or_failure};
-    ghost use Rattle.codespan_base.specs.FileModel.Lookup.{Name as NameLookup, Source as SourceLookup, LineIndex, LineNumber, ColumnNumber, LocationAt, LineRange};
+    ghost use Rattle.codespan_base.specs.FileModel.Lookup.{Name as NameLookup};
+    ghost use Rattle.codespan_base.specs.FileModel.Lookup.{Source as SourceLookup, LineIndex};
+    ghost use Rattle.codespan_base.specs.FileModel.Lookup.{LineNumber, ColumnNumber, LocationAt};
+    ghost use Rattle.codespan_base.specs.FileModel.Lookup.{LineRange};
     ghost use Rattle.codespan_base.specs.Lines.{line_starts_of};
-    ghost use Rattle.codespan_base.specs.SimpleModel.{simple_file, simple_column_number, past_last_line_failure};
-    ghost use Rattle.codespan_base.specs.Lemmas.Simple.{or_failure-past_last_line, renumbered_lawful, simple_lawful, simple_past_last_line, text_fits, text_is_utf8};
-    ghost use Rattle.codespan_tests.specs.Listings.{is_at, is_from_index, failed_if, failed_if-other};
+    ghost use Rattle.codespan_base.specs.SimpleModel.{simple_file, simple_column_number};
+    ghost use Rattle.codespan_base.specs.SimpleModel.{past_last_line_failure};
+    ghost use Rattle.codespan_base.specs.Lemmas.Simple.{or_failure-past_last_line};
+    ghost use Rattle.codespan_base.specs.Lemmas.Simple.{renumbered_lawful, simple_lawful};
+    ghost use Rattle.codespan_base.specs.Lemmas.Simple.{simple_past_last_line, text_fits};
+    ghost use Rattle.codespan_base.specs.Lemmas.Simple.{text_is_utf8};
+    ghost use Rattle.codespan_tests.specs.Listings.{is_at, is_from_index, failed_if};
+    ghost use Rattle.codespan_tests.specs.Listings.{failed_if-other};
 
     type FileId = ();
 

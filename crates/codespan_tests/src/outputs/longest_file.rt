@@ -19,7 +19,8 @@ struct LongestFile<'text> {
 }
 
 impl<'a, 'text: 'a> Files<'a> for LongestFile<'text> {
-    ghost use Rattle.codespan_tests.specs.LongestFiles.{longest_file, longest_failure, longest_lawful, longest_past_last_line};
+    ghost use Rattle.codespan_tests.specs.LongestFiles.{longest_file, longest_failure};
+    ghost use Rattle.codespan_tests.specs.LongestFiles.{longest_lawful, longest_past_last_line};
 
     type FileId = ();
 

@@ -68,7 +68,8 @@ impl<'text> Checked<'text> {
 
 impl<'a, 'text: 'a> Files<'a> for Checked<'text> {
     ghost use Rattle.codespan_base.specs.SimpleModel.{simple_file, simple_failure};
-    ghost use Rattle.codespan_base.specs.Lemmas.Simple.{simple_lawful, simple_past_last_line, text_fits, text_is_utf8};
+    ghost use Rattle.codespan_base.specs.Lemmas.Simple.{simple_lawful, simple_past_last_line};
+    ghost use Rattle.codespan_base.specs.Lemmas.Simple.{text_fits, text_is_utf8};
     ghost use Rattle.examples.specs.Parts.{one_part};
 
     type FileId = Part;

@@ -2,7 +2,8 @@
 
 ghost use Rattle.std.specs.Prelude.{◌≡◌, [], map};
 ghost use Rattle.report_script.specs.ScriptLines.{script_line_view};
-ghost use Rattle.report_script.specs.ScriptFaults.{fault_from, line_fault, missing_end, severity_fault, number_fault, repetition};
+ghost use Rattle.report_script.specs.ScriptFaults.{fault_from, line_fault, missing_end};
+ghost use Rattle.report_script.specs.ScriptFaults.{severity_fault, number_fault, repetition};
 
 use super::line::Line;
 use super::parsed::line_of_word;

@@ -19,7 +19,8 @@ pub(super) struct Line<'input> {
 
 impl<'input> Line<'input> {
     ghost use Rattle.std.specs.Prelude.{◌≡◌, ◌≤◌};
-    ghost use Rattle.report_script.specs.ScriptLines.{script_line_view, range_at, word_of, rest_of, is_ignored};
+    ghost use Rattle.report_script.specs.ScriptLines.{script_line_view, range_at, word_of, rest_of};
+    ghost use Rattle.report_script.specs.ScriptLines.{is_ignored};
 
     /// Returns the word: the text before the first space.
     pub(super) fn word(&self) -> &'input str

@@ -1,9 +1,11 @@
 //! The lines of a script.
 
-ghost use Rattle.std.specs.Prelude.{◌≡◌, ◌≤◌, ◌+◌, ◌-◌, ◌<◌, ◌∷◌, length, map, drop, IfOk, IfSome, IfNone, Some};
+ghost use Rattle.std.specs.Prelude.{◌≡◌, ◌≤◌, ◌+◌, ◌-◌, ◌<◌, ◌∷◌, length, map, drop, IfOk, IfSome};
+ghost use Rattle.std.specs.Prelude.{IfNone, Some};
 ghost use Rattle.std.specs.Option.{option_map};
 ghost use Rattle.std.specs.Str.Lines.{strip_carriage_return};
-ghost use Rattle.report_script.specs.ScriptLines.{script_line_view, script_lines, lines_left, body, script_source};
+ghost use Rattle.report_script.specs.ScriptLines.{script_line_view, script_lines, lines_left, body};
+ghost use Rattle.report_script.specs.ScriptLines.{script_source};
 
 use super::line::Line;
 use std::alloc::{AllocError, Global};

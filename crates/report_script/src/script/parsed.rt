@@ -4,7 +4,9 @@ ghost use Rattle.std.specs.Prelude.{◌≡◌, map, IfOk};
 ghost use Rattle.std.specs.Option.{option_map};
 ghost use Rattle.report_script.specs.ScriptLines.{script_line_view};
 ghost use Rattle.report_script.specs.ScriptFaults.{line_of_word};
-ghost use Rattle.report_script.specs.Scripts.{rest_of_word, parsed_severity, parsed_labels, parsed_label, parsed_notes, script_label_view, label_of_rest};
+ghost use Rattle.report_script.specs.Scripts.{rest_of_word, parsed_severity, parsed_labels};
+ghost use Rattle.report_script.specs.Scripts.{parsed_label, parsed_notes, script_label_view};
+ghost use Rattle.report_script.specs.Scripts.{label_of_rest};
 
 use super::ScriptLabel;
 use super::line::Line;

@@ -1,7 +1,8 @@
 //! Styles as escape sequences.
 
 ghost use Rattle.std.specs.Prelude.{◌≡◌, [], ◌∷◌};
-ghost use Rattle.codespan_base.specs.Ansi.{color_number, ansi_bold, ansi_color, ansi_style, ansi_reset};
+ghost use Rattle.codespan_base.specs.Ansi.{color_number, ansi_bold, ansi_color, ansi_style};
+ghost use Rattle.codespan_base.specs.Ansi.{ansi_reset};
 ghost use Rattle.codespan_core.specs.WriterLaw.{AppendsBytes};
 
 use crate::term::config::color::{Color, ColorSpec, WriteColor};

@@ -57,7 +57,8 @@ pub struct Styles {
 }
 
 impl Styles {
-    ghost use Rattle.codespan_base.specs.PartStyles.{no_color_styles, header_color_spec, label_color_spec};
+    ghost use Rattle.codespan_base.specs.PartStyles.{no_color_styles, header_color_spec};
+    ghost use Rattle.codespan_base.specs.PartStyles.{label_color_spec};
 
     /// Borrows the style of the severity and the code in a header.
     pub fn header(&self, severity: Severity) -> &ColorSpec

@@ -2,7 +2,13 @@
 
 ghost use Rattle.std.specs.Prelude.{◌≡◌, refl};
 ghost use Rattle.codespan_core.specs.Streams.{plain_spelling, style_mark};
-ghost use Rattle.codespan_core.specs.declared.term.config.style_mark.StyleMark.TheVariants.{Header, HeaderMessage, LineNumber, NoteBullet, SourceBorder, Label, Reset};
+ghost use Rattle.codespan_core.specs.declared.term.config.style_mark.StyleMark.TheVariants.{Header};
+ghost use Rattle.codespan_core.specs.declared.term.config.style_mark.StyleMark.TheVariants.{HeaderMessage};
+ghost use Rattle.codespan_core.specs.declared.term.config.style_mark.StyleMark.TheVariants.{LineNumber};
+ghost use Rattle.codespan_core.specs.declared.term.config.style_mark.StyleMark.TheVariants.{NoteBullet};
+ghost use Rattle.codespan_core.specs.declared.term.config.style_mark.StyleMark.TheVariants.{SourceBorder};
+ghost use Rattle.codespan_core.specs.declared.term.config.style_mark.StyleMark.TheVariants.{Label};
+ghost use Rattle.codespan_core.specs.declared.term.config.style_mark.StyleMark.TheVariants.{Reset};
 ghost use Rattle.codespan_core.specs.WriterLaw.{Writes};
 ghost use Rattle.codespan_core.specs.Writers.{WritesNothing};
 

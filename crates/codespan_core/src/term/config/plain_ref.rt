@@ -21,7 +21,8 @@ pub struct PlainWriterRef<'writer, W> {
 }
 
 impl<'writer, W: Write> PlainWriterRef<'writer, W> {
-    ghost use Rattle.codespan_core.specs.Writers.{plain_reference, borrowed_writer, plain_ref_sink, fresh_plain_ref_sink};
+    ghost use Rattle.codespan_core.specs.Writers.{plain_reference, borrowed_writer, plain_ref_sink};
+    ghost use Rattle.codespan_core.specs.Writers.{fresh_plain_ref_sink};
 
     /// Returns a writer of plain text over `writer`. Its flag is not set.
     pub fn new(writer: &'writer mut W) -> PlainWriterRef<'writer, W>

@@ -2,7 +2,8 @@
 
 ghost use Rattle.std.specs.Prelude.{◌≡◌, ◌&&◌};
 ghost use Rattle.codespan_picture.specs.Arguments.{multi_label_view};
-ghost use Rattle.codespan_picture.specs.Lanes.{is_unbroken, begins_in_source_row, row_shape, underline_shape};
+ghost use Rattle.codespan_picture.specs.Lanes.{is_unbroken, begins_in_source_row, row_shape};
+ghost use Rattle.codespan_picture.specs.Lanes.{underline_shape};
 ghost use Rattle.codespan_picture.specs.Private.LineViews.{lane_row_kind_view};
 
 use crate::arguments::MultiLabel;

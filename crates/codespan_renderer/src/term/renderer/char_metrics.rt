@@ -28,9 +28,13 @@ pub struct CharMetrics<'text> {
 
 impl<'text> CharMetrics<'text> {
     ghost use Rattle.std.specs.Prelude.{true};
-    ghost use Rattle.codespan_picture.specs.CharMetrics.{char_metrics, char_metrics_to_end, metrics_then, width_of};
+    ghost use Rattle.codespan_picture.specs.CharMetrics.{char_metrics, char_metrics_to_end};
+    ghost use Rattle.codespan_picture.specs.CharMetrics.{metrics_then, width_of};
     ghost use Rattle.codespan_picture.specs.RowParts.{metrics_up_to};
-    ghost use Rattle.codespan_renderer.specs.Private.RemainingMetrics.{MetricsAfterEnd, YieldsCharacter, metrics_from, remaining_metrics, no_more};
+    ghost use Rattle.codespan_renderer.specs.Private.RemainingMetrics.{MetricsAfterEnd};
+    ghost use Rattle.codespan_renderer.specs.Private.RemainingMetrics.{YieldsCharacter};
+    ghost use Rattle.codespan_renderer.specs.Private.RemainingMetrics.{metrics_from};
+    ghost use Rattle.codespan_renderer.specs.Private.RemainingMetrics.{remaining_metrics, no_more};
     ghost use Rattle.std.specs.Str.{chars};
 
     /// Returns an iterator over the characters of the line alone.

@@ -32,7 +32,8 @@ loop-metrics-init g c =
           StillToWrite-start _ _ _
           (carets-prefix (context_view c.args.rows.now.context) labels _ _ _ _ all out);
       scan_state =
-          scan_state-left c.args.rows.now.context.tab_width c.args.rows.now.line.text.now _ _ _ _ (omega arith) all
+          scan_state-left c.args.rows.now.context.tab_width c.args.rows.now.line.text.now _ _ _ _
+          (omega arith) all
           out;
       same = c.characters_from_labels-run.ensures.labels ∙ given;
     }
@@ -73,7 +74,8 @@ returns-in_err-end_caret_run g c =
     rw p.1
     (StillToWrite-failed _ _ _ _ _ _ _ c.loop-metrics.invariant.written_so_far
     c.in_err-end_caret_run.ensures
-    (carets-turn (context_view c.args.rows.now.context) (single_label_views c.args.rows.now.line.labels.now) _ _ _ _
+    (carets-turn (context_view c.args.rows.now.context)
+    (single_label_views c.args.rows.now.line.labels.now) _ _ _ _
     c.in-Some.metrics _ (g.S.Cursor.CharCursor.remaining c.next_metrics.new.self)
     c.in-Some.ensures.next
     (c.style_under-style.ensures.style

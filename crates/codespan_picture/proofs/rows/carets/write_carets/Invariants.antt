@@ -13,10 +13,12 @@ invariant-loop-metrics g l = record {
   written_so_far : StillToWrite (g.W.PutStyle.sink l.fn.w)
       (carets (context_view l.rows.context) (single_label_views l.rows.line.labels.now)
       (char_metrics_to_end l.rows.context.tab_width l.rows.line.text.now))
-      (carets_left (context_view l.rows.context) (single_label_views l.rows.line.labels.now) l.previous l.run
+      (carets_left (context_view l.rows.context) (single_label_views l.rows.line.labels.now)
+      l.previous l.run
       (g.S.Cursor.CharCursor.remaining l.cursor))
       (g.W.PutStyle.sink l.w);
-  scan_state : ScanState (length l.rows.line.text.now + 1) l.run (g.S.Cursor.CharCursor.remaining l.cursor);
+  scan_state : ScanState (length l.rows.line.text.now + 1) l.run
+      (g.S.Cursor.CharCursor.remaining l.cursor);
   same : g.S.Cursor.CharCursor.labels l.cursor ≡ l.rows.line.labels.now;
 }
 

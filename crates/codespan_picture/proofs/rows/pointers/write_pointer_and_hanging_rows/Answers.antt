@@ -19,7 +19,14 @@ pub returns : goal.returns
 returns g c =
     elim c.else-not-has_any_message.branch [
       | else-not-has_any_message-via-then-not-has_any_message+else-not-has_any_message-2 w ↦
-          rw (all_hanging _ _ _ _ _ (rw c.args.rows.now.labels at c.args.rows.now.messages.hanging_labels) (inr (sym w.has_any_message-then-not-has_any_message.ensures ∙ w.if-not-has_any_message-2.false))) c.write_pointer_and_hanging_rows_unconditionally.ensures
+          rw (all_hanging _ _ _ _ _
+          (rw c.args.rows.now.labels at c.args.rows.now.messages.hanging_labels)
+          (inr (sym w.has_any_message-then-not-has_any_message.ensures
+          ∙ w.if-not-has_any_message-2.false)))
+          c.write_pointer_and_hanging_rows_unconditionally.ensures
       | else-not-has_any_message-via-else-not-has_any_message w ↦
-          rw (all_hanging _ _ _ _ _ (rw c.args.rows.now.labels at c.args.rows.now.messages.hanging_labels) (inl (sym c.has_any_message.ensures ∙ w.if-not-has_any_message.false))) c.write_pointer_and_hanging_rows_unconditionally.ensures
+          rw (all_hanging _ _ _ _ _
+          (rw c.args.rows.now.labels at c.args.rows.now.messages.hanging_labels)
+          (inl (sym c.has_any_message.ensures ∙ w.if-not-has_any_message.false)))
+          c.write_pointer_and_hanging_rows_unconditionally.ensures
     ]

@@ -4,11 +4,13 @@
 ghost use Rattle.std.specs.Prelude.{◌≡◌, ◌≤◌, ◌++◌, IsTrue, length, map, take};
 ghost use Rattle.std.specs.Str.{chars};
 ghost use Rattle.codespan_picture.specs.CharMetrics.{char_metrics, metrics_then, width_of};
-ghost use Rattle.codespan_picture.specs.Arguments.{lane_mark_view, single_label_views, starts_in_order};
+ghost use Rattle.codespan_picture.specs.Arguments.{lane_mark_view, single_label_views};
+ghost use Rattle.codespan_picture.specs.Arguments.{starts_in_order};
 ghost use Rattle.codespan_picture.specs.Rows.{hanging_labels};
 ghost use Rattle.codespan_renderer.specs.Private.RemainingMetrics.{after_last};
 ghost use Rattle.codespan_renderer.specs.Private.CursorStates.{IsBefore, HasReturned};
-ghost use Rattle.codespan_renderer.specs.Private.CachedMetrics.{AreCached, ReachesPast, remaining_from_cache, reach_of};
+ghost use Rattle.codespan_renderer.specs.Private.CachedMetrics.{AreCached, ReachesPast};
+ghost use Rattle.codespan_renderer.specs.Private.CachedMetrics.{remaining_from_cache, reach_of};
 ghost use Rattle.codespan_picture.specs.Private.LineCharacters.{EndBy};
 ghost use Rattle.codespan_picture.specs.Private.PointerLists.{pointers_in};
 ghost use Rattle.codespan_picture.specs.Private.RowLabels.{least_start};

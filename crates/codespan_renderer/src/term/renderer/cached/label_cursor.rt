@@ -3,7 +3,8 @@
 ghost use Rattle.std.specs.Prelude.{◌≡◌, ◌+◌, ◌<◌, ◌≤◌, ◌&&◌, IsTrue, nat_lt, true, max, filter};
 ghost use Rattle.codespan_core.specs.Labels.{has_message, is_primary};
 ghost use Rattle.codespan_picture.specs.Carets.{style_under};
-ghost use Rattle.codespan_picture.specs.Arguments.{single_label_view, single_label_views, starts_in_order};
+ghost use Rattle.codespan_picture.specs.Arguments.{single_label_view, single_label_views};
+ghost use Rattle.codespan_picture.specs.Arguments.{starts_in_order};
 ghost use Rattle.codespan_picture.specs.RowParts.{starts_in};
 ghost use Rattle.codespan_renderer.specs.Private.PreferredStyles.{preferred_style};
 ghost use Rattle.codespan_picture.specs.Private.CharCursors.{is_covered};

@@ -1,8 +1,10 @@
 //! How far the rows under a line reach into its text.
 
 ghost use Rattle.std.specs.Prelude.{◌≡◌, map};
-ghost use Rattle.codespan_picture.specs.Arguments.{lane_mark_view, multi_label_view, single_label_views};
-ghost use Rattle.codespan_renderer.specs.Private.CachedMetrics.{farther, farther_multi_label, reach_of};
+ghost use Rattle.codespan_picture.specs.Arguments.{lane_mark_view, multi_label_view};
+ghost use Rattle.codespan_picture.specs.Arguments.{single_label_views};
+ghost use Rattle.codespan_renderer.specs.Private.CachedMetrics.{farther, farther_multi_label};
+ghost use Rattle.codespan_renderer.specs.Private.CachedMetrics.{reach_of};
 
 use crate::term::renderer::MultiLabel;
 use codespan_picture::rows::line::Line;

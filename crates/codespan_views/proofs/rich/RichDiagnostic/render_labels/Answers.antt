@@ -34,7 +34,8 @@ is_ready g c =
 pub render_snippets-requires : goal.render_snippets-requires
 render_snippets-requires g c κs = (
   (refl, (refl, (refl, tt))),
-  rw c.as_slice.ensures.value (is_ready g (goal.at.render_snippets-requires g c).In_ok-numbers).looked_up,
+  rw c.as_slice.ensures.value
+      (is_ready g (goal.at.render_snippets-requires g c).In_ok-numbers).looked_up,
 )
 
 pub returns-in_err-collected-clause-same : goal.returns-in_err-collected-clause-same

@@ -11,7 +11,8 @@ use Rattle.codespan_views.proofs.RendererRuns.{same_twice}
 use Rattle.codespan_views.proofs.SnippetParts.{snippet-at_start, snippet-rendered}
 use Rattle.codespan_views.proofs.snippet.Snippet.render.Goals as goal
 
-pub returns-in_err-render_first_rows-clause-renders : goal.returns-in_err-render_first_rows-clause-renders
+pub returns-in_err-render_first_rows-clause-renders :
+    goal.returns-in_err-render_first_rows-clause-renders
 returns-in_err-render_first_rows-clause-renders g c =
     let snippet = c.args.self.now in
     let p = err_from_is_err_and c.from_residual.result c.from_residual.ensures.1 in

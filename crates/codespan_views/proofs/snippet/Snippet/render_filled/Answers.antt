@@ -50,8 +50,10 @@ returns-clause-renders g c =
     c.render_line.ensures.renders
 
 pub returns-in_err-line-clause-numbers : goal.returns-in_err-line-clause-numbers
-returns-in_err-line-clause-numbers g c = next-left c.args.buffers.now.numbers c.next.new.self c.next.result c.next.ensures.steps
+returns-in_err-line-clause-numbers g c = next-left c.args.buffers.now.numbers c.next.new.self
+    c.next.result c.next.ensures.steps
 
 pub returns-clause-numbers : goal.returns-clause-numbers
 returns-clause-numbers g c =
-    ap iter_rest c.render_line.ensures.numbers ∙ next-left c.args.buffers.now.numbers c.next.new.self c.next.result c.next.ensures.steps
+    ap iter_rest c.render_line.ensures.numbers
+    ∙ next-left c.args.buffers.now.numbers c.next.new.self c.next.result c.next.ensures.steps

@@ -118,14 +118,16 @@ returns-in_err-render_filled-clause-renders g c =
     rw (p.1 ∙ ap Err p.2) (record {
       same = same_twice was.same c.in_err-render_filled.ensures.renders.same;
       renders = (left-cut was.left _ _
-          (views_of-gap (next g at.After-count_on_line-count) c.loop-first.previous c.loop-first.hidden_annotations.now
+          (views_of-gap (next g at.After-count_on_line-count) c.loop-first.previous
+          c.loop-first.hidden_annotations.now
           c.lines_between-between.result shows
           c.lines_between-between.ensures.gap
           ∙ ap (λ xs. xs ++ shown_of c.loop-first.rest.now c.in-Some.first.now
           c.count_on_line-count.result
           ∷ later_of c.loop-first.rest.now c.in-Some.first.now c.count_on_line-count.result)
           (gap-filled _ _ _ _ c.if-between-eq1.true))
-          (rendered-filled was.same.config c.in_err-render_filled.ensures.renders.renders)).rendered.renders;
+          (rendered-filled was.same.config
+          c.in_err-render_filled.ensures.renders.renders)).rendered.renders;
     })
 
 pub returns-in_err-render_break-clause-renders : goal.returns-in_err-render_break-clause-renders
@@ -138,14 +140,16 @@ returns-in_err-render_break-clause-renders g c =
     rw (p.1 ∙ ap Err p.2) (record {
       same = same_twice was.same c.in_err-render_break.ensures.renders.same;
       renders = (left-cut was.left _ _
-          (views_of-gap (next g at.After-count_on_line-count) c.loop-first.previous c.loop-first.hidden_annotations.now
+          (views_of-gap (next g at.After-count_on_line-count) c.loop-first.previous
+          c.loop-first.hidden_annotations.now
           c.lines_between-between.result shows
           c.lines_between-between.ensures.gap
           ∙ ap (λ xs. xs ++ shown_of c.loop-first.rest.now c.in-Some.first.now
           c.count_on_line-count.result
           ∷ later_of c.loop-first.rest.now c.in-Some.first.now c.count_on_line-count.result)
           (gap-break _ _ _ _ c.if-between-gt1.true))
-          (rendered-one refl was.same.config c.in_err-render_break.ensures.renders.renders)).rendered.renders;
+          (rendered-one refl was.same.config
+          c.in_err-render_break.ensures.renders.renders)).rendered.renders;
     })
 
 -- what is before the shown line has been rendered, by the same renderer

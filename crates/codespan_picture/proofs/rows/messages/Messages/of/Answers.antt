@@ -5,7 +5,9 @@ use Rattle.codespan_picture.specs.Private.RowLabels.{AreHanging}
 use Rattle.codespan_picture.specs.Rows.{trailing_label}
 use Rattle.codespan_picture.proofs.Hanging.{trailing_here, hanging_here, nothing_trails, none_trails}
 use Rattle.codespan_picture.proofs.Pieces.{taken-dropped}
-use Rattle.codespan_picture.proofs.rows.messages.Messages.of.Goals.{in-Some, in_default, in_default-via-in-Some+else-does_trail, in_default-via-in_default}
+use Rattle.codespan_picture.proofs.rows.messages.Messages.of.Goals.{in-Some, in_default}
+use Rattle.codespan_picture.proofs.rows.messages.Messages.of.Goals.{in_default-via-in-Some+else-does_trail}
+use Rattle.codespan_picture.proofs.rows.messages.Messages.of.Goals.{in_default-via-in_default}
 use Rattle.codespan_picture.proofs.rows.messages.Messages.of.Goals as goal
 
 pub invariant_of-result : goal.invariant_of-result
@@ -34,7 +36,8 @@ invariant_of-result c =
             | in_default-via-in-Some+else-does_trail w' ↦
                 let fails = sym w'.does_trail.ensures ∙ w'.if-does_trail.false in
                 let last = w'.in-Some.ensures.value in (
-                  nothing_trails labels (Some w'.in-Some.index) _ c.max_label_end.ensures last fails,
+                  nothing_trails labels (Some w'.in-Some.index) _ c.max_label_end.ensures
+                      last fails,
                   none_trails labels (Some w'.in-Some.index) _ c.max_label_end.ensures last fails,
                 )
             | in_default-via-in_default w' ↦

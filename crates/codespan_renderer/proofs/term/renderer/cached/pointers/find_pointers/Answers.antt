@@ -43,7 +43,8 @@ loop-metrics-init c =
 pub returns-then-metrics-greatest_start-clause-found : goal.returns-then-metrics-greatest_start-clause-found
 returns-then-metrics-greatest_start-clause-found c =
     let i = c.loop-metrics.invariant in
-    let none = pointers-past-at c.args.messages.labels.now _ _ _ _ c.max_label_start-greatest_start.result _ _
+    let none = pointers-past-at c.args.messages.labels.now _ _ _ _
+    c.max_label_start-greatest_start.result _ _
     c.in-Some.metrics c.in-Some.ensures.steps i.cursor c.if-metrics-greatest_start.true
     c.max_label_start-greatest_start.ensures in
     sym (append-nil c.loop-metrics.pointers.items)
@@ -56,7 +57,8 @@ loop-metrics-preserved-in-Continue-1 c =
     let early = c.start_style-early.ensures in
     let late = c.start_style.ensures in
     let style =
-    found-style c.args.messages.labels.now _ _ _ _ c.in-Some.metrics _ _ c.args.messages.hanging_labels
+    found-style c.args.messages.labels.now _ _ _ _ c.in-Some.metrics _ _
+    c.args.messages.hanging_labels
     i.cursor.same_early i.cursor.same_late early.style late.style in
     record {
       cursor =
@@ -66,7 +68,8 @@ loop-metrics-preserved-in-Continue-1 c =
           scan_state-more _ _ _ c.in-Some.metrics _ (omega arith) (omega arith)
           (rw step at i.scan_state);
       found = rw (c.in_ok-push.ensures.items, c.pointer_under.ensures)
-          (found-some (single_label_views c.args.messages.labels.now) c.loop-metrics.pointers.items _ _
+          (found-some (single_label_views c.args.messages.labels.now)
+          c.loop-metrics.pointers.items _ _
           c.in-Some.metrics _ step (sym style ∙ c.in-Some-start_style.is) ∙ i.found);
     }
 
@@ -77,7 +80,8 @@ loop-metrics-preserved c =
     let early = c.start_style-early.ensures in
     let late = c.start_style.ensures in
     let style =
-    found-style c.args.messages.labels.now _ _ _ _ c.in-Some.metrics _ _ c.args.messages.hanging_labels
+    found-style c.args.messages.labels.now _ _ _ _ c.in-Some.metrics _ _
+    c.args.messages.hanging_labels
     i.cursor.same_early i.cursor.same_late early.style late.style in
     record {
       cursor =
@@ -87,7 +91,8 @@ loop-metrics-preserved c =
           scan_state-more _ _ _ c.in-Some.metrics _ (omega arith) (omega arith)
           (rw step at i.scan_state);
       found =
-          found-none (single_label_views c.args.messages.labels.now) c.loop-metrics.pointers.items _ _
+          found-none (single_label_views c.args.messages.labels.now)
+          c.loop-metrics.pointers.items _ _
           c.in-Some.metrics step (sym style ∙ c.in_default.is)
           ∙ i.found;
     }

@@ -14,7 +14,8 @@ invariant-loop-metrics l = record {
   cursor : IsPassing l.messages.before.now l.messages.after.now l.before_trailing l.after_trailing
       (remaining_from_cache l.metrics-iterator);
   scan_state : ScanState (length l.line.text.now) 0 (remaining_from_cache l.metrics-iterator);
-  found : l.pointers.items ++ pointers_in (hanging_labels (single_label_views l.messages.labels.now))
+  found : l.pointers.items
+      ++ pointers_in (hanging_labels (single_label_views l.messages.labels.now))
       (remaining_from_cache l.metrics-iterator)
       ≡ pointers_in (hanging_labels (single_label_views l.messages.labels.now))
       (char_metrics l.tab_width l.line.text.now);
