@@ -30,9 +30,10 @@ def uncited(root, crates):
     """The lemmas of these crates whose names are nowhere but in their own definitions, a line for each; those that are not `pub`, nowhere in their files."""
     lemmas, uses, uses_in_file = [], collections.Counter(), collections.Counter()
     for path in sorted((root / 'crates').glob('*/*/**/*')):
-        if path.suffix not in ('.rt', '.antt', '.edit'):
-            continue
         crate, *folders = path.relative_to(root / 'crates').parts
+        # what `rt` builds is in out/
+        if path.suffix not in ('.rt', '.antt', '.edit') or folders[0] == 'out':
+            continue
         for number, line, own, begins in own_lines(path.read_text(encoding='utf-8')):
             words = [it for it in WORD.findall(line) if not own or it != own[3]]
             uses.update(words)

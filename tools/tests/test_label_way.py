@@ -8,28 +8,26 @@ WAY = f'''\
 {EMITTING}:7: emit_into_string calls emit_to_write_style
 {EMITTING}:12: emit_to_write_style calls RichDiagnostic::render
 {RICH}:9: RichDiagnostic::render calls RichDiagnostic::render_snippets
-{RICH}:14: RichDiagnostic::render_snippets calls Snippet::render
-{SNIPPET}:11: Snippet::render calls Snippet::render_lines
-{SNIPPET}:16: Snippet::render_lines calls Snippet::render_line
-{SNIPPET}:25: Snippet::render_line calls CachedLine::render
-{CACHED}:23: CachedLine::render calls write_caret
-{ROWS}:17: write_caret calls put_repeated
+{RICH}:14: RichDiagnostic::render_snippets calls Snippet::render_lines
+{SNIPPET}:12: Snippet::render_lines calls Snippet::render_line
+{SNIPPET}:21: Snippet::render_line calls write_line
+{ROWS}:17: write_line calls put_repeated
 {ROWS}:27: put_repeated calls put_char
 {ROWS}:37: put_char calls RowWriter::put
-{CACHED}:33: RowWriter::put calls PlainWriter::put
+{CACHED}:27: RowWriter::put calls PlainWriter::put
 {WRITING}:18: PlainWriter::put calls forward_put
 {WRITING}:29: forward_put calls write
 '''
 FIGURES = '''\
-calls from emit_into_string to the writer: 14
+calls from emit_into_string to the writer: 12
 files of the whole way: 6
-functions of the whole way: 20
+functions of the whole way: 18
 types of the whole way: 6
 modules of codespan_views: 4
 carrier types of codespan_views: 1
 places that hold the padding width: 3
-functions of views, renderer and rows: 22
-lines of code of codespan_views: 49
+functions of views, renderer and rows: 20
+lines of code of codespan_views: 46
 lines of specs of codespan_views: 1
 lines of proofs of codespan_views: 11
 lemmas that nothing cites: 0
@@ -52,6 +50,17 @@ class LabelWay(TreeCase):
         """Asserts that the tool prints this error alone, and ends with 1."""
         self.assertEqual(self.run_tool(), (1, '', f'label-way: {error}\n'))
 
+    def add_a_method_of_the_same_name(self):
+        """Adds a method to `RichDiagnostic` with the name of the one of `Snippet` that `render_snippets` calls. It leads to the caret too."""
+        self.change(RICH, '        snippet.render_lines(w)\n    }\n',
+                    '        snippet.render_lines(w)\n    }\n\n    fn render_lines(&self, w: &mut W) {\n        write_line(w)\n    }\n')
+
+    def assert_the_same_way(self):
+        """Asserts that the tool prints the way of the sound tree, and as many functions and types of the whole way."""
+        self.assertEqual(self.run_tool('--way'), (0, WAY, ''))
+        self.assert_figure('functions of the whole way', 18)
+        self.assert_figure('types of the whole way', 6)
+
     def test_figures(self):
         self.assertEqual(self.run_tool(), (0, FIGURES, ''))
 
@@ -61,14 +70,14 @@ class LabelWay(TreeCase):
     def test_way_with_one_more_call(self):
         self.change(ROWS, 'fn put_char<W: PutStyle>(w: &mut W, c: char) {\n    w.put(c)', 'fn put_char(w: &mut W, c: char) {\n    put_glyph(w, c)')
         self.put(ROWS, f'{self.text(ROWS)}\nfn put_glyph<W: PutStyle>(w: &mut W, c: char) {{\n    w.put(c)\n}}\n')
-        self.assert_figure('calls from emit_into_string to the writer', 15)
+        self.assert_figure('calls from emit_into_string to the writer', 13)
 
     def test_files(self):
-        self.assert_prints('--files', f'{WRITING}: 2', f'{ROWS}: 5', f'{CACHED}: 4', f'{EMITTING}: 2', f'{RICH}: 3', f'{SNIPPET}: 4')
+        self.assert_prints('--files', f'{WRITING}: 2', f'{ROWS}: 5', f'{CACHED}: 3', f'{EMITTING}: 2', f'{RICH}: 3', f'{SNIPPET}: 3')
 
     def test_one_more_function_of_the_whole_way(self):
         self.change(ROWS, "    c != '{'\n}\n", "    is_ascii(c)\n}\n\nfn is_ascii(c: char) -> bool {\n    c != '{'\n}\n")
-        self.assert_figure('functions of the whole way', 21)
+        self.assert_figure('functions of the whole way', 19)
 
     def test_an_implementation_that_is_not_meant(self):
         self.put('crates/codespan_renderer/src/other.rt', '''\
@@ -84,8 +93,8 @@ fn other_width() -> usize {
     1
 }
 ''')
-        self.assert_figure('functions of the whole way', 20)
-        self.assert_figure('functions of views, renderer and rows', 24)
+        self.assert_figure('functions of the whole way', 18)
+        self.assert_figure('functions of views, renderer and rows', 22)
 
     def test_types(self):
         status, output, _ = self.run_tool('--types')
@@ -103,7 +112,7 @@ fn other_width() -> usize {
         self.assert_figure('carrier types of codespan_views', 2)
 
     def test_padding(self):
-        self.assert_prints('--padding', f'{ROWS}:4: padding', f'{SNIPPET}:5: spanned_padding', f'{SNIPPET}:24: padding')
+        self.assert_prints('--padding', f'{ROWS}:4: padding', f'{SNIPPET}:5: spanned_padding', f'{SNIPPET}:20: padding')
 
     def test_padding_by_its_type(self):
         self.change(CACHED, '    cursor: CachedCursor,\n', '    cursor: CachedCursor,\n    pub widest: PaddingWidth,\n')
@@ -113,7 +122,7 @@ fn other_width() -> usize {
         self.change(SNIPPET, '/// A snippet.\n', '/// A snippet,\n/// and more.\n\npub use std::fmt::{\n    Debug,\n};\n')
         self.change(SNIPPET, 'fn render_line(&self, w: &mut W) {\n',
                     'fn render_line(&self, w: &mut W)\n        requires one { n\n            ≡ 1 }\n        ensures { result ≡ n }\n    {\n')
-        self.assert_figure('lines of code of codespan_views', 50)
+        self.assert_figure('lines of code of codespan_views', 47)
 
     def test_a_public_lemma_that_nothing_cites(self):
         self.change(LEMMAS, 'product n\n', 'refl\n')
@@ -138,16 +147,25 @@ fn other_width() -> usize {
         self.assert_fails('there is no function emit_into_string')
 
     def test_a_meant_call_of_no_function(self):
-        self.change(CACHED, 'fn render(', 'fn draw(')
-        self.assert_fails('MEANT: there is no function CachedLine::render')
+        self.change(ROWS, 'fn write_line', 'fn write_rows')
+        self.assert_fails('MEANT: there is no function write_line')
+
+    def test_a_meant_call_of_no_method(self):
+        self.change(RICH, 'fn render(', 'fn draw(')
+        self.assert_fails('MEANT: there is no function RichDiagnostic::render')
 
     def test_a_meant_call_by_no_function(self):
         self.change(EMITTING, 'fn emit_to_write_style', 'fn emit_styled')
         self.assert_fails('MEANT: there is no function emit_to_write_style')
 
     def test_a_meant_call_whose_type_the_file_names(self):
-        self.change(SNIPPET, 'cached.render(w, padding)', 'let cached: CachedLine = cached;\n        cached.render(w, padding)')
-        self.assert_figure('calls from emit_into_string to the writer', 14)
+        self.add_a_method_of_the_same_name()
+        self.assert_the_same_way()
+
+    def test_a_meant_call_whose_type_the_file_does_not_name(self):
+        self.add_a_method_of_the_same_name()
+        self.change(RICH, 'Snippet::new()', 'new_snippet()')
+        self.assert_the_same_way()
 
     def test_a_meant_call_that_is_not_made(self):
         self.change(ROWS, '1 => put_char', '1 => put_runs')
@@ -162,9 +180,9 @@ fn other_width() -> usize {
         self.assert_fails('IMPLEMENTATIONS: RowWriter does not implement PutStyle')
 
     def test_two_calls_that_lead_on(self):
-        self.change(RICH, 'self.render_snippets(w)', 'self.render_snippets(w);\n        write_caret(w)')
+        self.change(RICH, 'self.render_snippets(w)', 'self.render_snippets(w);\n        write_line(w)')
         self.assert_fails('MEANT does not say which is meant of the calls of RichDiagnostic::render that lead to a call that is passed '
-                          'single_primary_caret: RichDiagnostic::render_snippets, write_caret')
+                          'single_primary_caret: RichDiagnostic::render_snippets, write_line')
 
     def test_no_call_that_leads_on(self):
         self.change(RICH, 'self.render_snippets(w)', 'self.render_headers(w)')

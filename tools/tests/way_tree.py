@@ -50,8 +50,8 @@ pub trait LineCharacters {
     fn width(&self) -> usize;
 }
 
-/// Writes a caret, and not write_other(chars.single_primary_caret).
-pub fn write_caret<W: PutStyle, S: LineCharacters>(w: &mut W, chars: &Chars<'_>, padding: usize, line: &S) {
+/// Writes a line, and not write_other(chars.single_primary_caret).
+pub fn write_line<W: PutStyle, S: LineCharacters>(w: &mut W, chars: &Chars<'_>, outer_padding: usize, line: &S) {
     put_repeated(w, chars.single_primary_caret, line.width());
     is_scalar(chars.single_primary_caret);
 }
@@ -93,12 +93,6 @@ impl CharCursor for CachedCursor {
 impl LineCharacters for CachedLine {
     fn width(&self) -> usize {
         self.cursor.next_metrics()
-    }
-}
-
-impl CachedLine {
-    pub fn render(&self, w: &mut RowWriter, outer_padding: usize) {
-        write_caret(w, chars, outer_padding, self)
     }
 }
 
@@ -156,7 +150,7 @@ impl RichDiagnostic {
 
     fn render_snippets(&self, w: &mut W) {
         let snippet = Snippet::new();
-        snippet.render(w)
+        snippet.render_lines(w)
     }
 }
 ''',
@@ -181,11 +175,7 @@ pub struct Snippet {
 }
 
 impl Snippet {
-    pub fn render(&self, w: &mut W) {
-        self.render_lines(w)
-    }
-
-    fn render_lines(&self, w: &mut W) {
+    pub fn render_lines(&self, w: &mut W) {
         self.render_filled(w);
         self.render_line(w)
     }
@@ -196,7 +186,7 @@ impl Snippet {
 
     fn render_line(&self, w: &mut W) {
         let padding = self.spanned_padding;
-        cached.render(w, padding)
+        write_line(w, chars, padding, cached)
     }
 }
 ''',

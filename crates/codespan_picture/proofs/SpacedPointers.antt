@@ -1,5 +1,5 @@
--- For `write_caret_pointers` and `write_pointer_row`, and of `codespan_renderer` for `find_pointers`
--- and `next_pointer`: the pointers of a line with spaces between them.
+-- For `write_caret_pointers` and `write_pointer_row`, and for `find_pointers` and `next_pointer` of
+-- `codespan_renderer`: the pointers of a line with spaces between them.
 use Rattle.std.proofs.Common.{◌≡◌, ℕ, ◌+◌, ◌-◌, ◌<◌, ◌≤◌, min, Bool, true, false, nat_lt, nat_le}
 use Rattle.std.proofs.Common.{List, [], ◌∷◌, ◌++◌, Option, Some, None, refl, sym, ap, ◌∙◌, arith}
 use Rattle.std.proofs.Common.{append_assoc, append-nil, lt-ltb}

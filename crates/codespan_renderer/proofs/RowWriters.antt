@@ -40,7 +40,7 @@ abbrev sink_before : Sink → Sink
 sink_before s = record s { frame = frame_before s.frame }
 
 -- what was written behind the reference was written to the writer
-writes_before : {E : Type 0} (n m : GName) (s : Sink) (items : Stream) (r : Result (Unit {0}) E)
+pub writes_before : {E : Type 0} (n m : GName) (s : Sink) (items : Stream) (r : Result (Unit {0}) E)
     (t : Sink)
     → Writes (sink_through n s) items r (sink_through m t) → Writes s items r t
 unfolding with_written is_known rest_of
@@ -51,13 +51,24 @@ writes_before n m s items (Err x) t p = (
       record { prefix = q.prefix; rest = q.rest; whole = q.whole; contents = q.contents },
 )
 
--- and the reference is the same
-same_reference : {E : Type 0} (n m : GName) (s : Sink) (items : Stream) (r : Result (Unit {0}) E)
-    (t : Sink)
-    → Writes (sink_through n s) items r (sink_through m t) → m ≡ n
-same_reference n m s items (Ok x) t p =
-    let e : (m ∷ t.frame.borrows) ≡ (n ∷ s.frame.borrows) = ap (λ (f : Frame). f.borrows) p.0 in
+-- frames that are equal behind references are equal
+pub same_frame : (n m : GName) (s t : Sink)
+    → (sink_through m t).frame ≡ (sink_through n s).frame → t.frame ≡ s.frame
+unfolding rest_of
+same_frame n m s t p = ap frame_before p
+
+-- and the references are the same
+pub same_head : (n m : GName) (s t : Sink)
+    → (sink_through m t).frame ≡ (sink_through n s).frame → m ≡ n
+same_head n m s t p =
+    let e : (m ∷ t.frame.borrows) ≡ (n ∷ s.frame.borrows) = ap (λ (f : Frame). f.borrows) p in
     cc
+
+-- what was written behind a reference was written behind the same one
+pub same_reference : {E : Type 0} (n m : GName) (s : Sink) (items : Stream)
+    (r : Result (Unit {0}) E) (t : Sink)
+    → Writes (sink_through n s) items r (sink_through m t) → m ≡ n
+same_reference n m s items (Ok x) t p = same_head n m s t p.0
 same_reference n m s items (Err x) t p =
     let e : (m ∷ t.frame.borrows) ≡ (n ∷ s.frame.borrows) = ap (λ (f : Frame). f.borrows) p.0 in
     cc

@@ -1,5 +1,5 @@
 -- The annotations of all labels on one line of one file, for the clauses of `render_snippets` and
--- `render_labels`.
+-- `RichDiagnostic::render`.
 use Rattle.std.proofs.Common.{◌≡◌, ℕ, ◌+◌, ◌<◌, ◌≤◌, Bool, true, false, not, cond, if◌then◌else◌}
 use Rattle.std.proofs.Common.{◌==◌, nat_lt, ◌&&◌, ◌||◌, List, [], ◌∷◌, ◌++◌, length, map, filter}
 use Rattle.std.proofs.Common.{Option, Some, None, ⊎_elim, refl, sym, ◌∙◌, ap, subst, arith}

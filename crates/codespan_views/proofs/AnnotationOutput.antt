@@ -1,5 +1,5 @@
 -- From all annotations of a diagnostic in order `lines_of` makes, for each file, the rows of its
--- snippet: for the clauses of `render_snippets` and `render_labels`.
+-- snippet: for the clauses of `render_snippets` and `RichDiagnostic::render`.
 use Rattle.std.proofs.Common.{◌≡◌, ℕ, ◌<◌, Bool, true, ◌==◌, ◌&&◌, List, [], map, filter, reverse}
 use Rattle.std.proofs.Common.{None, refl, sym, ◌∙◌, ap, subst}
 use Rattle.std.specs.List.{list_any, range_with_len, AllByRecursion}

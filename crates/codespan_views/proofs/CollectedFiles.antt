@@ -1,5 +1,5 @@
 -- The files that were collected: the rows, the lookups and the numbers of the snippet lines that
--- their annotations make are those of their labels. For the clauses of `render_labels` and
+-- their annotations make are those of their labels. For the clauses of `RichDiagnostic::render` and
 -- `render_snippets`.
 use Rattle.std.proofs.Common.{◌≡◌, ℕ, ◌+◌, Bool, List, [], ◌∷◌, ◌++◌, map, max, None}
 use Rattle.std.proofs.Common.{refl, sym, subst, ap, ◌∙◌, arith}

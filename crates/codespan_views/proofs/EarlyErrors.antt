@@ -1,5 +1,5 @@
 -- What fails the lookups before the header: those of the labels, and then those of filled lines and
--- of loci. For the clause `renders` of `RichDiagnostic::render_labels`.
+-- of loci. For the clause `renders` of `RichDiagnostic::render`.
 use Rattle.std.proofs.Common.{◌≡◌, List, ◌++◌, Option, Some, None, ◌∙◌, ap, append_assoc, flat_map}
 use Rattle.codespan_core.specs.declared.files.Error.{Error}
 use Rattle.codespan_core.specs.declared.term.config.Config.{Config}

@@ -1,5 +1,5 @@
 -- Where one of the lookups fails, the first one that does is known: for the clause `renders` of
--- `RichDiagnostic::render_labels`.
+-- `RichDiagnostic::render`.
 use Rattle.std.proofs.Common.{◌≡◌, List, None}
 use Rattle.codespan_core.specs.FileModel.{FileDatabase, Lookup}
 use Rattle.codespan_picture.specs.Lookups.{first_error}

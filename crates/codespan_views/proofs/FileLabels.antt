@@ -1,5 +1,5 @@
 -- The labels of one range, and a file among those of a diagnostic, for the clauses of
--- `render_snippets` and `render_labels`.
+-- `render_snippets` and `RichDiagnostic::render`.
 use Rattle.std.proofs.Common.{◌≡◌, ℕ, ◌<◌, Bool, true, false, ◌==◌, List, Option, Some, None}
 use Rattle.codespan_core.specs.FileModel.{FileModel, line_count}
 use Rattle.codespan_core.specs.Labels.{LabelModel}

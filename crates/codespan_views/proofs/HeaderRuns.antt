@@ -36,7 +36,6 @@ use Rattle.codespan_picture.proofs.Loci.{locus_there, zip_append, zip_each, zip_
 use Rattle.codespan_picture.proofs.Loci.{zip_weaker}
 use Rattle.codespan_views.proofs.Renderings.{PrefixWritten-none}
 use Rattle.codespan_views.proofs.FirstErrors.{all_succeed, first_error-none, first_error-some}
-use Rattle.codespan_views.proofs.SnippetParts.{write_at}
 use Rattle.codespan_views.proofs.HeaderStreams.{none_of_empty, no_loci, some_headers, stated_of}
 use Rattle.codespan_views.proofs.HeaderStreams.{primary_labels, context, headers_stream}
 use Rattle.codespan_views.proofs.HeaderStreams.{headers_stream-append, header, short, short-some}
@@ -263,7 +262,8 @@ module _ {Id : Type 0} {config : Config} {files : FileDatabase Id} {d : Diagnost
   pub medium_written : {now : Config} {new : Sink} (r : Result (Unit {0}) Error) → now ≡ config
       → Writes mid (noted now d) r new → IfErr r IsIo
       → WritesOutput Medium config config files d old r new
-  medium_written {now} {new} r equal writes io = by r (write_at (λ (k : Config). noted k d) equal mid new r writes) io
+  medium_written {now} {new} r equal writes io =
+      by r (subst (λ (k : Config). Writes mid (noted k d) r new) equal writes) io
     where
       rows : stream_of_rows (context config d)
           (header_rows (header_text_of d) rendered.loci ++ note_rows (notes_of d)) ≡ before ++ notes

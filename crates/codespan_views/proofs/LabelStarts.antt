@@ -1,5 +1,5 @@
 -- The labels of a line in the order of their starts, for the clauses of `render_snippets` and
--- `render_labels`.
+-- `RichDiagnostic::render`.
 use Rattle.std.proofs.Common.{◌≡◌, ℕ, ◌≤◌, false, true, nat_le, List, [], ◌∷◌, refl, arith}
 use Rattle.std.specs.List.{AllByRecursion}
 use Rattle.std.proofs.lemmas.Bool.Decides.{nat_tests}

@@ -1,5 +1,5 @@
 -- The order of the lane marks on a line, for the clauses `in_order` of `render_line` and
--- `render_break`, and those of `render_snippets` and `render_labels`.
+-- `render_break`, and those of `render_snippets` and `RichDiagnostic::render`.
 use Rattle.std.proofs.Common.{◌≡◌, ℕ, ◌+◌, ◌≤◌, Bool, true, false, ◌&&◌, List, [], ◌∷◌, length, map}
 use Rattle.std.proofs.Common.{Option, Some, None, refl, sym, ap, ◌∙◌, arith, nat_le, nat_lt}
 use Rattle.std.proofs.Common.{true≢false}

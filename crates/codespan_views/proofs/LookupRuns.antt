@@ -1,5 +1,5 @@
 -- Rendering with lookups on the way, part by part: what has been written, what was looked up, and
--- what an error cut short. For the clauses of `Snippet::render`, `render_line` and `render_break`.
+-- what an error cut short. For the clauses of `render_snippets`, `render_line` and `render_break`.
 use Rattle.std.proofs.Common.{◌≡◌, ◌≢◌, [], ◌++◌, Option, None, Some, Result, Ok, Err, inl, inr}
 use Rattle.std.proofs.Common.{⊎_elim, refl, sym, subst, ◌∙◌}
 use Rattle.std.specs.Prelude.{IfErr}

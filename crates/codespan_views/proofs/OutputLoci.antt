@@ -1,5 +1,5 @@
 -- Loci of an output whose names are UTF-8, for the clauses `renders` of
--- `RichDiagnostic::render_labels` and `render_headers`.
+-- `RichDiagnostic::render` and `render_headers`.
 use Rattle.std.proofs.Common.{List}
 use Rattle.std.specs.List.{AllZip}
 use Rattle.codespan_core.specs.declared.term.config.DisplayStyle.TheVariants.{Rich, Short}

@@ -1,18 +1,28 @@
--- Calls that render by a renderer, one after another, some with lookups on the way: for the clauses
--- of `render_snippets`, `Snippet::render`, `render_lines`, `render_notes` and what these call.
-use Rattle.std.proofs.Common.{◌≡◌, ◌≢◌, [], ◌++◌, Option, None, Some, Result, Ok, Err, refl, sym}
-use Rattle.std.proofs.Common.{subst, ◌∙◌}
+-- Calls that render by a renderer, one after another: for the clauses of `render_snippets`,
+-- `render_notes` and `render_closing`.
+use Rattle.std.proofs.Common.{◌≡◌, List, [], ◌++◌, Option, Result, Ok, Err, inl, inr, ⊎_elim}
+use Rattle.std.proofs.Common.{refl, sym, subst, ◌∙◌}
+use Rattle.std.specs.Borrow.{GName}
 use Rattle.codespan_core.specs.declared.files.Error.{Error}
-use Rattle.codespan_core.specs.declared.files.Error.TheVariants.{OutOfMemory}
+use Rattle.codespan_core.specs.Errors.{IsIo}
 use Rattle.codespan_core.specs.declared.term.config.Config.{Config}
 use Rattle.codespan_core.specs.Streams.{Stream}
-use Rattle.codespan_core.specs.WriterLaw.{Sink}
+use Rattle.codespan_core.specs.WriterLaw.{Sink, is_known, with_written}
 use Rattle.codespan_core.proofs.Chains.{failed-before, writes-last}
 use Rattle.codespan_core.proofs.Writes.{with_written-nil}
+use Rattle.codespan_picture.specs.Rows.{Row, RowContext}
+use Rattle.codespan_picture.specs.RowStreams.{stream_of_rows}
 use Rattle.codespan_renderer.specs.declared.term.renderer.Renderer.{Renderer}
-use Rattle.codespan_renderer.specs.Renderers.{Renders, SameRenderer, config_of, writer_of}
+use Rattle.codespan_renderer.specs.Private.RowWriters.{inner_reference, inner_writer}
+use Rattle.codespan_renderer.specs.Private.RowWriters.{row_writer_sink}
+use Rattle.codespan_renderer.specs.Renderers.{Renders, SameRenderer, config_of, sink_through}
+use Rattle.codespan_renderer.specs.Renderers.{writer_of}
+use Rattle.codespan_renderer.specs.declared.term.renderer.row_writer.RowWriter.{RowWriter}
+use Rattle.codespan_renderer.proofs.RowWriters.{same_frame, same_head, same_reference}
+use Rattle.codespan_renderer.proofs.RowWriters.{writes_before}
+use Rattle.codespan_views.specs.Private.LookupsWhileRendering.{FailedWithLookups, WrotePrefix}
+use Rattle.codespan_views.specs.Private.LookupsWhileRendering.{WritesWithLookups}
 use Rattle.codespan_views.specs.Private.Rendering.{RendersWithLookups}
-use Rattle.codespan_views.proofs.LookupRuns.{run_failed, run_of_writes, run_out_of_memory}
 
 module _ {W : Type 0} where
   -- a renderer is the same as itself
@@ -67,25 +77,49 @@ module _ {W : Type 0} {sink : W → Sink} {old : Renderer W} where
         io = second.io;
       })
 
-  -- a call that only renders looks up nothing
-  pub renders_alone : {a : Stream} {r : Result (Unit {0}) Error} {new : Renderer W}
-      → Renders sink a old r new → RendersWithLookups sink None a old r new
-  renders_alone {r = r} part =
-      record { same = part.same; renders = (run_of_writes r part.writes part.io).renders }
+-- what was written to a row writer, with lookups on the way, came to its writer
+through-run : (o : Option Error) (n m : GName) (s : Sink) (items : Stream)
+    (r : Result (Unit {0}) Error) (t : Sink)
+    → WritesWithLookups o (sink_through n s) items r (sink_through m t)
+    → (m ≡ n) × WritesWithLookups o s items r t
+unfolding with_written is_known
+through-run o n m s items (Ok tt) t p = (
+  same_reference {E = Error} n m s items (Ok tt) t p.1,
+  (p.0, writes_before {E = Error} n m s items (Ok tt) t p.1),
+)
+through-run o n m s items (Err e) t p =
+    ⊎_elim
+    (λ (w : IsIo e × WrotePrefix (sink_through n s) items (sink_through m t)). (
+      same_reference n m s items (Err e) t w.1,
+      inl (w.0, writes_before n m s items (Err e) t w.1),
+    ))
+    (λ (w : FailedWithLookups o (sink_through n s) items e (sink_through m t)). (
+      same_head n m s t w.frame,
+      inr (record {
+        frame = same_frame n m s t w.frame;
+        prefix = λ known. let q = w.prefix known in
+            record { prefix = q.prefix; rest = q.rest; whole = q.whole; contents = q.contents };
+        error_is = w.error_is;
+      }),
+    ))
+    p
 
-  -- a lookup succeeded before a call that rendered
-  pub renders_after : {o : Option Error} {a : Stream} {r : Result (Unit {0}) Error}
-      {new : Renderer W}
-      → o ≡ None → RendersWithLookups sink None a old r new → RendersWithLookups sink o a old r new
-  renders_after {a = a} {r = r} {new = new} succeeded part =
-      subst (λ (x : Option Error). RendersWithLookups sink x a old r new) (sym succeeded) part
-
-  -- a lookup failed before anything was rendered
-  pub lookup_failed : {o : Option Error} {a : Stream} {e : Error} → (e ≢ OutOfMemory → o ≡ Some e)
-      → RendersWithLookups sink o a old (Err e) old
-  lookup_failed known = record { same = same_renderer; renders = run_failed known }
-
-  -- an allocation failed before anything was rendered
-  pub allocation_failed : {o : Option Error} {a : Stream} {e : Error} → e ≡ OutOfMemory
-      → RendersWithLookups sink o a old (Err e) old
-  allocation_failed is = record { same = same_renderer; renders = run_out_of_memory is }
+-- the writer comes back from the row writer that has written rows, with lookups on the way, and has
+-- received them
+pub rows-rendered : {W : Type 0} (sink : W → Sink) (o : Option Error) (context other : RowContext)
+    (rows : List Row) (old new : Renderer W) (before after : RowWriter W) (name : GName)
+    (r : Result (Unit {0}) Error)
+    → context ≡ other → inner_reference before ≡ name → inner_writer before ≡ writer_of old
+    → WritesWithLookups o (row_writer_sink sink before) (stream_of_rows context rows) r
+    (row_writer_sink sink after)
+    → (name ≡ inner_reference after → writer_of new ≡ inner_writer after) → SameRenderer old new
+    → RendersWithLookups sink o (stream_of_rows other rows) old r new
+rows-rendered sink o context other rows old new before after name r equal called previous writes
+    back same =
+    let run = through-run o (inner_reference before) (inner_reference after)
+    (sink (inner_writer before)) (stream_of_rows context rows) r (sink (inner_writer after))
+    writes in
+    record {
+      same = same;
+      renders = rw (back (sym (run.0 ∙ called)), sym previous, sym equal) run.1;
+    }

@@ -1,5 +1,5 @@
 -- Rendering in rich style, what has been written for each way to end: for the clause `renders` of
--- `RichDiagnostic::render_labels`.
+-- `RichDiagnostic::render`.
 use Rattle.std.proofs.Common.{◌≡◌, ◌≢◌, true, ◌<◌, List, [], ◌++◌, length, Option, None, Some, Ok}
 use Rattle.std.proofs.Common.{Err, Result, inl, inr, refl, sym, subst, ap, ◌∙◌, arith}
 use Rattle.std.proofs.lemmas.List.{length-append}

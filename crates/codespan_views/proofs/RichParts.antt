@@ -1,5 +1,5 @@
 -- A rich output, rendered part by part, its header, its snippets and its notes: for the clauses
--- `renders` of `RichDiagnostic::render` and `RichDiagnostic::render_labels`.
+-- `renders` of `RichDiagnostic::render`.
 use Rattle.std.proofs.Common.{◌≡◌, ◌≢◌, ◌<◌, true, ℕ, List, [], ◌∷◌, ◌++◌, length, map, None, Some}
 use Rattle.std.proofs.Common.{Result, Ok, Err, ⊎_elim, refl, sym, subst, ap, ◌∙◌, arith}
 use Rattle.std.specs.Prelude.{IfErr}

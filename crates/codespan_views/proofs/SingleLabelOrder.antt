@@ -1,5 +1,5 @@
 -- The single-line labels of a line, whose annotations are in order, for the clauses of
--- `render_snippets` and `render_labels`.
+-- `render_snippets` and `RichDiagnostic::render`.
 use Rattle.std.proofs.Common.{◌≡◌, ℕ, false, List, [], ◌∷◌, refl, sym, ◌∙◌}
 use Rattle.std.specs.List.{AllByRecursion, cons_option}
 use Rattle.codespan_core.specs.Labels.{LabelModel, range_precedes}

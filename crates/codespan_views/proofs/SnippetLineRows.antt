@@ -1,5 +1,5 @@
 -- The rows of the snippet lines of shown lines, and the lines that they show and fill in, for the
--- clauses of `render_snippets` and `render_labels`.
+-- clauses of `render_snippets` and `RichDiagnostic::render`.
 use Rattle.std.proofs.Common.{◌≡◌, ℕ, ◌≤◌, Bool, true, false, not, cond, ◌&&◌, if◌then◌else◌, List}
 use Rattle.std.proofs.Common.{[], ◌∷◌, ◌++◌, filter, flat_map, Option, None, refl, sym, ap, ◌∙◌}
 use Rattle.std.specs.List.{range_with_len, AllByRecursion}

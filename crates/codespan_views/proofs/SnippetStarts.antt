@@ -1,5 +1,5 @@
 -- The byte of a file's locus, by the least starts of its labels, is that of the definitions: for
--- the clauses of `render_labels`.
+-- the clauses of `RichDiagnostic::render`.
 use Rattle.std.proofs.Common.{◌≡◌, ℕ, Bool, true, false, cond, ◌&&◌, List, [], ◌∷◌, map, filter}
 use Rattle.std.proofs.Common.{Option, Some, None, refl, sym, ap, ◌∙◌}
 use Rattle.std.specs.Prelude.{unwrap_or}

@@ -8,9 +8,9 @@ use Rattle.std.specs.Prelude.{IfErr, flat_map, nat_lt, if◌then◌else◌}
 use Rattle.std.proofs.lemmas.List.{append-nil, append_assoc}
 use Rattle.codespan_core.specs.declared.files.Error.{Error}
 use Rattle.codespan_core.specs.declared.files.Error.TheVariants.{OutOfMemory}
-use Rattle.codespan_core.specs.declared.term.config.Config.{Config}
 use Rattle.codespan_core.specs.declared.term.config.Layout.{Layout}
 use Rattle.codespan_core.specs.declared.term.config.Layout.TheVariants.{Classic, Unbroken}
+use Rattle.codespan_core.specs.declared.term.config.Config.{Config}
 use Rattle.codespan_core.specs.Errors.{IsIo}
 use Rattle.codespan_core.specs.FileModel.{FileDatabase, Lookup, or_failure}
 use Rattle.codespan_core.specs.FileModel.Lookup.{Source}
@@ -20,7 +20,7 @@ use Rattle.codespan_picture.specs.Arguments.{locus_view}
 use Rattle.codespan_picture.specs.Lookups.{filled_line_lookups, filled_lines, first_error}
 use Rattle.codespan_picture.specs.Lookups.{late_lookups}
 use Rattle.codespan_picture.specs.Lookups.{lookups_of_file, snippet_lookups}
-use Rattle.codespan_picture.specs.OutputStreams.{context_of, labels_of, notes_of}
+use Rattle.codespan_picture.specs.OutputStreams.{labels_of, notes_of}
 use Rattle.codespan_picture.specs.Rows.{EmptyRow, Locus, Row, RowContext, SnippetStartRow}
 use Rattle.codespan_picture.specs.RowStreams.{stream_of_rows}
 use Rattle.codespan_picture.specs.Snippets.{LabeledFileModel, empty_lanes, empty_row_after, has_any}
@@ -35,7 +35,8 @@ use Rattle.codespan_views.specs.Private.FilledLines.{AreNumbersOf, lookups_with}
 use Rattle.codespan_views.specs.Private.LabeledFiles.{ids_view, loci_view}
 use Rattle.codespan_views.specs.Private.LookupsWhileRendering.{WroteStream, WritesWithLookups}
 use Rattle.codespan_views.specs.Private.SnippetLines.{SnippetLine, filled_lines_of, rows_of_lines}
-use Rattle.codespan_views.specs.Private.SnippetRows.{empty_row_after_snippet, rows_of_snippet}
+use Rattle.codespan_views.specs.Private.SnippetRows.{empty_row_after_snippet, first_rows}
+use Rattle.codespan_views.specs.Private.SnippetRows.{rows_of_snippet}
 use Rattle.codespan_views.specs.Views.{diagnostic_of, view_config_of}
 use Rattle.codespan_views.proofs.CollectedFiles.{IsFileOfLabels, nothing-of_each}
 use Rattle.codespan_views.proofs.FilesInOrder.{drop-end, followed-at, id-at, id-inside, ids-count}
@@ -45,7 +46,7 @@ use Rattle.codespan_views.proofs.FirstErrors.{first_error-append, or_failure-non
 use Rattle.codespan_views.proofs.IndexedElements.{IsElementAt, drop-one}
 use Rattle.codespan_views.proofs.LookupRuns.{IsLookupRun, run_after, run_as, run_cut, run_failed}
 use Rattle.codespan_views.proofs.LookupRuns.{run_of_nothing, run_of_writes, run_then}
-use Rattle.codespan_views.proofs.SnippetParts.{rows-two, write_at}
+use Rattle.codespan_views.proofs.SnippetParts.{rows-after, rows-cut, rows-two}
 
 -- ---- the rows of a file
 
@@ -94,14 +95,9 @@ module _ {Id : Type 0} (database : FileDatabase Id) (view_config : RichDiagnosti
     lookups_left k = flat_map snippet_lookups_of (drop k (ids_view collected.files.items))
 
     -- the files before this index are rendered, and all lookups with them succeeded
-    pub record SnippetsLeft (renderer_config : Config) (k : ℕ) (old now : Sink) : Type 0 where
+    pub record SnippetsLeft (context : RowContext) (k : ℕ) (old now : Sink) : Type 0 where
       pub rows : List Row
-      pub rendered : IsLookupRun None old
-          (stream_of_rows
-          (context_of renderer_config (diagnostic_of view_config).severity
-          collected.padding.digit_count)
-          rows)
-          (Ok tt) now
+      pub rendered : IsLookupRun None old (stream_of_rows context rows) (Ok tt) now
       pub rows_whole : rows ++ rows_left k ≡ rows_left 0
       pub lookups : List (Id × Lookup)
       pub succeeded : first_error database.failure lookups ≡ None
@@ -109,8 +105,8 @@ module _ {Id : Type 0} (database : FileDatabase Id) (view_config : RichDiagnosti
 
 -- no file is rendered
 pub left-start : {Id : Type 0} {database : FileDatabase Id} {view_config : RichDiagnostic Id}
-    {renderer_config : Config} {collected : Collected Id} {s : Sink}
-    → SnippetsLeft database view_config collected renderer_config 0 s s
+    {context : RowContext} {collected : Collected Id} {s : Sink}
+    → SnippetsLeft database view_config collected context 0 s s
 left-start = record {
   rows = [];
   rendered = run_of_nothing;
@@ -121,19 +117,10 @@ left-start = record {
 }
 
 module _ {Id : Type 0} {database : FileDatabase Id} {view_config : RichDiagnostic Id}
-    {renderer_config : Config} {collected : Collected Id} {k : ℕ} {old mid : Sink}
+    {context : RowContext} {collected : Collected Id} {k : ℕ} {old mid : Sink}
     (numbers : List ℕ) (looked_up : IsLookedUp database (view_config_of view_config)
     (labels_of (diagnostic_of view_config)) numbers collected)
-    (left : SnippetsLeft database view_config collected renderer_config k old mid) where
-  -- what all rows share, in a configuration
-  abbrev context_by : Config → RowContext
-  context_by config = context_of config (diagnostic_of view_config).severity
-      collected.padding.digit_count
-
-  -- what all of them do
-  abbrev context : RowContext
-  context = context_by renderer_config
-
+    (left : SnippetsLeft database view_config collected context k old mid) where
   -- whether there are notes after the snippets
   abbrev has_notes : Bool
   has_notes = has_any (notes_of (diagnostic_of view_config))
@@ -261,7 +248,7 @@ module _ {Id : Type 0} {database : FileDatabase Id} {view_config : RichDiagnosti
     -- the file is rendered
     left-next : {new : Sink} → IsLookupRun (first_error database.failure lookups_here) mid
         (stream_of_rows context rows_here) (Ok tt) new
-        → SnippetsLeft database view_config collected renderer_config (k + 1) old new
+        → SnippetsLeft database view_config collected context (k + 1) old new
     left-next rendered =
         record {
           rows = left.rows ++ rows_here;
@@ -371,17 +358,30 @@ module _ {Id : Type 0} {database : FileDatabase Id} {view_config : RichDiagnosti
                 ∙ or_failure-some _ (lookups_in numbers_now) e (known m));
           })
 
-      module _ (succeeded : database.failure f.file_id Source ≡ None) {now : Config}
-          (equal : now ≡ renderer_config) where
-        -- its snippet is rendered, by an equal configuration, after that lookup
+      module _ (succeeded : database.failure f.file_id Source ≡ None) where
+        -- its snippet is rendered after that lookup
         own-rendered : {r : Result (Unit {0}) Error} {new : Sink}
-            → WritesWithLookups (lookups_in numbers_now) mid
-            (stream_of_rows (context_by now) own_rows) r new
+            → WritesWithLookups (lookups_in numbers_now) mid (stream_of_rows context own_rows) r new
             → IsLookupRun (first_error database.failure lookups_here) mid
             (stream_of_rows context own_rows) r new
         own-rendered renders =
-            run_as lookups_here-are (λ i. stream_of_rows (context_by (equal i)) own_rows)
-            (run_after succeeded (record { renders = renders }))
+            run_as lookups_here-are refl (run_after succeeded (record { renders = renders }))
+
+        -- its first rows, and those of its lines
+        abbrev start_rows : List Row
+        start_rows = first_rows f.num_multi_labels f.locus
+
+        abbrev line_rows : List Row
+        line_rows = rows_of_lines (database.file f.file_id) f.num_multi_labels snippet_lines
+
+        -- the first rows are written, and then the lines are rendered, however that ends
+        pub snippet-rendered : {inner : Sink} (r : Result (Unit {0}) Error) (new : Sink)
+            → WroteStream mid (stream_of_rows context start_rows) inner
+            → WritesWithLookups (lookups_in numbers_now) inner (stream_of_rows context line_rows) r
+            new
+            → WritesWithLookups (lookups_in numbers_now) mid (stream_of_rows context own_rows) r new
+        snippet-rendered r new written renders =
+            (rows-after context start_rows line_rows written (record { renders = renders })).renders
 
         -- the row after it
         abbrev end_rows : Bool → List Row
@@ -404,8 +404,8 @@ module _ {Id : Type 0} {database : FileDatabase Id} {view_config : RichDiagnosti
 
         -- the snippet was cut short
         pub cut-in_snippet : {new : Sink} {e : Error}
-            → WritesWithLookups (lookups_in numbers_now) mid
-            (stream_of_rows (context_by now) own_rows) (Err e) new
+            → WritesWithLookups (lookups_in numbers_now) mid (stream_of_rows context own_rows)
+            (Err e) new
             → WritesWithLookups all_failure old (stream_of_rows context all_rows) (Err e) new
         cut-in_snippet renders =
             let follows : Bool = has_notes || nat_lt (k + 1) (length collected.files.items) in
@@ -413,35 +413,37 @@ module _ {Id : Type 0} {database : FileDatabase Id} {view_config : RichDiagnosti
             (both-are follows refl)
             (run_cut None (stream_of_rows context (end_rows follows)) (own-rendered renders)))
 
+        -- the first rows were cut short
+        pub cut-in_first_rows : {new : Sink} {e : Error}
+            → Writes mid (stream_of_rows context start_rows) (Err e) new → IsIo e
+            → WritesWithLookups all_failure old (stream_of_rows context all_rows) (Err e) new
+        cut-in_first_rows writes io =
+            cut-in_snippet (rows-cut context start_rows line_rows writes io).renders
+
         module _ {inner : Sink}
             (renders : WritesWithLookups (lookups_in numbers_now) mid
-            (stream_of_rows (context_by now) own_rows) (Ok tt) inner)
+            (stream_of_rows context own_rows) (Ok tt) inner)
             {follows : Bool}
             (follows_is : follows ≡ (has_notes || nat_lt (k + 1) (length collected.files.items)))
-            {after : Config} (equal_after : after ≡ now) where
-          -- then the row after it was rendered, by an equal configuration, however that ends
-          end-here : {r : Result (Unit {0}) Error} {new : Sink}
-              → Writes inner (stream_of_rows (context_by after) (end_rows follows)) r new
-              → IfErr r IsIo
-              → IsLookupRun (first_error database.failure lookups_here) mid
-              (stream_of_rows context rows_here) r new
-          end-here {r} {new} writes io =
-              run_as (or_failure-none (first_error database.failure lookups_here))
-              (both-are follows follows_is)
-              (run_then (own-rendered renders)
-              (run_of_writes r (write_at (λ (c : Config).
-              stream_of_rows (context_by c) (end_rows follows)) (equal_after ∙ equal)
-              inner new r writes) io))
+          where
+            -- then the row after it was rendered, however that ends
+            end-here : {r : Result (Unit {0}) Error} {new : Sink}
+                → Writes inner (stream_of_rows context (end_rows follows)) r new → IfErr r IsIo
+                → IsLookupRun (first_error database.failure lookups_here) mid
+                (stream_of_rows context rows_here) r new
+            end-here {r} {new} writes io =
+                run_as (or_failure-none (first_error database.failure lookups_here))
+                (both-are follows follows_is)
+                (run_then (own-rendered renders) (run_of_writes r writes io))
 
-          -- it was written
-          pub next-file : {new : Sink}
-              → WroteStream inner (stream_of_rows (context_by after) (end_rows follows)) new
-              → SnippetsLeft database view_config collected renderer_config (k + 1) old new
-          next-file written = left-next (end-here written tt)
+            -- it was written
+            pub next-file : {new : Sink}
+                → WroteStream inner (stream_of_rows context (end_rows follows)) new
+                → SnippetsLeft database view_config collected context (k + 1) old new
+            next-file written = left-next (end-here written tt)
 
-          -- it was cut short
-          pub cut-after_snippet : {new : Sink} {e : Error}
-              → Writes inner (stream_of_rows (context_by after) (end_rows follows)) (Err e) new
-              → IsIo e
-              → WritesWithLookups all_failure old (stream_of_rows context all_rows) (Err e) new
-          cut-after_snippet writes io = left-cut (end-here writes io)
+            -- it was cut short
+            pub cut-after_snippet : {new : Sink} {e : Error}
+                → Writes inner (stream_of_rows context (end_rows follows)) (Err e) new → IsIo e
+                → WritesWithLookups all_failure old (stream_of_rows context all_rows) (Err e) new
+            cut-after_snippet writes io = left-cut (end-here writes io)

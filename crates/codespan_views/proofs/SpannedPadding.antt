@@ -1,5 +1,5 @@
 -- The padding width for the numbers of the lines that labels span is that of the output in the
--- classic layout: for the clauses of `render_labels`.
+-- classic layout: for the clauses of `RichDiagnostic::render`.
 use Rattle.std.proofs.Common.{◌≡◌, ℕ, zero, suc, ◌+◌, ◌<◌, ◌≤◌, Bool, true, false, ◌&&◌, ◌||◌, max}
 use Rattle.std.proofs.Common.{List, [], ◌∷◌, ◌++◌, length, get_or, map, filter, flat_map, ⊎_elim}
 use Rattle.std.proofs.Common.{refl, sym, ◌∙◌, ap, subst, arith}

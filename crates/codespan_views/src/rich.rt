@@ -21,6 +21,7 @@ use codespan_core::diagnostic::Diagnostic;
 use codespan_core::files::{Error, Files};
 use codespan_core::term::{Config, WriteStyle};
 use codespan_renderer::term::renderer::Renderer;
+use codespan_renderer::term::renderer::row_writer::RowWriter;
 use std::convert::AsStr;
 
 /// Renders a diagnostic in rich style: a header, a snippet for each file with a label, and the
@@ -99,37 +100,10 @@ impl<'diagnostic, 'config, FileId: Copy + Eq> RichDiagnostic<'diagnostic, 'confi
             (F.database files.now) (diagnostic_of self.now)
             (W.sink (writer_of renderer.old)) result (W.sink (writer_of renderer.new)) }
     {
-        if self.diagnostic.labels.is_empty() {
-            render_without_labels(self.diagnostic, renderer)
-        } else {
-            self.render_labels(files, renderer)
-        }
-    }
-
-    /// Renders a diagnostic with labels.
-    ///
-    /// # Errors
-    ///
-    /// As [`RichDiagnostic::render`].
-    ///
-    /// # Requires
-    ///
-    /// The diagnostic has a label.
-    fn render_labels<'files, F, W>(
-        &self,
-        files: &'files F,
-        renderer: &mut Renderer<'_, '_, W>,
-    ) -> Result<(), Error>
-    where
-        F: Files<'files, FileId = FileId>,
-        W: WriteStyle,
-        FileId: 'files,
-        requires { 0 < length (diagnostic_of self.now).labels.items }
-        ensures same { SameRenderer renderer.old renderer.new }
-        ensures renders { RendersView W.sink (F.database files.now)
-            self.now renderer.old result renderer.new }
-    {
         let diagnostic = self.diagnostic;
+        if diagnostic.labels.is_empty() {
+            return render_without_labels(diagnostic, renderer);
+        }
         let alloc = *diagnostic.labels.allocator();
         let labels = diagnostic.labels.as_slice();
         let mut collected = collect(alloc, files, self.config, labels)?;
@@ -171,6 +145,8 @@ impl<'diagnostic, 'config, FileId: Copy + Eq> RichDiagnostic<'diagnostic, 'confi
             self.now collected.now renderer.old result renderer.new }
     {
         let diagnostic = self.diagnostic;
+        let context = renderer.context(diagnostic.severity, collected.padding.digit_count);
+        let mut rows = RowWriter::new(renderer.writer, &renderer.saved);
         let mut buffers = LineBuffers::new(*diagnostic.labels.allocator(), numbers);
         let notes_follow = !diagnostic.notes.is_empty();
         let mut start = 0;
@@ -186,12 +162,12 @@ impl<'diagnostic, 'config, FileId: Copy + Eq> RichDiagnostic<'diagnostic, 'confi
                 },
                 source: source.as_str(),
                 num_multi_labels: labeled.num_multi_labels,
-                padding: collected.padding.digit_count,
-                severity: diagnostic.severity,
+                context,
             };
-            snippet.render(renderer, &mut buffers, &labeled.locus, own_annotations)?;
+            snippet.render_first_rows(&mut rows, &labeled.locus)?;
+            snippet.render_lines(&mut rows, &mut buffers, own_annotations)?;
             let is_followed = notes_follow || index + 1 < collected.files.len();
-            snippet.render_empty_row_after(renderer, is_followed)?;
+            snippet.render_empty_row_after(&mut rows, is_followed)?;
         }
         Ok(())
     }

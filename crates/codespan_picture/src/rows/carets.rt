@@ -1,18 +1,15 @@
 //! The carets under a line.
 
 ghost use Rattle.std.specs.Prelude.{◌≡◌, ◌++◌};
-ghost use Rattle.codespan_core.specs.Streams.{newline};
 ghost use Rattle.codespan_core.specs.WriterLaw.{Writes};
 ghost use Rattle.codespan_picture.specs.Carets.{is_overlapping, max_label_end};
 ghost use Rattle.codespan_picture.specs.Arguments.{single_label_view, single_label_views};
 ghost use Rattle.codespan_picture.specs.Private.Runs.{caret_run};
 ghost use Rattle.codespan_picture.specs.Private.RowLabels.{optional_label_view};
-ghost use Rattle.codespan_picture.specs.Private.LineViews.{context_view, line_view};
-ghost use Rattle.codespan_picture.specs.Private.WrittenParts.{carets_stream};
+ghost use Rattle.codespan_picture.specs.Private.WrittenParts.{caret_rows_stream, carets_stream};
 ghost use Rattle.codespan_picture.specs.Private.WrittenParts.{line_metrics_to_end_view};
 ghost use Rattle.codespan_picture.specs.Private.WrittenParts.{label_message_stream};
 ghost use Rattle.codespan_picture.specs.RowParts.{carets, style_change, trailing_message};
-ghost use Rattle.codespan_picture.specs.RowStreams.{caret_row};
 
 use crate::arguments::SingleLabel;
 use crate::rows::char_cursor::CharCursor;
@@ -151,7 +148,8 @@ fn write_trailing_message<W: PutStyle>(
     }
 }
 
-/// Writes the caret row of a line: its carets, and the message that trails them.
+/// Writes the caret row of a line, where it has labels: its carets, and the message that trails
+/// them.
 ///
 /// # Errors
 ///
@@ -160,10 +158,12 @@ pub fn write_caret_row<W: PutStyle, S: LineCharacters>(
     w: &mut W,
     rows: &LineRows<'_, '_, S>,
 ) -> Result<(), W::Error>
-    ensures { Writes (W.sink w.old)
-        (caret_row (context_view rows.now.context) (line_view rows.now.line) ++ newline) result
+    ensures { Writes (W.sink w.old) (caret_rows_stream rows.now.context rows.now.line) result
         (W.sink w.new) }
 {
+    if rows.line.labels.is_empty() {
+        return Ok(());
+    }
     write_row_start(w, rows.context, rows.line)?;
     write_carets(w, rows)?;
     write_trailing_message(w, rows.context.severity, rows.messages.trailing_label)?;

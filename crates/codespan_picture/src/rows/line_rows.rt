@@ -6,7 +6,6 @@ ghost use Rattle.codespan_picture.specs.Rows.{rows_of};
 ghost use Rattle.codespan_picture.specs.RowStreams.{stream_of_rows};
 ghost use Rattle.codespan_picture.specs.Private.LineCharacters.{char_input};
 ghost use Rattle.codespan_picture.specs.Private.LineViews.{context_view, line_view};
-ghost use Rattle.codespan_picture.specs.Private.WrittenParts.{caret_rows_stream};
 
 use crate::rows::carets::write_caret_row;
 use crate::rows::line::{Line, RowContext};
@@ -33,21 +32,6 @@ pub struct LineRows<'row, 'd, S: LineCharacters> {
     ghost labels: { messages.labels.now ≡ line.labels.now },
     ghost tab_fits: { context.tab_width < 2 ^ 64 },
     ghost text_fits: { length line.text.now < 2 ^ 64 },
-}
-
-/// Writes the caret row of a line, where it has labels.
-fn write_caret_rows<W: PutStyle, S: LineCharacters>(
-    w: &mut W,
-    rows: &LineRows<'_, '_, S>,
-) -> Result<(), W::Error>
-    ensures { Writes (W.sink w.old) (caret_rows_stream rows.now.context rows.now.line) result
-        (W.sink w.new) }
-{
-    if rows.line.labels.is_empty() {
-        Ok(())
-    } else {
-        write_caret_row(w, rows)
-    }
 }
 
 /// Writes all rows of a line: its source, its carets, pointers and hanging messages, and its
@@ -81,7 +65,7 @@ pub fn write_line<W: PutStyle, S: LineCharacters>(
         messages,
     };
     write_source_row(w, &rows)?;
-    write_caret_rows(w, &rows)?;
+    write_caret_row(w, &rows)?;
     write_pointer_and_hanging_rows(w, &rows)?;
     write_underlines(w, &rows)
 }

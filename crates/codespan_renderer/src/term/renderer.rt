@@ -6,7 +6,7 @@ ghost use Rattle.codespan_picture.specs.Arguments.{lanes_in_order};
 pub mod cached;
 mod char_metrics;
 mod label_styles;
-mod row_writer;
+pub mod row_writer;
 mod scanned_line;
 mod write_style;
 
@@ -21,7 +21,7 @@ use codespan_picture::rows::line_rows::write_line;
 use codespan_picture::rows::messages::Messages;
 use codespan_picture::rows::notes::{write_break, write_note, write_snippet_empty};
 use codespan_picture::rows::parts::write_newline;
-use row_writer::{RowWriter, with_saved_error, write_zero_error};
+use row_writer::{RowWriter, write_zero_error};
 use scanned_line::ScannedLine;
 use std::cell::Cell;
 use std::io;
@@ -54,10 +54,11 @@ pub fn lanes_in_order(
 /// is written in full. As a [`WriteStyle`] a renderer passes each call on to its writer.
 #[derive(Drop)]
 pub struct Renderer<'writer, 'config, W> {
-    writer: &'writer mut W,
+    /// The writer. The views write the lines of a snippet to it, by a [`RowWriter`].
+    pub writer: &'writer mut W,
     /// The error that the next failed call returns: the writer's, or `WriteZero` where a `put` has
     /// taken nothing.
-    saved: Cell<io::Error>,
+    pub saved: Cell<io::Error>,
     config: &'config Config<'config>,
 }
 
@@ -91,7 +92,7 @@ impl<'writer, 'config, W: WriteStyle> Renderer<'writer, 'config, W> {
 
     /// Returns the context of rows, by the renderer's configuration. `padding` is the padding
     /// width, in characters.
-    fn context(&self, severity: Severity, padding: usize) -> RowContext<'config>
+    pub fn context(&self, severity: Severity, padding: usize) -> RowContext<'config>
         ensures { context_view result ≡ context_of (config_of self.now) severity padding }
     {
         let config = self.config;
@@ -121,7 +122,7 @@ impl<'writer, 'config, W: WriteStyle> Renderer<'writer, 'config, W> {
     {
         let mut rows = RowWriter::new(self.writer, &self.saved);
         let written = write_header(&mut rows, locus, severity, code, message);
-        with_saved_error(written, &self.saved)
+        rows.outcome(written)
     }
 
     /// Writes an empty line: a line feed alone.
@@ -134,7 +135,7 @@ impl<'writer, 'config, W: WriteStyle> Renderer<'writer, 'config, W> {
     {
         let mut rows = RowWriter::new(self.writer, &self.saved);
         let written = write_newline(&mut rows);
-        with_saved_error(written, &self.saved)
+        rows.outcome(written)
     }
 
     /// Writes the start of a snippet: `snippet_start` of the configuration, and the locus.
@@ -149,7 +150,7 @@ impl<'writer, 'config, W: WriteStyle> Renderer<'writer, 'config, W> {
         let config = self.config;
         let mut rows = RowWriter::new(self.writer, &self.saved);
         let written = write_snippet_start(&mut rows, &config.chars, outer_padding, locus);
-        with_saved_error(written, &self.saved)
+        rows.outcome(written)
     }
 
     /// Writes a line of the source with the carets, messages and underlines of its labels.
@@ -200,7 +201,7 @@ impl<'writer, 'config, W: WriteStyle> Renderer<'writer, 'config, W> {
         };
         let mut rows = RowWriter::new(self.writer, &self.saved);
         let written = write_line(&mut rows, context, line, messages, &scanned);
-        with_saved_error(written, &self.saved)
+        rows.outcome(written)
     }
 
     /// Writes an empty row: the border and the lanes alone.
@@ -230,7 +231,7 @@ impl<'writer, 'config, W: WriteStyle> Renderer<'writer, 'config, W> {
         };
         let mut rows = RowWriter::new(self.writer, &self.saved);
         let written = write_snippet_empty(&mut rows, context, lanes);
-        with_saved_error(written, &self.saved)
+        rows.outcome(written)
     }
 
     /// Writes a break, for lines that are left out. The views pass the lane marks of the next line,
@@ -261,7 +262,7 @@ impl<'writer, 'config, W: WriteStyle> Renderer<'writer, 'config, W> {
         };
         let mut rows = RowWriter::new(self.writer, &self.saved);
         let written = write_break(&mut rows, context, lanes);
-        with_saved_error(written, &self.saved)
+        rows.outcome(written)
     }
 
     /// Writes a note: a row for each of its lines, the first after the note bullet. An empty note
@@ -277,6 +278,6 @@ impl<'writer, 'config, W: WriteStyle> Renderer<'writer, 'config, W> {
         let config = self.config;
         let mut rows = RowWriter::new(self.writer, &self.saved);
         let written = write_note(&mut rows, &config.chars, outer_padding, message);
-        with_saved_error(written, &self.saved)
+        rows.outcome(written)
     }
 }

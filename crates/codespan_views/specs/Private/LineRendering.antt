@@ -3,15 +3,13 @@ use Rattle.std.specs.Prelude.{◌≡◌, ℕ, List, Result}
 use Rattle.codespan_core.specs.FileModel.{FileDatabase, FileModel, Lookup}
 use Rattle.codespan_core.specs.WriterLaw.{Sink}
 use Rattle.codespan_picture.specs.Types.{Error}
-use Rattle.codespan_picture.specs.declared.arguments.Locus.{Locus as RustLocus}
 use Rattle.codespan_picture.specs.Rows.{Row}
-use Rattle.codespan_renderer.specs.declared.term.renderer.Renderer.{Renderer}
+use Rattle.codespan_renderer.specs.declared.term.renderer.row_writer.RowWriter.{RowWriter}
 use Rattle.codespan_views.specs.declared.snippet.Snippet.{Snippet}
 use Rattle.codespan_views.specs.Private.FilledLines.{AreNumbersOf, lookups_with}
-use Rattle.codespan_views.specs.Private.Rendering.{RendersRowsWithLookups}
+use Rattle.codespan_views.specs.Private.Rendering.{WritesRowsWithLookups}
 use Rattle.codespan_views.specs.Private.SnippetLines.{SnippetLine, AreInOrder, filled_lines_of}
 use Rattle.codespan_views.specs.Private.SnippetLines.{rows_of_line, rows_of_lines}
-use Rattle.codespan_views.specs.Private.SnippetRows.{rows_of_snippet}
 use Rattle.codespan_views.specs.Private.SourceFiles.{failure_of, model_of}
 
 -- the snippet has the source of its file, the labels of each of these lines are in order, and these
@@ -27,31 +25,24 @@ pub record HasLines {F Id Name Source : Type 0} (database_of : F → FileDatabas
 module _ {W F Id Name Source : Type 0} (sink : W → Sink) (database_of : F → FileDatabase Id)
     (snippet : Snippet F Id Name Source) where
   -- the call renders rows of the file, and makes these lookups
-  abbrev pub RendersFileRows : List Lookup → (FileModel → List Row) → Renderer W
-      → Result (Unit {0}) Error → Renderer W → Type 0
+  abbrev pub RendersFileRows : List Lookup → (FileModel → List Row) → RowWriter W
+      → Result (Unit {0}) Error → RowWriter W → Type 0
   RendersFileRows lookups rows =
-      RendersRowsWithLookups sink (failure_of database_of snippet.file lookups) snippet.severity
-      snippet.padding (rows (model_of database_of snippet.file))
+      WritesRowsWithLookups sink (failure_of database_of snippet.file lookups) snippet.context
+      (rows (model_of database_of snippet.file))
 
   -- the call renders a line of the snippet, and makes these lookups
-  abbrev pub RendersLine : List Lookup → SnippetLine → Renderer W → Result (Unit {0}) Error
-      → Renderer W
+  abbrev pub RendersLine : List Lookup → SnippetLine → RowWriter W → Result (Unit {0}) Error
+      → RowWriter W
       → Type 0
   RendersLine lookups snippet_line =
       RendersFileRows lookups (λ f. rows_of_line f snippet.num_multi_labels snippet_line)
 
   -- the call renders these lines, one after another, and makes the lookups of the filled ones,
   -- whose known numbers these are
-  abbrev pub RendersLines : List ℕ → List SnippetLine → Renderer W → Result (Unit {0}) Error
-      → Renderer W
+  abbrev pub RendersLines : List ℕ → List SnippetLine → RowWriter W → Result (Unit {0}) Error
+      → RowWriter W
       → Type 0
   RendersLines numbers snippet_lines =
       RendersFileRows (lookups_with numbers (filled_lines_of snippet_lines))
       (λ f. rows_of_lines f snippet.num_multi_labels snippet_lines)
-
-  -- the call renders the snippet, which starts at this locus
-  abbrev pub RendersSnippet : RustLocus → List ℕ → List SnippetLine → Renderer W
-      → Result (Unit {0}) Error → Renderer W → Type 0
-  RendersSnippet locus numbers snippet_lines =
-      RendersFileRows (lookups_with numbers (filled_lines_of snippet_lines))
-      (λ f. rows_of_snippet f snippet.num_multi_labels locus snippet_lines)

@@ -35,28 +35,29 @@ impl<'row, W: WriteStyle> RowWriter<'row, W> {
     {
         RowWriter { inner, saved }
     }
+
+    /// Returns the result of a call that wrote rows to this writer, with the saved error where it
+    /// failed.
+    ///
+    /// # Errors
+    ///
+    /// `Io` alone: the saved error, where `written` is `Err`.
+    #[inline(always)]
+    pub fn outcome(&self, written: Result<(), Failed>) -> Result<(), Error>
+        ensures same { SameOutcome written result }
+        ensures io { IfErr result IsIo }
+    {
+        match written {
+            Ok(()) => Ok(()),
+            Err(Failed) => Err(take_error(self.saved)),
+        }
+    }
 }
 
 /// Returns the error of a `put` that takes no bytes: `WriteZero`. It is what is saved until a call
 /// fails with another.
 pub fn write_zero_error() -> io::Error {
     io::Error::from(ErrorKind::WriteZero)
-}
-
-/// Returns the result of a call that writes rows, with the saved error where it failed.
-///
-/// # Errors
-///
-/// `Io` alone: the saved error, where `written` is `Err`.
-#[inline(always)]
-pub fn with_saved_error(written: Result<(), Failed>, saved: &Cell<io::Error>) -> Result<(), Error>
-    ensures same { SameOutcome written result }
-    ensures io { IfErr result IsIo }
-{
-    match written {
-        Ok(()) => Ok(()),
-        Err(Failed) => Err(take_error(saved)),
-    }
 }
 
 /// Takes the saved error, and saves `WriteZero` in its place.

@@ -9,13 +9,13 @@ returns-in_err-write_source_row g c =
     (failed _ _ _ _ _ c.from_residual.ensures.1
     (failed-before _ (failed-before _ (failed-before _ c.in_err-write_source_row.ensures))))
 
-pub returns-in_err-write_caret_rows : goal.returns-in_err-write_caret_rows
-returns-in_err-write_caret_rows g c =
+pub returns-in_err-write_caret_row : goal.returns-in_err-write_caret_row
+returns-in_err-write_caret_row g c =
     rw (line_rows (context_view c.args.context) (line_view c.args.line))
-    (failed _ _ _ _ _ c.from_residual-in_err-write_caret_rows.ensures.1
+    (failed _ _ _ _ _ c.from_residual-in_err-write_caret_row.ensures.1
     (failed-before _
     (failed-before _
-    (failed-then _ c.in_ok-write_source_row.ensures c.in_err-write_caret_rows.ensures))))
+    (failed-then _ c.in_ok-write_source_row.ensures c.in_err-write_caret_row.ensures))))
 
 pub returns-in_err-write_pointer_and_hanging_rows : goal.returns-in_err-write_pointer_and_hanging_rows
 returns-in_err-write_pointer_and_hanging_rows g c =
@@ -23,7 +23,7 @@ returns-in_err-write_pointer_and_hanging_rows g c =
     (failed _ _ _ _ _ c.from_residual-in_err-write_pointer_and_hanging_rows.ensures.1
     (failed-before _
     (failed-then _
-    (written-then _ _ _ c.in_ok-write_source_row.ensures c.in_ok-write_caret_rows.ensures)
+    (written-then _ _ _ c.in_ok-write_source_row.ensures c.in_ok-write_caret_row.ensures)
     c.in_err-write_pointer_and_hanging_rows.ensures)))
 
 pub returns : goal.returns
@@ -31,6 +31,6 @@ returns g c =
     rw (line_rows (context_view c.args.context) (line_view c.args.line))
     (writes-last _ _ _ _ _
     (written-then _ _ _
-    (written-then _ _ _ c.in_ok-write_source_row.ensures c.in_ok-write_caret_rows.ensures)
+    (written-then _ _ _ c.in_ok-write_source_row.ensures c.in_ok-write_caret_row.ensures)
     c.in_ok-write_pointer_and_hanging_rows.ensures)
     c.write_underlines.ensures)

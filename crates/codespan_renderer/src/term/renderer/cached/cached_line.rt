@@ -15,19 +15,14 @@ ghost use Rattle.codespan_picture.specs.Private.LineCharacters.{EndBy};
 ghost use Rattle.codespan_picture.specs.Private.PointerLists.{pointers_in};
 ghost use Rattle.codespan_picture.specs.Private.RowLabels.{least_start};
 
-use crate::term::renderer::Renderer;
 use crate::term::renderer::cached::cached_metrics::MetricsFromCache;
 use crate::term::renderer::cached::label_cursor::LabelCursor;
 use crate::term::renderer::cached::pointers::CachedPointers;
 use crate::term::renderer::char_metrics::{CharMetrics, Metrics};
-use crate::term::renderer::row_writer::{RowWriter, with_saved_error};
-use codespan_core::diagnostic::{LabelStyle, Severity};
-use codespan_core::files::Error;
-use codespan_core::term::WriteStyle;
+use codespan_core::diagnostic::LabelStyle;
 use codespan_picture::rows::char_cursor::CharCursor;
 use codespan_picture::rows::line::Line;
 use codespan_picture::rows::line_characters::LineCharacters;
-use codespan_picture::rows::line_rows::write_line;
 use codespan_picture::rows::messages::Messages;
 use codespan_picture::rows::pointer_cursor::Pointer;
 
@@ -89,36 +84,6 @@ pub struct CachedLine<'cache, 'row, 'd> {
 }
 
 impl<'cache, 'row, 'd> CachedLine<'cache, 'row, 'd> {
-    ghost use Rattle.codespan_picture.specs.Private.LineViews.{line_view};
-    ghost use Rattle.codespan_renderer.specs.Renderers.{config_of, Renders};
-    ghost use Rattle.codespan_picture.specs.RenderedRows.{rendered_source};
-
-    /// Writes the line with its carets, its messages and its underlines. `outer_padding` is the
-    /// padding width, in characters.
-    ///
-    /// # Errors
-    ///
-    /// `Io` alone: the writer fails or takes no bytes. A prefix of the rows has then been written.
-    ///
-    /// # Requires
-    ///
-    /// The renderer's tab width is that of the cache.
-    pub fn render<W: WriteStyle>(
-        &self,
-        renderer: &mut Renderer<'_, '_, W>,
-        outer_padding: usize,
-        severity: Severity,
-    ) -> Result<(), Error>
-        requires { self.now.tab_width ≡ (config_of renderer.old).tab_width }
-        ensures { Renders W.sink (rendered_source (config_of renderer.old) severity outer_padding
-            (line_view self.now.line)) renderer.old result renderer.new }
-    {
-        let context = renderer.context(severity, outer_padding);
-        let mut rows = RowWriter::new(renderer.writer, &renderer.saved);
-        let written = write_line(&mut rows, context, self.line, self.messages, self);
-        with_saved_error(written, &renderer.saved)
-    }
-
     /// Returns the least start of its labels, or `end` where all start past it or there is none.
     #[inline(always)]
     fn least_start(&self, end: usize) -> usize

@@ -3,16 +3,13 @@
 ghost use Rattle.std.specs.Prelude.{◌≡◌, IfOk, IsErrOf, IsTrue, OnErr};
 ghost use Rattle.codespan_picture.specs.Arguments.{single_label_views, starts_in_order};
 ghost use Rattle.codespan_renderer.specs.Private.CachedMetrics.{AreCached, ReachesPast};
-ghost use Rattle.codespan_renderer.specs.Renderers.{config_of};
 
-use crate::term::renderer::Renderer;
 use crate::term::renderer::cached::cached_line::CachedLine;
 use crate::term::renderer::cached::cached_metrics::MetricsFromCache;
 use crate::term::renderer::cached::pointers::find_pointers;
 use crate::term::renderer::cached::reach::reach_of;
 use crate::term::renderer::char_metrics::{CharMetrics, Metrics};
 use codespan_core::files::Error;
-use codespan_core::term::WriteStyle;
 use codespan_picture::rows::line::Line;
 use codespan_picture::rows::messages::Messages;
 use codespan_picture::rows::pointer_cursor::Pointer;
@@ -40,7 +37,8 @@ impl LineCache {
 
     /// Replaces the cached characters and pointers with those of a line, as far as its rows need
     /// them, and returns the line with them. Nothing is allocated for a line without labels on
-    /// which no multi-line label starts or ends.
+    /// which no multi-line label starts or ends. `tab_width` is the number of cells from one tab
+    /// stop to the next; where it is 0, a tab takes no cell.
     ///
     /// # Errors
     ///
@@ -50,18 +48,16 @@ impl LineCache {
     ///
     /// The labels are in the order of their starts.
     #[inline(always)]
-    pub fn cache_line<'cache, 'row, 'd, W: WriteStyle>(
+    pub fn cache_line<'cache, 'row, 'd>(
         &'cache mut self,
-        renderer: &Renderer<'_, '_, W>,
+        tab_width: usize,
         line: Line<'row, 'd>,
     ) -> Result<CachedLine<'cache, 'row, 'd>, Error>
         requires ordered { IsTrue (starts_in_order (single_label_views line.labels.now)) }
         ensures line { IfOk result (λ cached. cached.line ≡ line.entry) }
-        ensures tab_width { IfOk result (λ cached. cached.tab_width
-            ≡ (config_of renderer.now).tab_width) }
+        ensures tab_width { IfOk result (λ cached. cached.tab_width ≡ tab_width) }
         ensures failed { OnErr result (IsErrOf result Error.OutOfMemory) }
     {
-        let tab_width = renderer.config.tab_width;
         let rest = cache_metrics(&mut self.cached, line.text, tab_width, reach_of(line))?;
         let characters = MetricsFromCache {
             cached: self.cached.as_slice(),

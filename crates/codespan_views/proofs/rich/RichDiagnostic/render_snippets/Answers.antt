@@ -1,10 +1,11 @@
 use Rattle.std.proofs.Common.{◌≡◌, ◌==◌, ◌+◌, ◌<◌, ◌||◌, not, rules, List, [], ◌∷◌, length, map}
-use Rattle.std.proofs.Common.{get_or, Err, refl, sym, ap, subst, ◌∙◌, arith}
+use Rattle.std.proofs.Common.{get_or, Ok, Err, refl, sym, ap, subst, ◌∙◌, arith}
 use Rattle.std.specs.Prelude.{nat_lt, string_bytes}
 use Rattle.std.proofs.lemmas.Bool.{ne_eqb}
 use Rattle.std.proofs.lemmas.Result.{err_from_is_err_and}
 use Rattle.codespan_picture.specs.OutputStreams.{labels_of, notes_of}
 use Rattle.codespan_picture.specs.Snippets.{has_any, labeled_file_model}
+use Rattle.codespan_renderer.specs.Private.RowWriters.{row_writer_sink}
 use Rattle.codespan_views.specs.Private.AnnotationViews.{annotation_view}
 use Rattle.codespan_views.specs.Private.EarlyLookups.{known_numbers_of_labels}
 use Rattle.codespan_views.specs.Private.SnippetLines.{lines_of}
@@ -15,10 +16,11 @@ use Rattle.codespan_views.proofs.FileSlices.{from_file-first, next_slice}
 use Rattle.codespan_views.proofs.FileTurns.{IsAtFile, next_inside, next_left, own_lines}
 use Rattle.codespan_views.proofs.FileTurns.{own_snippet_lines}
 use Rattle.codespan_views.proofs.LabelIndexing.{are-files}
-use Rattle.codespan_views.proofs.RendererRuns.{same_renderer, same_twice}
+use Rattle.codespan_views.proofs.RendererRuns.{rows-rendered}
 use Rattle.codespan_views.proofs.SnippetsRendered.{cut-after_snippet, cut-at_source}
-use Rattle.codespan_views.proofs.SnippetsRendered.{cut-in_snippet, left-end, left-start, next-file}
-use Rattle.codespan_views.proofs.SnippetsRendered.{own-numbers, own-taken}
+use Rattle.codespan_views.proofs.SnippetsRendered.{cut-in_first_rows, cut-in_snippet, left-end}
+use Rattle.codespan_views.proofs.SnippetsRendered.{left-start, next-file, own-numbers, own-taken}
+use Rattle.codespan_views.proofs.SnippetsRendered.{snippet-rendered}
 use Rattle.codespan_views.proofs.rich.RichDiagnostic.render_snippets.Given.{Over}
 use Rattle.codespan_views.proofs.rich.RichDiagnostic.render_snippets.Goals.{After-count_in_file-len}
 use Rattle.codespan_views.proofs.rich.RichDiagnostic.render_snippets.Goals.{After-deref-in-loop-index}
@@ -70,7 +72,6 @@ loop-index-init g c = record {
       (known_numbers_of_labels (view_config_of c.args.self.now)
       (g.F.Files.database c.args.files.now) (labels_of (diagnostic_of c.args.self.now)))
       (sym c.requires.collected_is.files.ids_are);
-  same = same_renderer;
   rendered = left-start;
 }
 
@@ -126,15 +127,16 @@ returns-in_err-source g c =
     let own = own-file g places.After-deref-in-loop-index at in
     let was = c.loop-index.invariant in
     let p = err_from_is_err_and c.from_residual.result c.from_residual.ensures.1 in
-    rw (p.1 ∙ ap Err p.2) (record {
-      same = was.same;
-      renders = cut-at_source c.args.numbers.now c.requires was.rendered at.here own was.numbers
-          c.in_err-source.ensures.failed;
-    })
+    rw (p.1 ∙ ap Err p.2)
+    (rows-rendered _ _ _ _ _ _ _ c.new-rows.result c.loop-index.rows _ _
+    c.context-context.ensures
+    c.new-rows.ensures.reference c.new-rows.ensures.writer
+    (cut-at_source c.args.numbers.now c.requires was.rendered at.here own was.numbers
+    c.in_err-source.ensures.failed) (search rules) (search rules))
 
-pub render-requires : goal.render-requires
-render-requires g c κs =
-    let places = goal.at.render-requires g c in
+pub render_lines-requires : goal.render_lines-requires
+render_lines-requires g c κs =
+    let places = goal.at.render_lines-requires g c in
     let at = turn g places.After-count_in_file-len in
     let own = own-file g places.After-deref-in-loop-index at in
     let was = c.loop-index.invariant in (
@@ -151,20 +153,42 @@ render-requires g c κs =
       ),
     )
 
-pub returns-in_err-render : goal.returns-in_err-render
-returns-in_err-render g c =
-    let places = goal.at.returns-in_err-render g c in
+pub returns-in_err-render_first_rows : goal.returns-in_err-render_first_rows
+returns-in_err-render_first_rows g c =
+    let places = goal.at.returns-in_err-render_first_rows g c in
     let at = turn g places.After-count_in_file-len in
     let own = own-file g places.After-deref-in-loop-index at in
     let was = c.loop-index.invariant in
-    let p = err_from_is_err_and c.from_residual-in_err-render.result
-    c.from_residual-in_err-render.ensures.1 in
-    let part = c.in_err-render.ensures.renders in
-    rw (p.1 ∙ ap Err p.2) (record {
-      same = same_twice was.same part.same;
-      renders = cut-in_snippet c.args.numbers.now c.requires was.rendered at.here own was.numbers
-          c.in_ok-source.ensures.failed was.same.config part.renders;
-    })
+    let p = err_from_is_err_and c.from_residual-in_err-render_first_rows.result
+    c.from_residual-in_err-render_first_rows.ensures.1 in
+    let first = c.in_err-render_first_rows.ensures in
+    rw (p.1 ∙ ap Err p.2)
+    (rows-rendered _ _ _ _ _ _ _ c.new-rows.result c.render_first_rows.new.rows _ _
+    c.context-context.ensures
+    c.new-rows.ensures.reference c.new-rows.ensures.writer
+    (cut-in_first_rows c.args.numbers.now c.requires was.rendered at.here own was.numbers
+    c.in_ok-source.ensures.failed first.writes first.io)
+    (search rules) (search rules))
+
+pub returns-in_err-render_lines : goal.returns-in_err-render_lines
+returns-in_err-render_lines g c =
+    let places = goal.at.returns-in_err-render_lines g c in
+    let at = turn g places.After-count_in_file-len in
+    let own = own-file g places.After-deref-in-loop-index at in
+    let was = c.loop-index.invariant in
+    let p = err_from_is_err_and c.from_residual-in_err-render_lines.result
+    c.from_residual-in_err-render_lines.ensures.1 in
+    rw (p.1 ∙ ap Err p.2)
+    (rows-rendered _ _ _ _ _ _ _ c.new-rows.result c.render_lines.new.rows _ _
+    c.context-context.ensures
+    c.new-rows.ensures.reference c.new-rows.ensures.writer
+    (cut-in_snippet c.args.numbers.now c.requires was.rendered at.here own was.numbers
+    c.in_ok-source.ensures.failed
+    (snippet-rendered c.args.numbers.now c.requires was.rendered at.here own was.numbers
+    c.in_ok-source.ensures.failed (Err _) (row_writer_sink g.W.WriteStyle.sink
+    c.render_lines.new.rows)
+    c.in_ok-render_first_rows.ensures.writes c.in_err-render_lines.ensures.renders))
+    (search rules) (search rules))
 
 pub returns-in_err-render_empty_row_after : goal.returns-in_err-render_empty_row_after
 returns-in_err-render_empty_row_after g c =
@@ -174,15 +198,19 @@ returns-in_err-render_empty_row_after g c =
     let was = c.loop-index.invariant in
     let p = err_from_is_err_and c.from_residual-in_err-render_empty_row_after.result
     c.from_residual-in_err-render_empty_row_after.ensures.1 in
-    let first = c.in_ok-render.ensures.renders in
     let second = c.in_err-render_empty_row_after.ensures in
-    rw (p.1 ∙ ap Err p.2) (record {
-      same = same_twice was.same (same_twice first.same second.same);
-      renders = cut-after_snippet c.args.numbers.now c.requires was.rendered at.here own
-          was.numbers c.in_ok-source.ensures.failed was.same.config first.renders
-          (followed g places.After-render_empty_row_after) first.same.config second.writes
-          second.io;
-    })
+    rw (p.1 ∙ ap Err p.2)
+    (rows-rendered _ _ _ _ _ _ _ c.new-rows.result c.render_empty_row_after.new.rows _ _
+    c.context-context.ensures
+    c.new-rows.ensures.reference c.new-rows.ensures.writer
+    (cut-after_snippet c.args.numbers.now c.requires was.rendered at.here own was.numbers
+    c.in_ok-source.ensures.failed
+    (snippet-rendered c.args.numbers.now c.requires was.rendered at.here own was.numbers
+    c.in_ok-source.ensures.failed (Ok tt) (row_writer_sink g.W.WriteStyle.sink
+    c.render_lines.new.rows)
+    c.in_ok-render_first_rows.ensures.writes c.in_ok-render_lines.ensures.renders)
+    (followed g places.After-render_empty_row_after) second.writes second.io) (search rules)
+    (search rules))
 
 pub loop-index-preserved : goal.loop-index-preserved
 loop-index-preserved g c =
@@ -190,23 +218,27 @@ loop-index-preserved g c =
     let at = turn g places.After-count_in_file-len in
     let own = own-file g places.After-deref-in-loop-index at in
     let was = c.loop-index.invariant in
-    let first = c.in_ok-render.ensures in
+    let lines = c.in_ok-render_lines.ensures in
     let second = c.in_ok-render_empty_row_after.ensures in
     record {
       inside = next_inside at;
       left = next_left at;
       numbers = own-taken c.args.numbers.now c.requires was.rendered at.here own was.numbers
-          first.numbers;
-      same = same_twice was.same (same_twice first.renders.same second.same);
+          lines.numbers;
       rendered = next-file c.args.numbers.now c.requires was.rendered at.here own was.numbers
-          c.in_ok-source.ensures.failed was.same.config first.renders.renders
-          (followed g places.After-render_empty_row_after) first.renders.same.config second.writes;
+          c.in_ok-source.ensures.failed
+          (snippet-rendered c.args.numbers.now c.requires was.rendered at.here own was.numbers
+          c.in_ok-source.ensures.failed (Ok tt)
+          (row_writer_sink g.W.WriteStyle.sink c.render_lines.new.rows)
+          c.in_ok-render_first_rows.ensures.writes lines.renders)
+          (followed g places.After-render_empty_row_after) second.writes;
     }
 
 pub returns : goal.returns
-returns g c = record {
-  same = c.loop-index.invariant.same;
-  renders =
-      left-end c.args.numbers.now c.requires c.loop-index.invariant.rendered
-      c.deref-labeled-items.ensures.value c.loop-index-test.false;
-}
+returns g c =
+    let was = c.loop-index.invariant in
+    rows-rendered _ _ _ _ _ _ _ c.new-rows.result c.loop-index.rows _ _
+    c.context-context.ensures
+    c.new-rows.ensures.reference c.new-rows.ensures.writer
+    (left-end c.args.numbers.now c.requires was.rendered c.deref-labeled-items.ensures.value
+    c.loop-index-test.false) (search rules) (search rules)

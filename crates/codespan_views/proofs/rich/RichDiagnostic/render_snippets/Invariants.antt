@@ -1,7 +1,8 @@
 use Rattle.std.proofs.Common.{◌≡◌, ◌≤◌, drop, length, map}
 use Rattle.std.specs.Slice.Iter.{iter_rest}
 use Rattle.codespan_picture.specs.OutputStreams.{labels_of}
-use Rattle.codespan_renderer.specs.Renderers.{SameRenderer, config_of, writer_of}
+use Rattle.codespan_picture.specs.Private.LineViews.{context_view}
+use Rattle.codespan_renderer.specs.Private.RowWriters.{row_writer_sink}
 use Rattle.codespan_views.specs.Private.AnnotationViews.{annotation_view}
 use Rattle.codespan_views.specs.Private.EarlyLookups.{known_numbers_of_labels}
 use Rattle.codespan_views.specs.Private.LabeledFiles.{ids_view}
@@ -20,9 +21,8 @@ invariant-loop-index g l = record {
   numbers : iter_rest l.buffers.numbers
       ≡ known_numbers_of_labels (view_config_of l.self) (g.F.Files.database l.files)
       (labels_of (diagnostic_of l.self)) (drop l.index (ids_view l.collected.files.items));
-  same : SameRenderer l.initial.renderer l.renderer;
   rendered : SnippetsLeft (g.F.Files.database l.files) l.self l.collected
-      (config_of l.initial.renderer) l.index
-      (g.W.WriteStyle.sink (writer_of l.initial.renderer))
-      (g.W.WriteStyle.sink (writer_of l.renderer));
+      (context_view l.context) l.index
+      (row_writer_sink g.W.WriteStyle.sink l.initial.rows)
+      (row_writer_sink g.W.WriteStyle.sink l.rows);
 }

@@ -6,7 +6,7 @@ use Rattle.codespan_views.specs.Private.AnnotationViews.{annotation_view}
 use Rattle.codespan_views.specs.Private.SourceFiles.{failure_of, lookups_of_filled, model_of}
 use Rattle.codespan_views.proofs.FilledNumbers.{next-left, next-number}
 use Rattle.codespan_views.proofs.LinesRendered.{filled-rendered}
-use Rattle.codespan_views.proofs.RendererRuns.{lookup_failed}
+use Rattle.codespan_views.proofs.LookupRuns.{run_failed}
 use Rattle.codespan_views.proofs.snippet.Snippet.render_filled.Given.{Over}
 use Rattle.codespan_views.proofs.snippet.Snippet.render_filled.Goals.{After-copied-number}
 use Rattle.codespan_views.proofs.snippet.Snippet.render_filled.Goals as goal
@@ -34,7 +34,7 @@ returns-in_err-line-clause-renders g c =
     let p = err_from_is_err_and c.from_residual.result c.from_residual.ensures.1 in
     let failed = failure_of g.F.Files.database c.args.self.now.file in
     rw (p.1 ∙ ap Err p.2)
-    (lookup_failed
+    (run_failed
     (λ known. ap (λ o. failed (lookups_of_filled o c.args.index)) (sym same)
     ∙ c.in_err-line.ensures.failed known))
 
@@ -43,9 +43,10 @@ returns-clause-renders g c =
     let same = number-is g (goal.at.returns-clause-renders g c).After-copied-number in
     let line = c.in_ok-line.ensures in
     let failed = failure_of g.F.Files.database c.args.self.now.file in
-    filled-rendered g.F.Files.database c.args.self.now
+    filled-rendered g.W.WriteStyle.sink g.F.Files.database c.args.self.now
     (lookups_of_filled (slice_get (iter_rest c.args.buffers.now.numbers) 0) c.args.index)
-    (map annotation_view c.args.annotations.now) line.line.0
+    (map annotation_view c.args.annotations.now) c.args.rows.now c.render_line.new.rows
+    c.render_line.result line.line.0
     (ap (λ o. failed (lookups_of_filled o c.args.index)) (sym same) ∙ line.failed)
     c.render_line.ensures.renders
 

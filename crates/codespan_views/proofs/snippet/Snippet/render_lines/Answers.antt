@@ -6,7 +6,7 @@ use Rattle.std.specs.Prelude.{All, IfSome, IsTrue, true}
 use Rattle.std.specs.Slice.Iter.{iter_rest}
 use Rattle.std.proofs.lemmas.List.Elements.{All-drop}
 use Rattle.std.proofs.lemmas.Result.{err_from_is_err_and}
-use Rattle.codespan_renderer.specs.Renderers.{SameRenderer, config_of, writer_of}
+use Rattle.codespan_renderer.specs.Private.RowWriters.{row_writer_sink}
 use Rattle.codespan_views.specs.Private.Annotations.{shows_line}
 use Rattle.codespan_views.specs.Private.AnnotationViews.{IsLineOf, annotation_view}
 use Rattle.codespan_views.specs.Private.LineRendering.{HasLines}
@@ -16,7 +16,6 @@ use Rattle.codespan_views.proofs.FilledNumbers.{gap-break, gap-filled, gap-none}
 use Rattle.codespan_views.proofs.LinesRendered.{LinesLeft, left-all, left-cut, left-has, left-more}
 use Rattle.codespan_views.proofs.LinesRendered.{left-none, left-same, numbers-none}
 use Rattle.codespan_views.proofs.LinesRendered.{rendered-filled, rendered-one}
-use Rattle.codespan_views.proofs.RendererRuns.{same_renderer, same_twice}
 use Rattle.codespan_views.proofs.SnippetLineViews.{IsNextGroup, later-are, later-fewer, later_than}
 use Rattle.codespan_views.proofs.SnippetLineViews.{later-known}
 use Rattle.codespan_views.proofs.SnippetLineViews.{first-of, gap_of, later_of}
@@ -69,7 +68,6 @@ loop-first-init g c =
           later-known (λ e. IsLineOf (model_of g.F.Files.database c.args.self.now.file) e.line)
           c.args.annotations.now c.skip_hidden.result.1.now skipped.later c.requires.lines;
       shown = skipped.shown;
-      same = same_renderer;
       left = left-all (skipped.lines None) refl;
     }
 
@@ -115,20 +113,16 @@ returns-in_err-render_filled-clause-renders g c =
     let shows = shown-first g at.After-count_on_line-count in
     let was = c.loop-first.invariant in
     let p = err_from_is_err_and c.from_residual.result c.from_residual.ensures.1 in
-    rw (p.1 ∙ ap Err p.2) (record {
-      same = same_twice was.same c.in_err-render_filled.ensures.renders.same;
-      renders = (left-cut was.left _ _
-          (views_of-gap (next g at.After-count_on_line-count) c.loop-first.previous
-          c.loop-first.hidden_annotations.now
-          c.lines_between-between.result shows
-          c.lines_between-between.ensures.gap
-          ∙ ap (λ xs. xs ++ shown_of c.loop-first.rest.now c.in-Some.first.now
-          c.count_on_line-count.result
-          ∷ later_of c.loop-first.rest.now c.in-Some.first.now c.count_on_line-count.result)
-          (gap-filled _ _ _ _ c.if-between-eq1.true))
-          (rendered-filled was.same.config
-          c.in_err-render_filled.ensures.renders.renders)).rendered.renders;
-    })
+    rw (p.1 ∙ ap Err p.2) (left-cut was.left _ _
+    (views_of-gap (next g at.After-count_on_line-count) c.loop-first.previous
+    c.loop-first.hidden_annotations.now
+    c.lines_between-between.result shows
+    c.lines_between-between.ensures.gap
+    ∙ ap (λ xs. xs ++ shown_of c.loop-first.rest.now c.in-Some.first.now
+    c.count_on_line-count.result
+    ∷ later_of c.loop-first.rest.now c.in-Some.first.now c.count_on_line-count.result)
+    (gap-filled _ _ _ _ c.if-between-eq1.true))
+    (rendered-filled c.in_err-render_filled.ensures.renders)).rendered.renders
 
 pub returns-in_err-render_break-clause-renders : goal.returns-in_err-render_break-clause-renders
 returns-in_err-render_break-clause-renders g c =
@@ -137,31 +131,26 @@ returns-in_err-render_break-clause-renders g c =
     let was = c.loop-first.invariant in
     let p = err_from_is_err_and c.from_residual-in_err-render_break.result
     c.from_residual-in_err-render_break.ensures.1 in
-    rw (p.1 ∙ ap Err p.2) (record {
-      same = same_twice was.same c.in_err-render_break.ensures.renders.same;
-      renders = (left-cut was.left _ _
-          (views_of-gap (next g at.After-count_on_line-count) c.loop-first.previous
-          c.loop-first.hidden_annotations.now
-          c.lines_between-between.result shows
-          c.lines_between-between.ensures.gap
-          ∙ ap (λ xs. xs ++ shown_of c.loop-first.rest.now c.in-Some.first.now
-          c.count_on_line-count.result
-          ∷ later_of c.loop-first.rest.now c.in-Some.first.now c.count_on_line-count.result)
-          (gap-break _ _ _ _ c.if-between-gt1.true))
-          (rendered-one refl was.same.config
-          c.in_err-render_break.ensures.renders.renders)).rendered.renders;
-    })
+    rw (p.1 ∙ ap Err p.2) (left-cut was.left _ _
+    (views_of-gap (next g at.After-count_on_line-count) c.loop-first.previous
+    c.loop-first.hidden_annotations.now
+    c.lines_between-between.result shows
+    c.lines_between-between.ensures.gap
+    ∙ ap (λ xs. xs ++ shown_of c.loop-first.rest.now c.in-Some.first.now
+    c.count_on_line-count.result
+    ∷ later_of c.loop-first.rest.now c.in-Some.first.now c.count_on_line-count.result)
+    (gap-break _ _ _ _ c.if-between-gt1.true))
+    (rendered-one refl c.in_err-render_break.ensures.renders)).rendered.renders
 
--- what is before the shown line has been rendered, by the same renderer
+-- what is before the shown line has been rendered
 record GapRendered (g : Over) (c : Joined-between-eq1 g) : Type 0 where
-  same : SameRenderer c.args.renderer.now c.if-between-eq1.renderer
-  left : LinesLeft g.F.Files.database c.args.self.now (config_of c.args.renderer.now)
+  left : LinesLeft g.F.Files.database c.args.self.now
       (iter_rest c.args.buffers.now.numbers) (lines_of (map annotation_view c.args.annotations.now))
       (shown_of c.loop-first.rest.now c.in-Some.first.now c.count_on_line-count.result
       ∷ later_of c.loop-first.rest.now c.in-Some.first.now c.count_on_line-count.result)
       (iter_rest c.if-between-eq1.buffers.numbers)
-      (g.W.WriteStyle.sink (writer_of c.args.renderer.now))
-      (g.W.WriteStyle.sink (writer_of c.if-between-eq1.renderer))
+      (row_writer_sink g.W.WriteStyle.sink c.args.rows.now)
+      (row_writer_sink g.W.WriteStyle.sink c.if-between-eq1.rows)
 
 gap-rendered : (g : Over) (c : Joined-between-eq1 g)
     → IsNextGroup c.loop-first.rest.now c.in-Some.first.now c.count_on_line-count.result
@@ -175,22 +164,19 @@ gap-rendered g c group shows =
     c.lines_between-between.ensures.gap in
     elim c.if-between-eq1.branch [
       | then-between-eq1+in_ok-render_filled w ↦ record {
-        same = rw w.renderer-is (same_twice was.same w.in_ok-render_filled.ensures.renders.same);
-        left = rw (w.renderer-is, w.buffers-is) (left-more was.left _ _
+        left = rw (w.rows-is, w.buffers-is) (left-more was.left _ _
             (opens ∙ ap (λ xs. xs ++ rest) (gap-filled _ _ _ _ w.if-between-eq1.true))
-            (rendered-filled was.same.config w.in_ok-render_filled.ensures.renders.renders)
+            (rendered-filled w.in_ok-render_filled.ensures.renders)
             w.in_ok-render_filled.ensures.numbers);
       }
       | else-between-eq1+then-between-gt1+in_ok-render_break w ↦ record {
-        same = rw w.renderer-is (same_twice was.same w.in_ok-render_break.ensures.renders.same);
-        left = rw (w.renderer-is, w.buffers-is) (left-more was.left _ _
+        left = rw (w.rows-is, w.buffers-is) (left-more was.left _ _
             (opens ∙ ap (λ xs. xs ++ rest) (gap-break _ _ _ _ w.if-between-gt1.true))
-            (rendered-one refl was.same.config w.in_ok-render_break.ensures.renders.renders)
+            (rendered-one refl w.in_ok-render_break.ensures.renders)
             (ap iter_rest w.in_ok-render_break.ensures.numbers));
       }
       | else-between-eq1+else-between-gt1 w ↦ record {
-        same = rw w.renderer-is was.same;
-        left = rw (w.renderer-is, w.buffers-is) (left-same was.left
+        left = rw (w.rows-is, w.buffers-is) (left-same was.left
             (sym (opens ∙ ap (λ xs. xs ++ rest) (gap-none _ _ _ _
             (omega (arith, w.if-between-eq1.false, w.if-between-gt1.false))))));
       }
@@ -221,12 +207,8 @@ returns-in_err-render_line-clause-renders g c =
     (shown-first g at.After-count_on_line-count) in
     let p = err_from_is_err_and c.from_residual-in_err-render_line.result
     c.from_residual-in_err-render_line.ensures.1 in
-    let line = c.in_err-render_line.ensures.renders in
-    rw (p.1 ∙ ap Err p.2) (record {
-      same = same_twice before.same line.same;
-      renders = (left-cut before.left (_ ∷ []) _ refl
-          (rendered-one refl before.same.config line.renders)).rendered.renders;
-    })
+    rw (p.1 ∙ ap Err p.2) (left-cut before.left (_ ∷ []) _ refl
+    (rendered-one refl c.in_err-render_line.ensures.renders)).rendered.renders
 
 pub loop-first-smaller : goal.loop-first-smaller
 loop-first-smaller g c =
@@ -254,19 +236,15 @@ loop-first-preserved g c =
           c.skip_hidden-skipped.result.1.now skipped.later
           (later_lines g at.After-count_on_line-count);
       shown = skipped.shown;
-      same = same_twice before.same line.renders.same;
       left = left-same (left-more before.left (_ ∷ []) _ refl
-          (rendered-one refl before.same.config line.renders.renders) (ap iter_rest line.numbers))
+          (rendered-one refl line.renders) (ap iter_rest line.numbers))
           (skipped.lines (Some c.in-Some.first.now.line.index));
     }
 
 pub returns-clause-renders : goal.returns-clause-renders
-returns-clause-renders g c = record {
-  same = c.loop-first.invariant.same;
-  renders = (left-none c.loop-first.invariant.left
-      (lines_left-none c.loop-first.hidden_annotations.now c.loop-first.rest.now
-      c.loop-first.previous (sym c.in_default.ensures.value))).rendered.renders;
-}
+returns-clause-renders g c = (left-none c.loop-first.invariant.left
+    (lines_left-none c.loop-first.hidden_annotations.now c.loop-first.rest.now
+    c.loop-first.previous (sym c.in_default.ensures.value))).rendered.renders
 
 pub returns-clause-numbers : goal.returns-clause-numbers
 returns-clause-numbers g c =

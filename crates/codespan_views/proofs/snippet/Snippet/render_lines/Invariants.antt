@@ -1,7 +1,7 @@
 use Rattle.std.proofs.Common.{◌≤◌, length, map}
 use Rattle.std.specs.Prelude.{All, IfSome, IsTrue, slice_get}
 use Rattle.std.specs.Slice.Iter.{iter_rest}
-use Rattle.codespan_renderer.specs.Renderers.{SameRenderer, config_of, writer_of}
+use Rattle.codespan_renderer.specs.Private.RowWriters.{row_writer_sink}
 use Rattle.codespan_views.specs.Private.Annotations.{shows_line}
 use Rattle.codespan_views.specs.Private.AnnotationViews.{IsLineOf, annotation_view}
 use Rattle.codespan_views.specs.Private.SnippetLines.{lines_of}
@@ -16,12 +16,10 @@ invariant-loop-first g l = record {
   within : length l.rest ≤ length l.annotations;
   lines : All (λ e. IsLineOf (model_of g.F.Files.database l.self.file) e.line) l.rest;
   shown : IfSome (slice_get l.rest 0) (λ first. IsTrue (shows_line (annotation_view first)));
-  same : SameRenderer l.fn.renderer l.renderer;
-  left : LinesLeft g.F.Files.database l.self (config_of l.fn.renderer)
+  left : LinesLeft g.F.Files.database l.self
       (iter_rest l.fn.buffers.numbers) (lines_of (map annotation_view l.annotations))
       (lines_left l.hidden_annotations l.rest l.previous) (iter_rest l.buffers.numbers)
-      (g.W.WriteStyle.sink (writer_of l.fn.renderer))
-      (g.W.WriteStyle.sink (writer_of l.renderer));
+      (row_writer_sink g.W.WriteStyle.sink l.fn.rows) (row_writer_sink g.W.WriteStyle.sink l.rows);
 }
 
 abbrev pub decreases-loop-first : goal.decreases-loop-first

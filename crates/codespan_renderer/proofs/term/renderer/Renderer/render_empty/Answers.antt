@@ -6,4 +6,4 @@ pub returns : goal.returns
 returns g c =
     renders _ _ _ _ _ c.new-rows.result c.write_newline-written.new.w _ _ _ refl
     c.new-rows.ensures.reference c.new-rows.ensures.writer c.write_newline-written.ensures
-    c.with_saved_error.ensures.same c.with_saved_error.ensures.io (search rules) (search rules)
+    c.outcome.ensures.same c.outcome.ensures.io (search rules) (search rules)

@@ -7,4 +7,4 @@ returns g c =
     renders _ _ _ _ _ c.new-rows.result c.write_snippet_empty-written.new.w _ _ _
     (rw c.context-context.ensures refl)
     c.new-rows.ensures.reference c.new-rows.ensures.writer c.write_snippet_empty-written.ensures
-    c.with_saved_error.ensures.same c.with_saved_error.ensures.io (search rules) (search rules)
+    c.outcome.ensures.same c.outcome.ensures.io (search rules) (search rules)

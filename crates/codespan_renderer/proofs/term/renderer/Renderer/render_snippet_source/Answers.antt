@@ -7,4 +7,4 @@ returns g c =
     renders _ _ _ _ _ c.new-rows.result c.write_line-written.new.w _ _ _
     (same_rows _ _ _ _ c.context-context.ensures c.new-line.ensures.line)
     c.new-rows.ensures.reference c.new-rows.ensures.writer c.write_line-written.ensures
-    c.with_saved_error.ensures.same c.with_saved_error.ensures.io (search rules) (search rules)
+    c.outcome.ensures.same c.outcome.ensures.io (search rules) (search rules)
