@@ -11,6 +11,7 @@ from tree import TreeCase
 from check_docs.figures import figures_of_way
 
 README, CALLING, TESTING, MAP = 'README.md', 'crates/codespan_reporting/CALLING.md', 'docs/TESTING.md', 'docs/MAP.md'
+EXAMPLES = 'docs/EXAMPLES.md'
 CODE = 'crates/one/src/lib.rt'
 WIDE = 'word ' * 33 + 'words'
 
@@ -40,6 +41,9 @@ fn private() {}
         'crates/one/must-fail/sum-is-zero.edit': 'file: src/lib.rt\n',
         'crates/one/mutants/sum-is-one.edit': 'file: src/lib.rt\n',
         'crates/two/src/lib.rt': 'pub fn product_of() {}\n',
+        'crates/two/stdout': 'one\ntwo\n\nthree\n',
+        'native/c/first.plain': 'three\nfour\n',
+        'docs/pictures/first.html': '<pre>\n</pre>\n',
         'tools/tests/test_sums.py': 'wanted = made_up\n',
         README: '''\
 # One
@@ -81,6 +85,34 @@ Code of this page need not be that of a source, but its `names` are known, and a
 
 ```rust
 let names = 1;
+```
+''',
+        EXAMPLES: '''\
+# Examples
+
+The [output](../crates/two/stdout) of the second crate, in part:
+
+```text
+two
+
+three
+```
+
+That of [C](../native/c/first.plain), and a command:
+
+```text
+three
+four
+```
+
+```sh
+two
+```
+
+A [page](pictures/first.html):
+
+```html
+<pre>
 ```
 ''',
         TESTING: '| 2 crates | 2 sources |\n| mutants that have to fail | 1: 1 of `one` |\n| mutants of the second tier | 1: 1 of `one` |\n',
@@ -179,6 +211,27 @@ let names = 1;
     def test_clause_that_is_left_out(self):
         self.change(CALLING, '  requires small: first ≤ 10\n', '')
         self.assert_finds(f'{CALLING}:5: one/src/lib.rt has no sum_of of this signature with these clauses alone')
+
+    def test_output_that_is_changed(self):
+        self.change(EXAMPLES, '\n\nthree\n```', '\n\nfour\n```')
+        self.assert_finds(f'{EXAMPLES}:5: no output that is linked above has the lines that begin with `two`')
+
+    def test_output_without_a_line(self):
+        self.change(EXAMPLES, 'two\n\nthree', 'two\nthree')
+        self.assert_finds(f'{EXAMPLES}:5: no output that is linked above has the lines that begin with `two`')
+
+    def test_output_of_a_part_of_a_line(self):
+        self.change(EXAMPLES, 'four\n', 'fou\n')
+        self.assert_finds(f'{EXAMPLES}:13: no output that is linked above has the lines that begin with `three`')
+
+    def test_output_of_a_file_that_is_linked_before_another_block(self):
+        self.change(EXAMPLES, '[C](../native/c/first.plain)', 'C')
+        self.change(EXAMPLES, '[output]', '[C](../native/c/first.plain), the [output]')
+        self.assert_finds(f'{EXAMPLES}:13: no output that is linked above has the lines that begin with `three`')
+
+    def test_output_in_html(self):
+        self.change(EXAMPLES, '<pre>', '<p>')
+        self.assert_finds(f'{EXAMPLES}:24: no output that is linked above has the lines that begin with `<p>`')
 
     def test_figure(self):
         self.change(TESTING, '2 crates', '3 crates')
