@@ -3,7 +3,7 @@ import re
 import subprocess
 import sys
 
-TESTING, README, CLAIM, MAP = 'docs/TESTING.md', 'README.md', 'docs/CLAIM.md', 'docs/MAP.md'
+TESTING, README, CLAIM, CONTRACTS, MAP = 'docs/TESTING.md', 'README.md', 'docs/CLAIM.md', 'docs/CONTRACTS.md', 'docs/MAP.md'
 # lines that nearly each proof changes: no page states them
 NOT_STATED = ('lines of specs', 'lines of proofs')
 
@@ -57,7 +57,7 @@ def figures_of_tests(files):
 
 
 def figures_of_outputs(files):
-    """Of TESTING and README: outputs that are stored, and compared."""
+    """Of TESTING, README and CONTRACTS: outputs that are stored, and compared."""
     count = files.count
     cases, outputs = count('^case ', 'crates/gallery/stdin'), count('^case ', 'crates/writer_runs/stdin')
     differing = len(set(re.findall(r'^(?!#|difference )\S+$', files.texts['tools/compare/differences'], flags=re.M)))
@@ -69,8 +69,9 @@ def figures_of_outputs(files):
         (TESTING, 'rows of writer_runs', r'styles each, and (\d+) rows', count('^row ', 'crates/writer_runs/stdout')),
         (TESTING, 'worked outputs of writer_runs', r'texts of (\d+) worked outputs', outputs),
         (TESTING, 'subjects of alloc_failures', r'\| (\d+) subjects', count('^.', 'crates/alloc_failures/stdout')),
-        (README, 'cases of the gallery', r'\d+ of (\d+) cases', cases),
-        (README, 'cases that do not differ', r'(\d+) of \d+ cases', cases - differing),
+        *((page, 'cases of the gallery', r'\d+ of (\d+) cases', cases) for page in (README, CONTRACTS)),
+        *((page, 'cases that do not differ', r'(\d+) of \d+ cases', cases - differing) for page in (README, CONTRACTS)),
+        (CONTRACTS, 'differing cases of the gallery', r'each of the other (\d+) shows', differing),
     )
 
 

@@ -13,6 +13,7 @@ from check_docs.figures import figures_of_way
 README, CALLING, TESTING, MAP = 'README.md', 'crates/codespan_reporting/CALLING.md', 'docs/TESTING.md', 'docs/MAP.md'
 EXAMPLES = 'docs/EXAMPLES.md'
 CODE = 'crates/one/src/lib.rt'
+NARROW = 'word ' * 19 + 'words'
 WIDE = 'word ' * 33 + 'words'
 
 
@@ -45,12 +46,16 @@ fn private() {}
         'native/c/first.plain': 'three\nfour\n',
         'docs/pictures/first.html': '<pre>\n</pre>\n',
         'tools/tests/test_sums.py': 'wanted = made_up\n',
-        README: '''\
+        README: f'''\
 # One
 
-[MAP](docs/MAP.md), [its table](docs/MAP.md#the-table-of-sums), [the second one](docs/MAP.md#sums-1), [this page](#one), [a site](https://none.example).
-The name `sum_of` of `one`, names like `sum_`, the definition `sum-of`, the call `sum_of(first, second)`, `checked_add`, and `[first](second)`.
-The files `crates/one/src/lib.rt`, `src/lib.rt`, `specs/Sums`, `crates/NAME/src/lib.rt`, `crates/{one,two}/src` and `must-fail/*.edit`.
+[MAP](docs/MAP.md), [its table](docs/MAP.md#the-table-of-sums),
+[the second one](docs/MAP.md#sums-1), [this page](#one), [a site](https://none.example).
+The name `sum_of` of `one`, names like `sum_`, the definition `sum-of`, the call
+`sum_of(first, second)`, `checked_add`, and `[first](second)`.
+The files `crates/one/src/lib.rt`, `src/lib.rt`, `specs/Sums`, `crates/NAME/src/lib.rt`,
+`crates/{{one,two}}/src` and `must-fail/*.edit`. A line of this page may have 100 columns:
+{NARROW}
 
 ```rust
 use one::sum_of;
@@ -146,59 +151,63 @@ A [page](pictures/first.html):
 
     def test_link_to_one_heading_too_many(self):
         self.change(MAP, '## Sums\n\n## Sums\n', '## Sums\n')
-        self.assert_finds(f'{README}:3: the link docs/MAP.md#sums-1 has no heading')
+        self.assert_finds(f'{README}:4: the link docs/MAP.md#sums-1 has no heading')
 
     def test_link_without_a_heading_of_its_page(self):
         self.change(README, '(#one)', '(#two)')
-        self.assert_finds(f'{README}:3: the link #two has no heading')
+        self.assert_finds(f'{README}:4: the link #two has no heading')
 
     def test_heading_of_what_is_no_page(self):
         self.change(README, '(#one)', '(crates.txt#one)')
-        self.assert_finds(f'{README}:3: the link crates.txt#one has no heading')
+        self.assert_finds(f'{README}:4: the link crates.txt#one has no heading')
 
     def test_name(self):
         self.change(README, '`checked_add`', '`checked_mul`')
-        self.assert_finds(f'{README}:4: no source has checked_mul, of `checked_mul`')
+        self.assert_finds(f'{README}:6: no source has checked_mul, of `checked_mul`')
 
     def test_name_in_a_call(self):
         self.change(README, '(first, second)', '(first, third)')
-        self.assert_finds(f'{README}:4: no source has third, of `sum_of(first, third)`')
+        self.assert_finds(f'{README}:6: no source has third, of `sum_of(first, third)`')
 
     def test_beginning_of_names(self):
         self.change(README, '`sum_`', '`total_`')
-        self.assert_finds(f'{README}:4: no source has total_, of `total_`')
+        self.assert_finds(f'{README}:5: no source has total_, of `total_`')
 
     def test_name_of_a_block_of_another_page(self):
         self.change(README, '`checked_add`', '`names`')
-        self.assert_finds(f'{README}:4: no source has names, of `names`')
+        self.assert_finds(f'{README}:6: no source has names, of `names`')
 
     def test_name_of_a_test_of_tools(self):
         self.change(README, '`checked_add`', '`made_up`')
-        self.assert_finds(f'{README}:4: no source has made_up, of `made_up`')
+        self.assert_finds(f'{README}:6: no source has made_up, of `made_up`')
 
     def test_path(self):
         self.change(README, '`crates/one/src/lib.rt`', '`crates/one/src/sum.rt`')
-        self.assert_finds(f'{README}:5: no source has crates/one/src/sum.rt, of `crates/one/src/sum.rt`')
+        self.assert_finds(f'{README}:7: no source has crates/one/src/sum.rt, of `crates/one/src/sum.rt`')
 
     def test_path_of_any_crate(self):
         self.change(README, '`crates/NAME/src/lib.rt`', '`crates/NAME/src/sum.rt`')
-        self.assert_finds(f'{README}:5: no source has crates/NAME/src/sum.rt, of `crates/NAME/src/sum.rt`')
+        self.assert_finds(f'{README}:7: no source has crates/NAME/src/sum.rt, of `crates/NAME/src/sum.rt`')
 
     def test_path_of_either_crate(self):
         self.change(README, '{one,two}/src', '{three,four}/src')
-        self.assert_finds(f'{README}:5: no source has crates/{{three,four}}/src, of `crates/{{three,four}}/src`')
+        self.assert_finds(f'{README}:8: no source has crates/{{three,four}}/src, of `crates/{{three,four}}/src`')
 
     def test_name_of_another_crate(self):
         self.change(README, '`sum_of` of', '`product_of` of')
-        self.assert_finds(f'{README}:4: one has no product_of')
+        self.assert_finds(f'{README}:5: one has no product_of')
 
     def test_wide_prose(self):
         self.change(MAP, f'{WIDE}\n', f'{WIDE}.\n')
         self.assert_finds(f'{MAP}:13: 171 columns')
 
+    def test_wide_prose_of_a_narrower_page(self):
+        self.change(README, f'{NARROW}\n', f'{NARROW}.\n')
+        self.assert_finds(f'{README}:9: 101 columns')
+
     def test_code(self):
         self.change(README, 'first.checked_add(second)', 'first.checked_add(first)')
-        self.assert_finds(f'{README}:7: no source has the code that begins with `first.checked_add(first)`')
+        self.assert_finds(f'{README}:11: no source has the code that begins with `first.checked_add(first)`')
 
     def test_signature(self):
         self.change(CALLING, 'first: usize, second: usize', 'first: usize')
