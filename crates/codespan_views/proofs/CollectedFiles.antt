@@ -24,7 +24,7 @@ use Rattle.codespan_picture.specs.Snippets.{locus_byte_of, num_multi_labels, row
 use Rattle.codespan_picture.proofs.ListElements.{all-mapped, all-weaker}
 use Rattle.codespan_views.specs.declared.collected.Collected.{Collected}
 use Rattle.codespan_views.specs.declared.labeled_files.LabeledFile.{LabeledFile as RustFile}
-use Rattle.codespan_views.specs.declared.least_starts.LeastStarts.{LeastStarts}
+use Rattle.codespan_views.specs.declared.labeled_files.LeastStarts.{LeastStarts}
 use Rattle.codespan_views.specs.Private.Annotations.{Annotation}
 use Rattle.codespan_views.specs.Private.AnnotationViews.{annotation_view}
 use Rattle.codespan_views.specs.Private.Collections.{HasSpannedPadding, IsCollected}

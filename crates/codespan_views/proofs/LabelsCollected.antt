@@ -17,7 +17,7 @@ use Rattle.codespan_core.specs.FileModel.{FileDatabase, FileModel, or_failure}
 use Rattle.codespan_core.specs.FileModel.Lookup.{LineIndex}
 use Rattle.codespan_views.specs.declared.annotation.Annotation.{Annotation as RustAnnotation}
 use Rattle.codespan_views.specs.declared.labeled_files.LabeledFile.{LabeledFile as RustFile}
-use Rattle.codespan_views.specs.declared.least_starts.LeastStarts.{LeastStarts}
+use Rattle.codespan_views.specs.declared.labeled_files.LeastStarts.{LeastStarts}
 use Rattle.codespan_views.specs.Private.LabelsToCollect.{FindsLabelAnnotations, LabelToCollect}
 use Rattle.codespan_views.specs.Private.LabelsToCollect.{WidensPadding, labels_failure}
 use Rattle.codespan_views.specs.Private.LabelsToCollect.{lines_failure, lookups_of_label}

@@ -15,7 +15,7 @@ use Rattle.codespan_core.specs.FileModel.Lookup.{LocationAt, Name}
 use Rattle.codespan_picture.specs.Lookups.{Failures, first_error, lookups_of_file}
 use Rattle.codespan_picture.proofs.ListElements.{all-append}
 use Rattle.codespan_views.specs.declared.labeled_files.LabeledFile.{LabeledFile as RustFile}
-use Rattle.codespan_views.specs.declared.least_starts.LeastStarts.{LeastStarts}
+use Rattle.codespan_views.specs.declared.labeled_files.LeastStarts.{LeastStarts}
 use Rattle.codespan_views.specs.Private.EarlyLookups.{KeepsLabels, without_locus}
 use Rattle.codespan_views.specs.Private.Loci.{HasLocus, locus_lookups_of, locus_lookups_of_files}
 use Rattle.codespan_views.specs.Private.LocusBytes.{locus_byte}

@@ -12,7 +12,7 @@ use Rattle.codespan_core.specs.declared.diagnostic.Label.{Label}
 use Rattle.codespan_core.specs.Labels.{is_primary}
 use Rattle.codespan_picture.specs.OutputStreams.{label_of}
 use Rattle.codespan_picture.specs.Snippets.{LabelInFile, file_ids}
-use Rattle.codespan_views.specs.declared.least_starts.LeastStarts.{LeastStarts}
+use Rattle.codespan_views.specs.declared.labeled_files.LeastStarts.{LeastStarts}
 use Rattle.codespan_views.specs.Private.LabeledFiles.{all_least_starts_with}
 use Rattle.codespan_views.specs.Private.LocusBytes.{file_least_starts, is_locus_label, least_if_any}
 use Rattle.codespan_views.specs.Private.LocusBytes.{least_with, no_starts, least_starts_with}

@@ -18,12 +18,12 @@ ghost use Rattle.codespan_views.specs.Private.AnnotationViews.{IsLineOf, kind_vi
 ghost use Rattle.codespan_views.specs.Private.LabelSpans.{IsFarInside};
 
 use crate::annotation::{Annotation, AnnotationKind, LineInfo, MultiLabelKind, push_annotation};
+use crate::collected::Collected;
 use crate::label_span::LabelSpan;
 use crate::source_file::SourceFile;
 use codespan_core::diagnostic::Label;
 use codespan_core::files::{Error, Files};
 use codespan_core::term::Config;
-use codespan_picture::padding::PaddingWidth;
 
 /// Looks up the lines of a label and makes its annotations.
 #[derive(Drop)]
@@ -165,8 +165,7 @@ impl<'a, 'c, 'd, 'files, F: Files<'files>> LabelCollector<'a, 'c, 'd, 'files, F>
         &self,
         index: usize,
         is_far: bool,
-        annotations: &mut Vec<Annotation<'d, F::FileId>>,
-        padding: &mut PaddingWidth,
+        collected: &mut Collected<'d, F::FileId>,
     ) -> Result<bool, Error>
         requires far { is_far ≡ true → IsFarInside self.now.config.now self.now.span.first
             self.now.span.last index }
@@ -174,15 +173,16 @@ impl<'a, 'c, 'd, 'files, F: Files<'files>> LabelCollector<'a, 'c, 'd, 'files, F>
         ensures inside { IfContinues result
             (HasLineIfLookedUp (label_of_collector F.database self.now) index) }
         ensures added { IfContinues result (FindsLineAnnotations
-            (label_of_collector F.database self.now) annotations.old.items annotations.new.items
-            index) }
+            (label_of_collector F.database self.now) collected.old.annotations.items
+            collected.new.annotations.items index) }
         ensures padding { IfContinues result (WidensPaddingForLine
-            (label_of_collector F.database self.now) padding.old padding.new index) }
+            (label_of_collector F.database self.now) collected.old.padding collected.new.padding
+            index) }
         ensures succeeded { IfContinues result
             (failure_if_looked_up (label_of_collector F.database self.now) index ≡ None) }
         ensures ended { IfEnded result (EndsBefore F.database self.now.file index) }
-        ensures ended_annotations { IfEnded result (annotations.new ≡ annotations.old) }
-        ensures ended_padding { IfEnded result (padding.new ≡ padding.old) }
+        ensures unchanged { IfEnded result (collected.new ≡ collected.old) }
+        ensures files { collected.new.files ≡ collected.old.files }
         ensures failed { IfErr result (λ e. e ≢ Error.OutOfMemory
             → FailsAtLine F.database self.now index e) }
     {
@@ -194,9 +194,9 @@ impl<'a, 'c, 'd, 'files, F: Files<'files>> LabelCollector<'a, 'c, 'd, 'files, F>
             return Ok(false);
         };
         if is_spanned {
-            padding.fit(line.number);
+            collected.padding.fit(line.number);
         }
-        self.push_line(line, is_far, annotations)?;
+        self.push_line(line, is_far, &mut collected.annotations)?;
         Ok(true)
     }
 
@@ -211,17 +211,15 @@ impl<'a, 'c, 'd, 'files, F: Files<'files>> LabelCollector<'a, 'c, 'd, 'files, F>
     /// # Requires
     ///
     /// The label starts and ends on the lines of this collector.
-    pub fn collect_lines(
-        &self,
-        annotations: &mut Vec<Annotation<'d, F::FileId>>,
-        padding: &mut PaddingWidth,
-    ) -> Result<(), Error>
+    pub fn collect_lines(&self, collected: &mut Collected<'d, F::FileId>) -> Result<(), Error>
         requires { HasLabelLines F.database self.now }
         ensures added { OnOk result (FindsLabelAnnotations
-            (label_of_collector F.database self.now) annotations.old.items
-            annotations.new.items) }
+            (label_of_collector F.database self.now) collected.old.annotations.items
+            collected.new.annotations.items) }
         ensures padding { OnOk result (WidensPadding
-            (label_of_collector F.database self.now) padding.old padding.new) }
+            (label_of_collector F.database self.now) collected.old.padding
+            collected.new.padding) }
+        ensures files { collected.new.files ≡ collected.old.files }
         ensures failed { FailsBy (lines_failure (label_of_collector F.database self.now)) result }
     {
         let span = self.span;
@@ -229,7 +227,7 @@ impl<'a, 'c, 'd, 'files, F: Files<'files>> LabelCollector<'a, 'c, 'd, 'files, F>
         let last = span.last.saturating_add(self.config.after_label_lines);
         let far = span.far_lines(self.config);
         for index in first.min(span.last)..=last.max(span.first) {
-            if !self.collect_line(index, far.contains(&index), annotations, padding)? {
+            if !self.collect_line(index, far.contains(&index), collected)? {
                 return Ok(());
             }
         }

@@ -1,19 +1,20 @@
-//! The files of labels, in the order of their first labels.
+//! The files of labels, in the order of their first labels, with the least starts of their labels.
 
-ghost use Rattle.std.specs.Prelude.{◌≡◌, ◌<◌, ◌≤◌, ◌+◌, ◌^◌, false, [], ◌∷◌, ◌++◌, IfOk, OnOk};
-ghost use Rattle.std.specs.Prelude.{OnErr, IsErrOf, length, slice_index_or, take};
-ghost use Rattle.std.specs.List.{AllByRecursion};
+ghost use Rattle.codespan_core.specs.Labels.{is_primary};
 ghost use Rattle.codespan_picture.specs.OutputStreams.{label_of};
-ghost use Rattle.codespan_views.specs.Private.LabeledFiles.{ids_view, lanes_of_span, lane_counts};
-ghost use Rattle.codespan_views.specs.Private.LabeledFiles.{lane_counts_with};
-ghost use Rattle.codespan_views.specs.Private.LabeledFiles.{all_least_starts_with};
-ghost use Rattle.codespan_views.specs.Private.LabeledFiles.{all_least_starts, with_file};
-ghost use Rattle.codespan_views.specs.Private.LocusBytes.{least_starts_with, no_starts};
 ghost use Rattle.codespan_views.specs.Private.FileIndices.{AreDistinct, index_of_file};
+ghost use Rattle.codespan_views.specs.Private.LabeledFiles.{all_least_starts};
+ghost use Rattle.codespan_views.specs.Private.LabeledFiles.{all_least_starts_with, ids_view};
+ghost use Rattle.codespan_views.specs.Private.LabeledFiles.{lane_counts, lane_counts_with};
+ghost use Rattle.codespan_views.specs.Private.LabeledFiles.{lanes_of_span, with_file};
+ghost use Rattle.codespan_views.specs.Private.LocusBytes.{least_starts_with, least_with};
+ghost use Rattle.codespan_views.specs.Private.LocusBytes.{locus_byte, no_starts};
+ghost use Rattle.std.specs.List.{AllByRecursion};
+ghost use Rattle.std.specs.Prelude.{IfOk, IsErrOf, OnErr, OnOk, [], false, length, slice_index_or};
+ghost use Rattle.std.specs.Prelude.{take, ◌++◌, ◌+◌, ◌<◌, ◌^◌, ◌∷◌, ◌≡◌, ◌≤◌};
 
 use crate::label_span::LabelSpan;
-use crate::least_starts::LeastStarts;
-use codespan_core::diagnostic::Label;
+use codespan_core::diagnostic::{Label, LabelStyle};
 use codespan_core::files::{Error, Location};
 use codespan_picture::arguments::Locus;
 
@@ -169,5 +170,64 @@ fn last_file<FileId: Copy + Eq>(files: &[LabeledFile<FileId>], index: usize, id:
         index
     } else {
         files.len()
+    }
+}
+
+/// Returns whether a label is primary.
+pub fn is_primary<FileId>(label: &Label<FileId>) -> bool
+    ensures { result ≡ is_primary (label_of label.now).label }
+{
+    matches!(label.style, LabelStyle::Primary)
+}
+
+/// Returns the lesser of a byte index and a known one; the index itself if none is known.
+fn least_with(known: Option<usize>, start: usize) -> usize
+    ensures { result ≡ least_with known start }
+{
+    known.map_or(start, |byte| byte.min(start))
+}
+
+/// The least starts of a file's labels, by those that were added. Byte indices are 0-based.
+#[derive(Clone, Copy)]
+pub struct LeastStarts {
+    /// The least byte index at which a primary label starts; `None` where none is primary.
+    pub primary: Option<usize>,
+    /// The least byte index at which any label starts; `None` where there is none.
+    pub any: Option<usize>,
+}
+
+impl LeastStarts {
+    /// Returns those of a file without labels.
+    pub fn without_labels() -> LeastStarts
+        ensures { result ≡ no_starts }
+    {
+        LeastStarts {
+            primary: None,
+            any: None,
+        }
+    }
+
+    /// Returns those with one more label of the file.
+    pub fn with<FileId>(self, label: &Label<FileId>) -> LeastStarts
+        ensures { result ≡ least_starts_with self (label_of label.now).label }
+    {
+        let start = label.range.start;
+        let primary = if is_primary(label) {
+            Some(least_with(self.primary, start))
+        } else {
+            self.primary
+        };
+        LeastStarts {
+            primary,
+            any: Some(least_with(self.any, start)),
+        }
+    }
+
+    /// Returns the byte index of the locus: the least start of a primary label, or of any label
+    /// where none is primary; 0 without labels.
+    pub fn locus_byte(self) -> usize
+        ensures { result ≡ locus_byte self }
+    {
+        self.primary.or(self.any).unwrap_or(0)
     }
 }

@@ -9,13 +9,10 @@
 
 mod annotation;
 mod collected;
-mod early_lookups;
 pub mod emitting;
 mod label_annotations;
 mod label_span;
 mod labeled_files;
-mod least_starts;
-mod parts;
 pub mod rich;
 pub mod short;
 mod snippet;

@@ -1,27 +1,30 @@
-//! Rich style: a diagnostic over the lines that its labels show.
+//! Rich style: a diagnostic over the lines that its labels show. Header and notes, as short and
+//! medium style have them too.
 
-ghost use Rattle.std.specs.Prelude.{◌≡◌, ◌<◌, length};
 ghost use Rattle.codespan_core.specs.declared.term.config.DisplayStyle.TheVariants.{Rich};
-ghost use Rattle.codespan_picture.specs.OutputStreams.{labels_of};
-ghost use Rattle.codespan_renderer.specs.Renderers.{writer_of, config_of, Renders, SameRenderer};
-ghost use Rattle.codespan_views.specs.WriteCalls.{WritesStyled};
+ghost use Rattle.codespan_picture.specs.Arguments.{locus_view};
+ghost use Rattle.codespan_picture.specs.OutputStreams.{labels_of, notes_of};
+ghost use Rattle.codespan_picture.specs.Snippets.{note_rows};
+ghost use Rattle.codespan_renderer.specs.Renderers.{Renders, SameRenderer, config_of, writer_of};
 ghost use Rattle.codespan_views.specs.Private.EarlyLookups.{IsLookedUp};
 ghost use Rattle.codespan_views.specs.Private.Rendering.{RendersRows};
 ghost use Rattle.codespan_views.specs.Private.ViewRendering.{RendersSnippets, RendersView};
-ghost use Rattle.codespan_views.specs.Private.ViewRendering.{output_without_labels, closing_rows};
+ghost use Rattle.codespan_views.specs.Private.ViewRendering.{closing_rows, header_row_with_newline};
+ghost use Rattle.codespan_views.specs.Private.ViewRendering.{output_without_labels};
+ghost use Rattle.codespan_views.specs.WriteCalls.{WritesStyled};
+ghost use Rattle.std.specs.Option.{option_map};
+ghost use Rattle.std.specs.Prelude.{length, ◌<◌, ◌≡◌};
 
-use crate::annotation::groups::count_in_file;
-use crate::collected::{Collected, collect};
-use crate::early_lookups::look_up_early;
-use crate::parts::{render_diagnostic_header, render_notes};
+use crate::annotation::count_in_file;
+use crate::collected::{Collected, collect, look_up_early};
 use crate::snippet::Snippet;
 use crate::snippet::line_buffers::LineBuffers;
 use crate::source_file::SourceFile;
 use codespan_core::diagnostic::Diagnostic;
 use codespan_core::files::{Error, Files};
 use codespan_core::term::{Config, WriteStyle};
-use codespan_renderer::term::renderer::Renderer;
 use codespan_renderer::term::renderer::row_writer::RowWriter;
+use codespan_renderer::term::renderer::{Locus, Renderer};
 use std::convert::AsStr;
 
 /// Renders a diagnostic in rich style: a header, a snippet for each file with a label, and the
@@ -205,4 +208,45 @@ fn render_without_labels<FileId, W: WriteStyle>(
 {
     render_diagnostic_header(diagnostic, renderer, None)?;
     render_closing(diagnostic, renderer, 0)
+}
+
+/// Renders the header, with this locus, if any.
+///
+/// # Errors
+///
+/// `Io` alone: the writer fails or takes no bytes.
+pub fn render_diagnostic_header<FileId, W: WriteStyle>(
+    diagnostic: &Diagnostic<FileId>,
+    renderer: &mut Renderer<'_, '_, W>,
+    locus: Option<&Locus>,
+) -> Result<(), Error>
+    ensures { Renders W.sink
+        (header_row_with_newline diagnostic.now (option_map (λ x. locus_view x.now) locus.entry))
+        renderer.old result renderer.new }
+{
+    renderer.render_header(
+        locus,
+        diagnostic.severity,
+        diagnostic.code.as_deref(),
+        diagnostic.message.as_str(),
+    )
+}
+
+/// Renders the notes, with this padding width, in characters.
+///
+/// # Errors
+///
+/// `Io` alone: the writer fails or takes no bytes.
+pub fn render_notes<FileId, W: WriteStyle>(
+    diagnostic: &Diagnostic<FileId>,
+    renderer: &mut Renderer<'_, '_, W>,
+    padding: usize,
+) -> Result<(), Error>
+    ensures { RendersRows W.sink diagnostic.now.severity padding
+        (note_rows (notes_of diagnostic.now)) renderer.old result renderer.new }
+{
+    for note in &diagnostic.notes {
+        renderer.render_snippet_note(padding, note.as_str())?;
+    }
+    Ok(())
 }

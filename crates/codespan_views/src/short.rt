@@ -11,8 +11,8 @@ ghost use Rattle.codespan_renderer.specs.Renderers.{writer_of, config_of, SameRe
 ghost use Rattle.codespan_views.specs.WriteCalls.{WritesStyled};
 ghost use Rattle.codespan_views.specs.Private.ViewRendering.{RendersPrimaryHeaders, RendersInStyle};
 
-use crate::least_starts::is_primary;
-use crate::parts::{render_diagnostic_header, render_notes};
+use crate::labeled_files::is_primary;
+use crate::rich::{render_diagnostic_header, render_notes};
 use crate::source_file::SourceFile;
 use codespan_core::diagnostic::{Diagnostic, Label};
 use codespan_core::files::{Error, Files};

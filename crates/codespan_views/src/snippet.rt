@@ -15,8 +15,7 @@ ghost use Rattle.codespan_views.specs.Private.SnippetRows.{empty_row_after_snipp
 ghost use Rattle.codespan_views.specs.Private.SnippetRows.{snippet_empty_row};
 ghost use Rattle.codespan_views.specs.Private.SourceFiles.{lookups_of_filled, model_of};
 
-use crate::annotation::groups::{count_on_line, lines_between, skip_hidden};
-use crate::annotation::{Annotation, LineInfo};
+use crate::annotation::{Annotation, LineInfo, count_on_line, lines_between, skip_hidden};
 use crate::snippet::line_buffers::{LineBuffers, fill_lane_marks};
 use crate::source_file::SourceFile;
 use codespan_core::files::{Error, Files};

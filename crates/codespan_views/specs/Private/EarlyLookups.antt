@@ -10,7 +10,7 @@ use Rattle.codespan_picture.specs.Snippets.{LabelInFile, file_ids, labeled_file_
 use Rattle.codespan_picture.specs.Snippets.{labeled_file_models}
 use Rattle.codespan_views.specs.declared.collected.Collected.{Collected}
 use Rattle.codespan_views.specs.declared.labeled_files.LabeledFile.{LabeledFile as RustFile}
-use Rattle.codespan_views.specs.declared.least_starts.LeastStarts.{LeastStarts}
+use Rattle.codespan_views.specs.declared.labeled_files.LeastStarts.{LeastStarts}
 use Rattle.codespan_views.specs.Private.Annotations.{Annotation, is_of_file}
 use Rattle.codespan_views.specs.Private.AnnotationViews.{annotation_view}
 use Rattle.codespan_views.specs.Private.Collections.{IsCollected}

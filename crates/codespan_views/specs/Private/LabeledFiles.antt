@@ -9,7 +9,7 @@ use Rattle.codespan_picture.specs.Rows.{Locus}
 use Rattle.codespan_picture.specs.Snippets.{LabelInFile, labeled_file_model, num_multi_labels}
 use Rattle.codespan_views.specs.declared.labeled_files.LabeledFile.{LabeledFile as RustFile}
 use Rattle.codespan_views.specs.declared.label_span.LabelSpan.{LabelSpan}
-use Rattle.codespan_views.specs.declared.least_starts.LeastStarts.{LeastStarts}
+use Rattle.codespan_views.specs.declared.labeled_files.LeastStarts.{LeastStarts}
 use Rattle.codespan_views.specs.Private.LocusBytes.{file_least_starts, least_starts_with, no_starts}
 
 -- ---- all files

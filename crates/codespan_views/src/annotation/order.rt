@@ -6,9 +6,9 @@ ghost use Rattle.codespan_views.specs.Private.Annotations.{IsLaneMarkOn, annotat
 ghost use Rattle.codespan_views.specs.Private.Annotations.{rank_of, kind_cmp};
 ghost use Rattle.codespan_views.specs.Private.AnnotationViews.{annotation_view};
 
-use crate::annotation::by_line::group_by_line;
 use crate::annotation::{Annotation, AnnotationKind, drawn_range};
 use codespan_core::files::Error;
+use std::alloc::Global;
 use std::cmp::Ordering;
 use std::ops::Range;
 
@@ -60,11 +60,11 @@ fn compare_kinds<FileId>(left: &Annotation<'_, FileId>, right: &Annotation<'_, F
 }
 
 /// The number of ranks.
-pub const RANK_COUNT: usize = 3;
+const RANK_COUNT: usize = 3;
 
 /// Returns the rank of an annotation's kind: 0 for shown, 1 for a single-line label, 2 for a lane
 /// mark.
-pub fn rank<FileId>(annotation: &Annotation<'_, FileId>) -> usize
+fn rank<FileId>(annotation: &Annotation<'_, FileId>) -> usize
     ensures { result ≡ rank_of (annotation_view annotation.now).kind }
 {
     match &annotation.kind {
@@ -104,8 +104,7 @@ fn are_in_order<FileId>(annotations: &[Annotation<'_, FileId>]) -> bool
 }
 
 /// Returns the end of the longest run of lane marks of one line that starts at this index and whose
-/// lanes do not decrease; the next index where the annotation is no lane mark. Most annotations
-/// that are found to be in order are in such runs.
+/// lanes do not decrease; the next index where the annotation is no lane mark.
 ///
 /// # Requires
 ///
@@ -132,8 +131,7 @@ fn lane_marks_end<FileId>(annotations: &[Annotation<'_, FileId>], start: usize) 
     end
 }
 
-/// Returns the lane of an annotation, if it is a lane mark on this line of this file. All three are
-/// 0-based.
+/// Returns the lane of an annotation, if it is a lane mark on this line of this file. All 0-based.
 #[inline(always)]
 fn lane_on<FileId>(
     annotation: &Annotation<'_, FileId>,
@@ -177,4 +175,129 @@ pub fn put_in_order<FileId>(
     }
     annotations.sort_unstable_by(|left, right| compare(left, right));
     Ok(())
+}
+
+/// The least number of annotations that are worth moving: fewer are sorted about as fast.
+const MIN_LEN: usize = 32;
+
+/// The entry in `next` of an annotation that has been moved. No annotation has this index.
+const MOVED: usize = usize::MAX;
+
+/// Moves annotations to the order of their lines, and on a line to that of the ranks of their
+/// kinds. Those of one line and one rank keep their order. Returns whether they were moved, in time
+/// linear in their number. Those of labels that overlap, or that return to the same lines in turn,
+/// are then mostly in order.
+///
+/// `lines` is as that of [`put_in_order`]. The annotations are unchanged where it is `None`, where
+/// they are fewer than [`MIN_LEN`] or than the lines, or where one is found to be on another line.
+///
+/// # Errors
+///
+/// `OutOfMemory`: an allocation fails.
+fn group_by_line<FileId>(
+    annotations: &mut Vec<Annotation<'_, FileId>>,
+    lines: Option<Range<usize>>,
+) -> Result<bool, Error>
+    ensures permutation { IsPermutation annotations.old.items annotations.new.items }
+    ensures failed { OnErr result (IsErrOf result Error.OutOfMemory) }
+{
+    let Some(lines) = lines else {
+        return Ok(false);
+    };
+    let len = annotations.len();
+    if len < MIN_LEN || len < lines.end.saturating_sub(lines.start) {
+        return Ok(false);
+    }
+    let alloc = *annotations.allocator();
+    let mut chains = chain_buckets(alloc, annotations, lines)?;
+    let moved = follow_chains(alloc, annotations, &chains.first, &mut chains.next)?;
+    if moved.len() != len {
+        return Ok(false);
+    }
+    *annotations = moved;
+    Ok(true)
+}
+
+/// The buckets of annotations, each a chain. The index of an annotation that is not there is past
+/// the end.
+#[derive(Drop)]
+struct Chains {
+    /// For each bucket the index of its first annotation.
+    first: Vec<usize>,
+    /// For each annotation the index of the next one of its bucket.
+    next: Vec<usize>,
+}
+
+/// Chains the annotations of each bucket in their order. Those whose bucket is past the last one
+/// are in no chain. `lines` are 0-based indices, the end exclusive.
+///
+/// # Errors
+///
+/// `OutOfMemory`: an allocation fails.
+fn chain_buckets<FileId>(
+    alloc: Global,
+    annotations: &[Annotation<'_, FileId>],
+    lines: Range<usize>,
+) -> Result<Chains, Error>
+    ensures next { IfOk result (λ chains. length chains.next.items ≡ length annotations.now) }
+    ensures failed { OnErr result (IsErrOf result Error.OutOfMemory) }
+{
+    let len = annotations.len();
+    let bucket_count = lines
+        .end
+        .saturating_sub(lines.start)
+        .saturating_mul(RANK_COUNT);
+    let mut first = vec![in alloc; len; bucket_count]?;
+    let mut next = vec![in alloc; len; len]?;
+    for index in (0..len).rev() {
+        let bucket = bucket_of(&annotations[index], lines.start);
+        if bucket < first.len() {
+            next[index] = first[bucket];
+            first[bucket] = index;
+        }
+    }
+    Ok(Chains { first, next })
+}
+
+/// Returns the annotations of the chains, one chain after another. No annotation is returned twice.
+///
+/// # Errors
+///
+/// `OutOfMemory`: an allocation fails.
+///
+/// # Requires
+///
+/// There is one index in `next` for each annotation.
+fn follow_chains<'d, FileId>(
+    alloc: Global,
+    annotations: &[Annotation<'d, FileId>],
+    first: &[usize],
+    next: &mut [usize],
+) -> Result<Vec<Annotation<'d, FileId>>, Error>
+    requires { length next.old ≡ length annotations.now }
+    ensures permutation { IfOk result (λ moved. length moved.items ≡ length annotations.now
+        → IsPermutation annotations.now moved.items) }
+    ensures failed { OnErr result (IsErrOf result Error.OutOfMemory) }
+{
+    let mut moved = Vec::with_capacity(alloc, annotations.len())?;
+    for start in first {
+        let mut index = *start;
+        while index < annotations.len() {
+            let following = next[index];
+            if following == MOVED {
+                break;
+            }
+            moved.push_reserved(annotations[index]);
+            next[index] = MOVED;
+            index = following;
+        }
+    }
+    Ok(moved)
+}
+
+/// Returns the index of the annotation's bucket: one for each line from the 0-based `first_line` on
+/// and each rank. For another line it is past the last bucket, or, where the product wraps, any.
+fn bucket_of<FileId>(annotation: &Annotation<'_, FileId>, first_line: usize) -> usize {
+    let line = annotation.line.index.wrapping_sub(first_line);
+    line.wrapping_mul(RANK_COUNT).wrapping_add(rank(annotation))
 }

@@ -24,6 +24,9 @@ use Rattle.codespan_views.proofs.LabelsCollected.{index-inside}
 use Rattle.codespan_views.proofs.collected.collect_unsorted.Given.{Over}
 use Rattle.codespan_views.proofs.collected.collect_unsorted.Goals.{After-index-labels-index}
 use Rattle.codespan_views.proofs.collected.collect_unsorted.Goals.{In_ok-file_index}
+use Rattle.codespan_views.proofs.collected.collect_unsorted.Goals.{After-index_mut}
+use Rattle.codespan_views.proofs.collected.collect_unsorted.Goals.{then-file_index-eq0}
+use Rattle.codespan_views.proofs.collected.collect_unsorted.Goals.{else-file_index-eq0}
 use Rattle.codespan_views.proofs.collected.collect_unsorted.Goals as goal
 
 -- the files are lawful, and equal ids name one file
@@ -41,7 +44,7 @@ equal_ids g κs claim files = (g.met.F.Files κs claim).same_is_eq files
 pub get_or_insert_file-requires : goal.get_or_insert_file-requires
 get_or_insert_file-requires g c =
     let lawful = are_files g c.lifetimes (search rules) c.args.files.now in
-    subst (λ same. AreDistinct same (ids_view c.loop-index.labeled_files.items))
+    subst (λ same. AreDistinct same (ids_view c.loop-index.collected.files.items))
     (equal_ids g c.lifetimes (search rules) c.args.files.now)
     (subst (AreDistinct (g.F.Files.database c.args.files.now).same)
     (sym c.loop-index.invariant.ids_are)
@@ -60,13 +63,13 @@ indexed : (g : Over) (c : In_ok-file_index g)
     let index = c.loop-index.index in
     AreCollected (g.F.Files.database c.args.files.now) c.args.config.now
     (file_ids same (before labels (index + 1))) (before labels index)
-    c.get_or_insert_file.new.files.items c.loop-index.annotations.items c.loop-index.padding
+    c.get_or_insert_file.new.files.items c.loop-index.collected.annotations.items c.loop-index.collected.padding
 indexed g c at =
     let lawful = are_files g c.lifetimes (search rules) c.args.files.now in
     let now = c.in_ok-file_index.ensures in
     file-indexed lawful at c.loop-index.invariant
     (subst
-    (λ same. IsIndexedFile same c.index-labels-index.result.file_id c.loop-index.labeled_files.items
+    (λ same. IsIndexedFile same c.index-labels-index.result.file_id c.loop-index.collected.files.items
     c.get_or_insert_file.new.files.items)
     (sym (equal_ids g c.lifetimes (search rules) c.args.files.now))
     (record { ids = now.ids; starts = now.starts; lanes = now.lanes }))
@@ -124,7 +127,17 @@ pub index_mut-requires : goal.index_mut-requires
 index_mut-requires g c =
     let here = (goal.at.index_mut-requires g c).In_ok-file_index in
     let at = turn g (goal.at.index_mut-requires g c).After-index-labels-index in
-    omega (arith, index_inside g here at, c.get_or_insert_file.new.files.ok.0)
+    rw c.collect_lines.ensures.files
+    (omega (arith, index_inside g here at, c.get_or_insert_file.new.files.ok.0))
+
+-- the file there, once its annotations are collected
+file_there : (g : Over) (c : After-index_mut g)
+    → c.index_mut.result.now ≡ get_or c.get_or_insert_file.new.files.items
+    c.in_ok-file_index.file_index c.index_mut.result.now
+file_there g c =
+    c.index_mut.ensures.value
+    ∙ ap (λ fs. get_or fs.items c.in_ok-file_index.file_index c.index_mut.result.now)
+    c.collect_lines.ensures.files
 
 -- the number of lanes of its file before it, as it was read and as it is counted
 lanes_there : (g : Over) (c : In_ok-file_index g)
@@ -145,7 +158,7 @@ add-requires g c =
     let lawful = are_files g c.lifetimes (search rules) c.args.files.now in
     let here = (goal.at.add-requires g c).In_ok-file_index in
     let at = turn g (goal.at.add-requires g c).After-index-labels-index in
-    let lanes = lanes_there g here at c.index_mut.ensures.value in
+    let lanes = lanes_there g here at (file_there g (goal.at.add-requires g c).After-index_mut) in
     let bound = lane-bound lawful at (indexed g here at) (found_there g here)
     (omega (arith, c.loop-index.auto.index-end)) in
     omega (arith, lanes, bound)
@@ -162,10 +175,10 @@ loop-index-preserved g c =
     let found = c.in_ok-collect_lines.ensures in
     let own = lanes_of_span-are (database.file label.file_id) (label_of label).label
     c.in_ok-span.span span.first span.last in
-    collected-more lawful at (indexed g here at) (found_there g here)
+    let more = collected-more lawful at (indexed g here at) (found_there g here)
     (record {
       added = subst₂ (λ old n. FindsLabelAnnotations (label_to_collect database c.args.config.now
-          file_index c.loop-index.index n label) old c.collect_lines.new.annotations.items)
+          file_index c.loop-index.index n label) old c.collect_lines.new.collected.annotations.items)
           c.reserve.ensures.items (lanes_there g here at c.index.ensures) found.added;
       counted = found.padding;
       succeeded = failure-lines database c.args.config.now label file_index c.loop-index.index
@@ -173,9 +186,13 @@ loop-index-preserved g c =
           ∙ found.failed;
     })
     (added-at database.file label
-    (record { inside = index_inside g here at; is = c.index_mut.ensures.value }) c.add.new.self
+    (record { inside = index_inside g here at; is = file_there g (goal.at.loop-index-preserved g c).After-index_mut }) c.add.new.self
     c.add.ensures.id c.add.ensures.least_starts
-    (c.add.ensures.lanes ∙ ap (λ n. c.index_mut.result.now.num_multi_labels + n) own))
+    (c.add.ensures.lanes ∙ ap (λ n. c.index_mut.result.now.num_multi_labels + n) own)) in
+    elim c.if-file_index-eq0.branch [
+      | then-file_index-eq0 w ↦ rw (w.collected-is, c.collect_lines.ensures.files) more
+      | else-file_index-eq0 w ↦ rw (w.collected-is, c.collect_lines.ensures.files) more
+    ]
 
 pub returns-clause-collected : goal.returns-clause-collected
 returns-clause-collected g c =
@@ -187,13 +204,13 @@ returns-clause-collected g c =
     record {
       files = record {
         ids_are = done.ids_are;
-        labels_are = each-labels same file xs c.loop-index.labeled_files.items
+        labels_are = each-labels same file xs c.loop-index.collected.files.items
             (done.starts_are ∙ ap (map (file_least_starts same xs)) (sym done.ids_are))
             (done.lanes_are ∙ ap (map (num_multi_labels_of same file xs)) (sym done.ids_are));
       };
       adds =
           subst
-          (λ js. AppendsAnnotations (IsOfFiles file js) [] c.loop-index.annotations.items
+          (λ js. AppendsAnnotations (IsOfFiles file js) [] c.loop-index.collected.annotations.items
           (annotations_after same file c.args.config.now (file_ids same xs) [] xs))
           (sym done.ids_are) done.added;
     }

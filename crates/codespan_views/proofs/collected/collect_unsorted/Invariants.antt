@@ -8,4 +8,5 @@ abbrev pub invariant-loop-index : goal.invariant-loop-index
 invariant-loop-index g l =
     AreCollected (g.F.Files.database l.files) l.config
     (file_ids (g.F.Files.database l.files).same (before l.labels l.index))
-    (before l.labels l.index) l.labeled_files.items l.annotations.items l.padding
+    (before l.labels l.index) l.collected.files.items
+    l.collected.annotations.items l.collected.padding

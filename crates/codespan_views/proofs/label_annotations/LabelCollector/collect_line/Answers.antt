@@ -1,4 +1,4 @@
-use Rattle.std.proofs.Common.{◌≡◌, ◌<◌, ◌∙◌, false, true, rules, ap, subst, sym, [], Bool, ℕ}
+use Rattle.std.proofs.Common.{◌≡◌, ◌<◌, ◌∙◌, false, true, rules, ap, subst, subst₂, sym, [], Bool, ℕ}
 use Rattle.std.specs.Prelude.{if◌then◌else◌}
 use Rattle.codespan_core.specs.FileModel.{line_count}
 use Rattle.codespan_views.specs.Private.LabelAnnotations.{line_annotations}
@@ -75,13 +75,27 @@ returns-clause-inside g c =
     λ _ _. subst (λ l. l < line_count (model_of g.F.Files.database c.args.self.now.file)) found.0
     found.1.range_is.inside
 
+-- the padding aside, what was collected before is there still
+annotations_are : (g : Over) (c : In_ok-push_line g)
+    → c.if-is_spanned.collected.annotations.items ≡ c.args.collected.now.annotations.items
+annotations_are g c = elim c.if-is_spanned.branch [
+  | then-is_spanned w ↦ ap (λ x. x.annotations.items) w.collected-is
+  | else-is_spanned w ↦ ap (λ x. x.annotations.items) w.collected-is
+]
+
 pub returns-clause-added : goal.returns-clause-added
 returns-clause-added g c =
     let x = label_of_collector g.F.Files.database c.args.self.now in
     λ _. added-looked_up x c.args.index (looked_up g c)
-    (subst
-    (AppendsLineAnnotations x c.args.annotations.now.items c.push_line.new.annotations.items)
-    (line_found g c).0 c.in_ok-push_line.ensures.added)
+    (subst₂
+    (λ old. AppendsLineAnnotations x old c.push_line.new.annotations.items)
+    (annotations_are g c) (line_found g c).0 c.in_ok-push_line.ensures.added)
+
+pub returns-clause-files : goal.returns-clause-files
+returns-clause-files g c = elim c.if-is_spanned.branch [
+  | then-is_spanned w ↦ ap (λ x. x.files) w.collected-is
+  | else-is_spanned w ↦ ap (λ x. x.files) w.collected-is
+]
 
 pub returns-clause-padding : goal.returns-clause-padding
 returns-clause-padding g c =
@@ -90,15 +104,14 @@ returns-clause-padding g c =
     let span = collector.span in
     let found = line_found g c in
     let number = found.1.number_is ∙ ap x.file.line_number found.0 in
-    let digits : PaddingWidth → ℕ = λ padding. padding.digit_count in
     λ _. elim c.if-is_spanned.branch [
       | then-is_spanned w ↦ padding-spanned x span.first span.last c.args.index c.requires.lines.first
-          c.requires.lines.last _ c.args.padding.now.digit_count
+          c.requires.lines.last _ c.args.collected.now.padding.digit_count
           (sym (is_spanned g c) ∙ w.if-is_spanned.true)
-          (ap digits w.padding-is ∙ rw number at w.fit.ensures)
+          (ap (λ x. x.padding.digit_count) w.collected-is ∙ rw number at w.fit.ensures)
       | else-is_spanned w ↦ padding-unspanned x span.first span.last c.args.index
-          c.requires.lines.first c.requires.lines.last _ c.args.padding.now.digit_count
-          (sym (is_spanned g c) ∙ w.if-is_spanned.false) (ap digits w.padding-is)
+          c.requires.lines.first c.requires.lines.last _ c.args.collected.now.padding.digit_count
+          (sym (is_spanned g c) ∙ w.if-is_spanned.false) (ap (λ x. x.padding.digit_count) w.collected-is)
     ]
 
 pub returns-clause-succeeded : goal.returns-clause-succeeded

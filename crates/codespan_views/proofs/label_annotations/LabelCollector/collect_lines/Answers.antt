@@ -18,7 +18,7 @@ use Rattle.codespan_views.proofs.label_annotations.LabelCollector.collect_lines.
 use Rattle.codespan_views.proofs.label_annotations.LabelCollector.collect_lines.Goals as goal
 
 -- its file has its first line and its last one
-has_ends : (g : Over) (κs : Lfts 11) → g.claim κs
+has_ends : (g : Over) (κs : Lfts 10) → g.claim κs
     → (collector : LabelCollector g.row.F.Denot g.row.F-FileId.Denot g.row.F-Name.Denot
     g.row.F-Source.Denot)
     → HasEnds (label_of_collector g.F.Files.database collector)
@@ -33,11 +33,12 @@ has_ends g κs claim collector =
     }
 
 pub loop-index-init : goal.loop-index-init
-loop-index-init g c =
-    let collector = c.args.self.now in
-    collected-start (has_ends g c.lifetimes (search rules) collector)
-    (omega (arith, c.min-index-counter.ensures, c.requires.last))
-    (omega (arith, c.min-index-counter.ensures, c.saturating_sub-first.ensures, c.requires.first))
+loop-index-init g c = record {
+  lines = collected-start (has_ends g c.lifetimes (search rules) c.args.self.now)
+      (omega (arith, c.min-index-counter.ensures, c.requires.last))
+      (omega (arith, c.min-index-counter.ensures, c.saturating_sub-first.ensures, c.requires.first));
+  files = refl;
+}
 
 -- the test of a range
 in_range : (a b k : ℕ) (is_in : Bool)
@@ -65,7 +66,7 @@ returns-in_err-collect_line-clause-failed g c =
     let x = label_of_collector g.F.Files.database collector in
     let p = err_from_is_err_and c.from_residual.result c.from_residual.ensures.1 in
     rw (p.1 ∙ ap Err p.2) (λ known. let failed = c.in_err-collect_line.ensures.failed known in
-    collected-failed {x = x} c.loop-index.invariant
+    collected-failed {x = x} c.loop-index.invariant.lines
     (has_ends g c.lifetimes (search rules) collector) failed.0
     (ap (λ k. line_failure_unless_past_end x.file (x.failure x.file_id) k c.loop-index.index-counter) c.requires.last
     ∙ failed.1))
@@ -73,15 +74,15 @@ returns-in_err-collect_line-clause-failed g c =
 -- the file has no more lines
 no_more : (g : Over) (c : goal.Then-not-branch g)
     → CollectsLabel (label_of_collector g.F.Files.database c.args.self.now)
-    c.args.annotations.now.items c.collect_line.new.annotations.items c.args.padding.now
-    c.collect_line.new.padding
+    c.args.collected.now.annotations.items c.collect_line.new.collected.annotations.items
+    c.args.collected.now.padding c.collect_line.new.collected.padding
 no_more g c =
     let x = label_of_collector g.F.Files.database c.args.self.now in
     let known = c.in_ok-collect_line.ensures in
     let here = c.if-not-branch.true in
     let ended = known.ended here in
-    rw (known.ended_annotations here, known.ended_padding here)
-    (collected-context {x = x} c.loop-index.invariant ended.0 ended.1)
+    rw (known.unchanged here)
+    (collected-context {x = x} c.loop-index.invariant.lines ended.0 ended.1)
 
 pub returns-then-not-branch-clause-added : goal.returns-then-not-branch-clause-added
 returns-then-not-branch-clause-added g c = (no_more g c).added
@@ -95,13 +96,13 @@ returns-then-not-branch-clause-failed g c = (no_more g c).succeeded
 -- one more line is done with
 one_more : (g : Over) (c : goal.Else-not-branch g)
     → CollectsLines (label_of_collector g.F.Files.database c.args.self.now)
-    c.args.annotations.now.items c.collect_line.new.annotations.items c.args.padding.now
-    c.collect_line.new.padding (c.loop-index.index-counter + 1)
+    c.args.collected.now.annotations.items c.collect_line.new.collected.annotations.items
+    c.args.collected.now.padding c.collect_line.new.collected.padding (c.loop-index.index-counter + 1)
 one_more g c =
     let x = label_of_collector g.F.Files.database c.args.self.now in
     let on = c.if-not-branch.false in
     let known = c.in_ok-collect_line.ensures in
-    collected-line {x = x} c.loop-index.invariant
+    collected-line {x = x} c.loop-index.invariant.lines
     (has_ends g c.lifetimes (search rules) c.args.self.now)
     (omega (
       arith,
@@ -114,13 +115,16 @@ one_more g c =
     (known.inside on) (known.added on) (known.padding on) (known.succeeded on)
 
 pub loop-index-preserved : goal.loop-index-preserved
-loop-index-preserved g c = one_more g (goal.at.loop-index-preserved g c).Else-not-branch
+loop-index-preserved g c = record {
+  lines = one_more g (goal.at.loop-index-preserved g c).Else-not-branch;
+  files = c.in_ok-collect_line.ensures.files ∙ c.loop-index.invariant.files;
+}
 
 -- the last line is done with
 all_done : (g : Over) (c : goal.Else-not-branch g) → c.max-index-end.result ≤ c.loop-index.index-counter
     → CollectsLabel (label_of_collector g.F.Files.database c.args.self.now)
-    c.args.annotations.now.items c.collect_line.new.annotations.items c.args.padding.now
-    c.collect_line.new.padding
+    c.args.collected.now.annotations.items c.collect_line.new.collected.annotations.items
+    c.args.collected.now.padding c.collect_line.new.collected.padding
 all_done g c at_last =
     let x = label_of_collector g.F.Files.database c.args.self.now in
     let claim : g.claim c.lifetimes = search rules in

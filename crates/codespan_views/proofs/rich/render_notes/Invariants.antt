@@ -1,0 +1,13 @@
+use Rattle.std.proofs.Common.{Ok, take}
+use Rattle.std.specs.Prelude.{string_bytes}
+use Rattle.codespan_picture.specs.OutputStreams.{context_of}
+use Rattle.codespan_renderer.specs.Renderers.{Renders, config_of}
+use Rattle.codespan_views.proofs.NoteRows.{stream_of_notes}
+use Rattle.codespan_views.proofs.rich.render_notes.Given as goal
+
+-- the notes before this one have been rendered
+abbrev pub invariant-loop-note : goal.invariant-loop-note
+invariant-loop-note g l =
+    Renders g.W.WriteStyle.sink (stream_of_notes string_bytes
+    (context_of (config_of l.initial.renderer) l.diagnostic.severity l.padding)
+    (take l.note-index l.diagnostic.notes.items)) l.initial.renderer (Ok tt) l.renderer
