@@ -10,7 +10,7 @@ use Rattle.report.specs.declared.report_error.ReportError.{ReportError}
 use Rattle.report.specs.declared.report_error.ReportError.TheVariants.{BadScript}
 use Rattle.report.specs.RenderedTexts.{rendering_of}
 use Rattle.report.specs.ReportErrors.{IsRunError, IfBadScript, IsReportStatusOf, UnchangedUnlessRendered}
-use Rattle.report_script.specs.Requests.{RequestView, WhereKnown, request_of}
+use Rattle.report.specs.Requests.{RequestView, WhereKnown, request_of}
 
 -- the outcome of a run
 abbrev Outcome : Type 0

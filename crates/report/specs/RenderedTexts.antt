@@ -10,11 +10,11 @@ use Rattle.codespan_core.specs.Streams.{text_of}
 use Rattle.codespan_picture.specs.ViewPictures.{picture_of_diagnostic_view}
 use Rattle.report.specs.declared.report_error.ReportError.{ReportError}
 use Rattle.report.specs.declared.report_error.ReportError.TheVariants as report_errors
-use Rattle.report_script.specs.declared.script.Fault.{Fault}
-use Rattle.report_script.specs.Requests.{RequestView}
-use Rattle.report_script.specs.ReportDiagnostics.{label_request_diagnostic, fault_diagnostic}
-use Rattle.report_script.specs.Requests.RequestView.{OneLabel, OfScript}
-use Rattle.report_script.specs.Scripts.{ScriptView, parsed_script}
+use Rattle.report.specs.declared.script.Fault.{Fault}
+use Rattle.report.specs.Requests.{RequestView}
+use Rattle.report.specs.ReportDiagnostics.{label_request_diagnostic, fault_diagnostic}
+use Rattle.report.specs.Requests.RequestView.{OneLabel, OfScript}
+use Rattle.report.specs.Scripts.{ScriptView, parsed_script}
 
 -- ---- the output of a diagnostic
 

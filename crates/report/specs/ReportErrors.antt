@@ -16,7 +16,7 @@ use Rattle.program_io.specs.declared.run_error.RunError.TheVariants.{Program}
 use Rattle.report.specs.declared.report_error.ReportError.{ReportError}
 use Rattle.report.specs.declared.report_error.ReportError.TheVariants.{CannotRender, BadScript}
 use Rattle.report.specs.RenderedTexts.{IsRenderError, rendering_of}
-use Rattle.report_script.specs.Requests.{RequestView}
+use Rattle.report.specs.Requests.{RequestView}
 
 -- the program's status: that of any program, or 3 for a script's error
 abbrev pub IsReportStatusOf : Result (Unit {0}) (RunError ReportError) → ℕ → Type 0

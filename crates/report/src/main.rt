@@ -4,7 +4,7 @@
 //!
 //! `STYLE` is `rich`, `medium` or `short`. `START` and `END`, in decimal digits, are the byte range
 //! of the label in the source, from 0, the end exclusive. `NAME` is the file's name, and `MESSAGE`
-//! the message of both the error and the label. [`report_script::script`] says what a script is.
+//! the message of both the error and the label. [`script`] says what a script is.
 //!
 //! | status | standard output | standard error |
 //! |---|---|---|
@@ -21,9 +21,13 @@
 //! not UTF-8 are wrong; if an allocation for them fails, the status is 1.
 #![tactic(auto)]
 
+mod diagnostics;
+mod laws;
 mod rendering;
 mod report_error;
+mod request;
 mod run;
+mod script;
 #[cfg(test)]
 mod tests;
 

@@ -5,19 +5,17 @@ ghost use Rattle.codespan_core.specs.ConfigEquality.{IsEqualConfig};
 ghost use Rattle.codespan_core.specs.Diagnostics.{diagnostic_view};
 ghost use Rattle.report.specs.RenderedTexts.{report_config, rendering_of, rendering_of_script};
 ghost use Rattle.report.specs.RenderedTexts.{output_text, IsRenderError};
-ghost use Rattle.report_script.specs.Requests.{request_view};
-ghost use Rattle.report_script.specs.Scripts.{parsed_script};
+ghost use Rattle.report.specs.Requests.{request_view};
+ghost use Rattle.report.specs.Scripts.{parsed_script};
 
+use crate::diagnostics::{diagnostic_of_fault, diagnostic_of_label_request, diagnostic_of_script};
 use crate::report_error::ReportError;
+use crate::request::{LabelRequest, Request};
+use crate::script::{ScriptError, parse_script};
 use codespan_core::diagnostic::Diagnostic;
 use codespan_core::files::{Error, SimpleFile};
 use codespan_core::term::{Config, DisplayStyle};
 use codespan_views::emitting::emit_into_string;
-use report_script::diagnostics::{
-    diagnostic_of_fault, diagnostic_of_label_request, diagnostic_of_script,
-};
-use report_script::request::{LabelRequest, Request};
-use report_script::script::{ScriptError, parse_script};
 use std::alloc::Global;
 
 /// Returns the requested output.

@@ -9,14 +9,14 @@ ghost use Rattle.program_io.specs.Output.{AppendsPrefix};
 ghost use Rattle.program_io.specs.RunErrors.{failed_output_line};
 ghost use Rattle.report.specs.ReportErrors.{IsRunError, IfBadScript, IsReportStatusOf};
 ghost use Rattle.report.specs.ReportErrors.{UnchangedUnlessRendered};
-ghost use Rattle.report_script.specs.Requests.{WhereKnown, request_of};
+ghost use Rattle.report.specs.Requests.{WhereKnown, request_of};
 
 use crate::rendering::render;
 use crate::report_error::ReportError;
+use crate::request::Request;
 use program_io::input::read_text;
 use program_io::output::write_and_flush;
 use program_io::run_error::{RunError, write_output};
-use report_script::request::Request;
 use std::alloc::Global;
 use std::io::{Read, Write};
 

@@ -1,0 +1,83 @@
+-- For the clauses of `LabelRequest::from_arguments` and `Request::from_arguments`: what the
+-- arguments request, one by one.
+use Rattle.std.proofs.Common.{◌≡◌, ℕ, ◌<◌, ◌≤◌, ◌⊎◌, inl, inr, List, [], ◌∷◌, length, get_or, map, Option, None, refl, ap, sym, ◌∙◌, arith}
+use Rattle.codespan_core.specs.declared.term.config.DisplayStyle.{DisplayStyle}
+use Rattle.std.specs.Option.{option_map}
+use Rattle.program_io.specs.Names.{display_style_named}
+use Rattle.report.specs.Requests.{request_of, number_of, label_request_of, label_request_with}
+use Rattle.report.specs.Requests.RequestView.{OneLabel, OfScript}
+
+-- five elements by their indices
+five_elements : {A : Type 0} (xs : List A) (a b c d e : A) → 5 ≤ length xs → length xs < 6
+    → a ≡ get_or xs 0 a → b ≡ get_or xs 1 b → c ≡ get_or xs 2 c → d ≡ get_or xs 3 d
+    → e ≡ get_or xs 4 e
+    → xs ≡ a ∷ b ∷ c ∷ d ∷ e ∷ []
+five_elements [] a b c d e least most p q r s t = absurd (omega arith)
+five_elements (v ∷ []) a b c d e least most p q r s t = absurd (omega arith)
+five_elements (v ∷ w ∷ []) a b c d e least most p q r s t = absurd (omega arith)
+five_elements (v ∷ w ∷ x ∷ []) a b c d e least most p q r s t = absurd (omega arith)
+five_elements (v ∷ w ∷ x ∷ y ∷ []) a b c d e least most p q r s t = absurd (omega arith)
+five_elements (v ∷ w ∷ x ∷ y ∷ z ∷ []) a b c d e least most p q r s t = cc
+five_elements (v ∷ w ∷ x ∷ y ∷ z ∷ u ∷ more) a b c d e least most p q r s t = absurd (omega arith)
+
+-- any other number of arguments is no label request
+pub not_five_arguments : {A : Type 0} (text : A → List ℕ) (xs : List A)
+    → (length xs < 5) ⊎ (6 ≤ length xs)
+    → None ≡ label_request_of (map text xs)
+unfolding label_request_of
+not_five_arguments text [] others = refl
+not_five_arguments text (v ∷ []) others = refl
+not_five_arguments text (v ∷ w ∷ []) others = refl
+not_five_arguments text (v ∷ w ∷ x ∷ []) others = refl
+not_five_arguments text (v ∷ w ∷ x ∷ y ∷ []) others = refl
+not_five_arguments text (v ∷ w ∷ x ∷ y ∷ z ∷ []) others =
+    absurd (elim others [ inl few ↦ omega arith | inr many ↦ omega arith ])
+not_five_arguments text (v ∷ w ∷ x ∷ y ∷ z ∷ u ∷ more) others = refl
+
+-- the label request of five arguments, from what each of them says
+pub five_arguments : {A : Type 0} (text : A → List ℕ) (xs : List A)
+    (style name start end message : A)
+    → 5 ≤ length xs → length xs < 6
+    → style ≡ get_or xs 0 style → name ≡ get_or xs 1 name → start ≡ get_or xs 2 start
+    → end ≡ get_or xs 3 end → message ≡ get_or xs 4 message
+    → (named : Option DisplayStyle) (first last : Option ℕ)
+    → named ≡ display_style_named (text style) → first ≡ number_of (text start)
+    → last ≡ number_of (text end)
+    → label_request_with (text name) (text message) named first last ≡ label_request_of (map text xs)
+unfolding label_request_of
+five_arguments text xs style name start end message least most p q r s t named first last x y z =
+    let five = five_elements xs style name start end message least most p q r s t in
+    let request : label_request_with (text name) (text message) named first last
+    ≡ label_request_of (text style ∷ text name ∷ text start ∷ text end ∷ text message ∷ []) =
+    rw (x, y, z) refl in
+    request ∙ ap (λ l. label_request_of (map text l)) (sym five)
+
+-- two elements by their indices
+two_elements : {A : Type 0} (xs : List A) (a b : A) → 2 ≤ length xs → length xs < 3
+    → a ≡ get_or xs 0 a → b ≡ get_or xs 1 b → xs ≡ a ∷ b ∷ []
+two_elements [] a b least most p q = absurd (omega arith)
+two_elements (v ∷ []) a b least most p q = absurd (omega arith)
+two_elements (v ∷ w ∷ []) a b least most p q = cc
+two_elements (v ∷ w ∷ x ∷ more) a b least most p q = absurd (omega arith)
+
+-- the request of two arguments
+pub two_arguments : {A : Type 0} (text : A → List ℕ) (xs : List A) (style name : A) → 2 ≤ length xs
+    → length xs < 3
+    → style ≡ get_or xs 0 style → name ≡ get_or xs 1 name → (named : Option DisplayStyle)
+    → named ≡ display_style_named (text style)
+    → option_map (λ s. OfScript s (text name)) named ≡ request_of (map text xs)
+unfolding request_of
+two_arguments text xs style name least most p q named x =
+    ap (option_map (λ s. OfScript s (text name))) x
+    ∙ ap (λ l. request_of (map text l)) (sym (two_elements xs style name least most p q))
+
+-- what another number of arguments requests
+pub other_arguments : {A : Type 0} (text : A → List ℕ) (xs : List A)
+    → (length xs < 2) ⊎ (3 ≤ length xs)
+    → request_of (map text xs) ≡ option_map OneLabel (label_request_of (map text xs))
+unfolding request_of
+other_arguments text [] others = refl
+other_arguments text (v ∷ []) others = refl
+other_arguments text (v ∷ w ∷ []) others =
+    absurd (elim others [ inl few ↦ omega arith | inr many ↦ omega arith ])
+other_arguments text (v ∷ w ∷ x ∷ more) others = refl

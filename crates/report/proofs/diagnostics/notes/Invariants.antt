@@ -1,0 +1,6 @@
+use Rattle.std.proofs.Common.{◌≡◌, map, take, string_bytes}
+use Rattle.report.proofs.diagnostics.notes.Given as goal
+
+abbrev pub invariant-loop-note : goal.invariant-loop-note
+invariant-loop-note l =
+    map string_bytes l.notes.items ≡ map (λ note. note.now) (take l.note-index l.stated)

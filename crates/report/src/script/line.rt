@@ -1,0 +1,62 @@
+//! A line of a script, and its fields.
+
+ghost use Rattle.std.specs.Prelude.{◌+◌, ◌<◌, ◌^◌, length};
+
+use program_io::fields::{is_ignored, split_field};
+use std::ops::Range;
+
+/// A line of a script.
+#[derive(Clone, Copy)]
+pub(super) struct Line<'input> {
+    /// The byte index in the input at which it starts.
+    pub(super) start: usize,
+    /// Its text, without the newline and a carriage return before that.
+    pub(super) text: &'input str,
+    /// The byte index in the input at which the next line starts, or the input's length.
+    pub(super) next: usize,
+    ghost fits: { start + length text.now < 2 ^ 64 },
+}
+
+impl<'input> Line<'input> {
+    ghost use Rattle.std.specs.Prelude.{◌≡◌, ◌≤◌};
+    ghost use Rattle.report.specs.ScriptLines.{script_line_view, range_at, word_of, rest_of};
+    ghost use Rattle.report.specs.ScriptLines.{is_ignored};
+
+    /// Returns the word: the text before the first space.
+    pub(super) fn word(&self) -> &'input str
+        ensures word { result.now ≡ word_of (script_line_view self.now) }
+        ensures short { length result.now ≤ length self.now.text.now }
+    {
+        split_field(self.text).0
+    }
+
+    /// Returns the rest: the text after the first space.
+    pub(super) fn rest(&self) -> &'input str
+        ensures rest { result.now ≡ rest_of (script_line_view self.now) }
+        ensures short { length result.now ≤ length self.now.text.now }
+    {
+        split_field(self.text).1
+    }
+
+    /// Returns whether the line is empty or begins with `#`.
+    pub(super) fn is_ignored(&self) -> bool
+        ensures { result ≡ is_ignored (script_line_view self.now) }
+    {
+        is_ignored(self.text)
+    }
+
+    /// Returns the byte range in the input of the field with which `from`, a suffix of the line,
+    /// begins.
+    ///
+    /// # Requires
+    ///
+    /// The field is not longer than `from`, and `from` is not longer than the line.
+    pub(super) fn range_at(&self, from: &str, field: &str) -> Range<usize>
+        requires { (length field.now ≤ length from.now)
+            × (length from.now ≤ length self.now.text.now) }
+        ensures { result ≡ range_at (script_line_view self.now) from.now field.now }
+    {
+        let start = self.start + self.text.len() - from.len();
+        start..start + field.len()
+    }
+}

@@ -1,8 +1,0 @@
-use Rattle.std.proofs.Common.{◌≡◌, map, take}
-use Rattle.codespan_core.specs.Diagnostics.{label_view}
-use Rattle.report_script.specs.Scripts.{script_label_view}
-use Rattle.report_script.proofs.diagnostics.labels.Given as goal
-
-abbrev pub invariant-loop-style : goal.invariant-loop-style
-invariant-loop-style l =
-    map label_view l.labels.items ≡ map script_label_view (take l.style-index l.stated)

@@ -1,5 +1,0 @@
-use Rattle.report_script.proofs.FaultRanges as ranges
-use Rattle.report_script.proofs.laws.faults_lie_inside.Goals as goal
-
-pub returns : goal.returns
-returns c = λ input. ranges.faults_lie input

@@ -1,5 +1,0 @@
-use Rattle.report_script.proofs.ReadBack as back
-use Rattle.report_script.proofs.laws.scripts_read_back.Goals as goal
-
-pub returns : goal.returns
-returns c = λ statements source. back.reads_back statements source

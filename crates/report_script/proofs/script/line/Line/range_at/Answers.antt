@@ -1,6 +1,0 @@
-use Rattle.std.proofs.Common.{refl}
-use Rattle.report_script.proofs.script.line.Line.range_at.Goals as goal
-
--- the field ends after all its bytes
-pub returns : goal.returns
-returns c = refl
