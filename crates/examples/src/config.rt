@@ -1,8 +1,10 @@
 //! Prints every error in a text of settings, by the front end of a small language of settings.
 
+mod front_end;
+
 use codespan_reporting::files::{Error, SimpleFile};
 use codespan_reporting::term::{Config, emit_to_io_write};
-use examples_library::config::{Setting, Token, lex, parse, token_text};
+use front_end::{Setting, Token, lex, parse, token_text};
 
 /// Settings, with an error of each kind.
 const SETTINGS: &str = "\

@@ -3,8 +3,7 @@
 //!
 //! Each module is one example, which starts in its `run`: [`preview`] has styles and colors,
 //! [`errors`] a custom error type, [`several`] a list of diagnostics, [`files`] a custom file
-//! database, and [`config`] the front end of a language of settings. What [`several`] and
-//! [`config`] call is in [`examples_library`], by modules of the same names.
+//! database, and [`config`] the front end of a language of settings.
 #![tactic(auto)]
 
 mod config;

@@ -1,4 +1,4 @@
-use Rattle.examples_library.proofs.several.render_all.Goals as goal
+use Rattle.examples.proofs.several.render_all.Goals as goal
 
 -- the string was empty
 pub returns : goal.returns

@@ -4,7 +4,7 @@
 //! A line is empty or sets a name to a number or to a name above.
 
 ghost use Rattle.std.specs.Prelude.{◌≡◌, ◌≤◌, All, IfOk, IfSome, length, slice_get};
-ghost use Rattle.examples_library.specs.Bytes.{byte_range};
+ghost use Rattle.examples.specs.Bytes.{byte_range};
 
 use codespan_base::diagnostic::{Diagnostic, Label, LabelStyle};
 use codespan_base::files::Error;

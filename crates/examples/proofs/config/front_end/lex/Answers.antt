@@ -3,9 +3,9 @@ use Rattle.std.proofs.lemmas.Iterator.Adapters.{YieldsList-from_bytes}
 use Rattle.std.proofs.lemmas.Iterator.Consumers.{YieldsList-from_enumerate, YieldsList-turn}
 use Rattle.std.proofs.lemmas.List.Elements.{All-push}
 use Rattle.std.proofs.lemmas.List.FromFn.{get_or-enumerate_from, length-enumerate_from}
-use Rattle.examples_library.specs.declared.config.Token.{Token}
-use Rattle.examples_library.proofs.config.lex.Goals.{in-Some-take+in_ok-push, in_default}
-use Rattle.examples_library.proofs.config.lex.Goals as goal
+use Rattle.examples.specs.declared.config.front_end.Token.{Token}
+use Rattle.examples.proofs.config.front_end.lex.Goals.{in-Some-take+in_ok-push, in_default}
+use Rattle.examples.proofs.config.front_end.lex.Goals as goal
 
 -- a token that ends before the byte, if there is one, and then the token of the byte
 pub loop-index-preserved-in-loop-index : goal.loop-index-preserved-in-loop-index

@@ -1,6 +1,6 @@
 use Rattle.std.proofs.Common.{ℕ, List, drop, string_bytes}
-use Rattle.examples_library.specs.Outputs.{AreAppended}
-use Rattle.examples_library.proofs.several.append_all.Given as goal
+use Rattle.examples.specs.Outputs.{AreAppended}
+use Rattle.examples.proofs.several.append_all.Given as goal
 
 -- what is appended from here on completes the outputs of all
 abbrev pub invariant-loop-diagnostic : goal.invariant-loop-diagnostic

@@ -1,5 +1,5 @@
 use Rattle.std.proofs.Common.{drop-cons, add-one, sym, string_bytes}
-use Rattle.examples_library.proofs.several.append_all.Goals as goal
+use Rattle.examples.proofs.several.append_all.Goals as goal
 
 -- the output of this diagnostic comes first of those that are left
 pub loop-diagnostic-preserved : goal.loop-diagnostic-preserved

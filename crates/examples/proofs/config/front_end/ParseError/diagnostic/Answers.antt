@@ -1,5 +1,5 @@
 use Rattle.std.proofs.Common.{ap}
-use Rattle.examples_library.proofs.config.ParseError.diagnostic.Goals as goal
+use Rattle.examples.proofs.config.front_end.ParseError.diagnostic.Goals as goal
 
 -- the first label is the one on the token
 pub returns-in_default : goal.returns-in_default

@@ -1,5 +1,5 @@
 use Rattle.std.proofs.Common.{◌≤◌, All, length}
-use Rattle.examples_library.proofs.config.lex.Given as goal
+use Rattle.examples.proofs.config.front_end.lex.Given as goal
 
 -- the tokens so far are inside the text
 abbrev pub invariant-loop-index : goal.invariant-loop-index
