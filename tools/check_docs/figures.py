@@ -37,19 +37,18 @@ def figures_of_proofs(files):
 
 def figures_of_tests(files):
     """Of TESTING: tests."""
-    base, other, report = 'crates/codespan_base_tests/src/', 'crates/codespan_tests/src/', 'crates/report/src/tests'
+    libraries, report = 'crates/codespan_tests/src/', 'crates/report/src/tests'
 
     def tests(*beginnings):
         return files.count(r'^ *#\[test\]', *beginnings)
 
     return (
-        (TESTING, 'tests', r'^\| tests \|.*?\| (\d+),', tests(base, other, report)),
-        (TESTING, 'tests in codespan_base_tests', r'(\d+) in `codespan_base_tests`', tests(base)),
-        (TESTING, 'tests of codespan_lsp', r'(\d+) of them of `codespan_lsp`', tests(base + 'lsp')),
-        (TESTING, 'tests in codespan_tests', r'(\d+) in `codespan_tests`', tests(other)),
-        (TESTING, 'tests of the rows', r'(\d+) of them of the rows', tests(other + 'rows')),
-        (TESTING, 'tests of codespan_styled', r'^\| tests \|.*? (\d+) of `codespan_styled`', tests(other + 'styled')),
-        (TESTING, 'tests of codespan_native', r'^\| tests \|.*? (\d+) of `codespan_native`', tests(other + 'native')),
+        (TESTING, 'tests', r'^\| tests \|.*?\| (\d+),', tests(libraries, report)),
+        (TESTING, 'tests in codespan_tests', r'(\d+) in `codespan_tests`', tests(libraries)),
+        (TESTING, 'tests of codespan_lsp', r'(\d+) of them of `codespan_lsp`', tests(libraries + 'lsp')),
+        (TESTING, 'tests of the rows', r'(\d+) of the rows', tests(libraries + 'rows')),
+        (TESTING, 'tests of codespan_styled', r'^\| tests \|.*? (\d+) of `codespan_styled`', tests(libraries + 'styled')),
+        (TESTING, 'tests of codespan_native', r'^\| tests \|.*? (\d+) of `codespan_native`', tests(libraries + 'native')),
         (TESTING, 'tests in report', r'^\| tests \|.*? (\d+) in `report`', tests(report)),
         (TESTING, 'tests of the Python package', r'(\d+) tests of the package', files.count(r'^ *def test_', 'native/python/tests/')),
         (TESTING, 'tests of the tools', r'(\d+) tests of the tools', files.count(r'^ *def test_', 'tools/tests/')),
