@@ -3,7 +3,7 @@
 //! document, `gallery html NAME` as an HTML element, and `gallery terminal NAME` as text that is
 //! safe to print on a terminal. `gallery styles < CASES` writes the style sheet of HTML elements.
 //!
-//! [`gallery_script::cases`] documents the input, and `tools/gallery/README.md` how the cases of
+//! [`gallery_cases::cases`] documents the input, and `tools/gallery/README.md` how the cases of
 //! the file `stdin` and their expected outputs were made.
 //!
 //! | status | standard output | standard error |
@@ -15,8 +15,8 @@
 //! If a line of the input is wrong, the line of the error has its number, from 1.
 #![tactic(auto)]
 
+use gallery_cases::errors::GalleryError;
 use gallery_cases::run::run;
-use gallery_script::errors::GalleryError;
 use program_io::arguments::arguments;
 use program_io::run_error::{RunError, conclude};
 use std::process::ExitCode;

@@ -1,3 +1,10 @@
+-- what is parsed of escapes, and of escaped texts
+pub mod Escaping
+-- the last case, and cases parsed line by line
+pub mod LastCase
+pub mod LineByLine
+-- a line that lacks a number
+pub mod WrongLines
 -- outputs that are appended one by one
 pub mod CaseByCase
 -- what holds over the file database of a case

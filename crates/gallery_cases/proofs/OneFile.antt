@@ -3,11 +3,11 @@
 use Rattle.std.proofs.Common.{◌≡◌, ℕ, List, [], map, Result, Ok, Err, OnOk, IfOk, sym, subst}
 use Rattle.codespan_base.specs.declared.diagnostic.Diagnostic.{Diagnostic}
 use Rattle.codespan_base.specs.FileModel.{FileDatabase}
-use Rattle.gallery_script.specs.declared.case.Case.{Case}
-use Rattle.gallery_script.specs.declared.case.DatabaseKind.TheVariants.{One, Several, Mapped}
-use Rattle.gallery_script.specs.Cases.{file_view}
+use Rattle.gallery_cases.specs.declared.case.Case.{Case}
+use Rattle.gallery_cases.specs.declared.case.DatabaseKind.TheVariants.{One, Several, Mapped}
+use Rattle.gallery_cases.specs.Cases.{file_view}
 use Rattle.gallery_cases.specs.CaseOutputs.{HoldsOfCase, HoldsOfOnlyFile, HoldsOfAllFiles, Property, mapped_database, several_database, simple_database}
-use Rattle.gallery_script.specs.Database.{BorrowedFile, IsOnlyFile, borrowed_view, with_set_numbers}
+use Rattle.gallery_cases.specs.Database.{BorrowedFile, IsOnlyFile, borrowed_view, with_set_numbers}
 
 -- it holds over all files of a case
 pub over_several : (case : Case) (files : List BorrowedFile) (Holds : Property)

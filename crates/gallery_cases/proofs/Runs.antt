@@ -16,7 +16,7 @@ use Rattle.codespan_picture.proofs.StatedNames.{output_stated}
 use Rattle.codespan_styled.specs.Outputs.{EmitsRuns}
 use Rattle.codespan_styled.specs.Runs.{RunView, runs_of}
 use Rattle.gallery_cases.specs.Documents.{AreRunsOver}
-use Rattle.gallery_script.specs.Database.{BorrowedFile}
+use Rattle.gallery_cases.specs.Database.{BorrowedFile}
 
 module _ {Id : Type 0} (config : Config) (files : FileDatabase Id) (d : Diagnostic Id) where
   -- where names are stated, the runs of an output with some loci are those of the output

@@ -8,12 +8,12 @@ use Rattle.codespan_base.specs.MappedModel.{mapped_file, mapped_failure}
 use Rattle.codespan_base.specs.SimpleModel.{simple_file, simple_failure, database_file}
 use Rattle.codespan_base.specs.SimpleModel.{database_failure}
 use Rattle.codespan_views.specs.Output.{IsRendered}
-use Rattle.gallery_script.specs.declared.case.Case.{Case}
-use Rattle.gallery_script.specs.declared.case.DatabaseKind.{DatabaseKind}
-use Rattle.gallery_script.specs.declared.case.DatabaseKind.TheVariants.{One, Several, Mapped}
-use Rattle.gallery_script.specs.Cases.{file_view}
-use Rattle.gallery_script.specs.Database.{BorrowedFile, borrowed_view, with_set_numbers}
-use Rattle.gallery_script.specs.Database.{with_unit_ids}
+use Rattle.gallery_cases.specs.declared.case.Case.{Case}
+use Rattle.gallery_cases.specs.declared.case.DatabaseKind.{DatabaseKind}
+use Rattle.gallery_cases.specs.declared.case.DatabaseKind.TheVariants.{One, Several, Mapped}
+use Rattle.gallery_cases.specs.Cases.{file_view}
+use Rattle.gallery_cases.specs.Database.{BorrowedFile, borrowed_view, with_set_numbers}
+use Rattle.gallery_cases.specs.Database.{with_unit_ids}
 
 -- ---- file databases
 

@@ -11,9 +11,9 @@ use Rattle.codespan_styled.specs.Html.{html_element}
 use Rattle.codespan_styled.specs.Runs.{RunView, runs_of}
 use Rattle.codespan_styled.specs.Svg.{svg_document}
 use Rattle.codespan_styled.specs.Terminal.{terminal_text}
-use Rattle.gallery_script.specs.declared.case.Case.{Case}
-use Rattle.gallery_script.specs.declared.request.Format.{Format}
-use Rattle.gallery_script.specs.declared.request.Format.TheVariants.{Html, Svg, Terminal}
+use Rattle.gallery_cases.specs.declared.case.Case.{Case}
+use Rattle.gallery_cases.specs.declared.request.Format.{Format}
+use Rattle.gallery_cases.specs.declared.request.Format.TheVariants.{Html, Svg, Terminal}
 use Rattle.gallery_cases.specs.CaseOutputs.{HoldsOfCase}
 
 -- the runs are those of an output; no lookup fails

@@ -4,8 +4,8 @@ use Rattle.std.specs.Prelude.{OnOk, if◌then◌else◌}
 use Rattle.std.specs.List.{flat_map}
 use Rattle.codespan_base.specs.declared.files.Error.{Error}
 use Rattle.codespan_base.specs.ErrorText.{error_text}
-use Rattle.gallery_script.specs.declared.case.Case.{Case}
-use Rattle.gallery_script.specs.declared.case.ColorChoice.TheVariants.{Plain, Svg}
+use Rattle.gallery_cases.specs.declared.case.Case.{Case}
+use Rattle.gallery_cases.specs.declared.case.ColorChoice.TheVariants.{Plain, Svg}
 use Rattle.gallery_cases.specs.CaseOutputs.{IsOutput}
 use Rattle.gallery_cases.specs.Documents.{IsSvg}
 

@@ -1,49 +1,37 @@
--- The response to what the arguments request, and why a request fails.
-use Rattle.std.specs.Prelude.{◌≡◌, ℕ, List, [], Option, Some, None, IsSomeAnd, string_bytes}
-use Rattle.std.specs.Str.Lines.{lines}
-use Rattle.codespan_base.specs.StyleSpellings.{default_styles}
-use Rattle.codespan_styled.specs.StyleSheet.{style_sheet}
-use Rattle.gallery_script.specs.declared.case.Case.{Case}
-use Rattle.gallery_script.specs.declared.errors.GalleryError.{GalleryError}
-use Rattle.gallery_script.specs.declared.errors.GalleryError.TheVariants.{CannotRender, Line}
-use Rattle.gallery_script.specs.declared.errors.GalleryError.TheVariants.{UnknownCase}
-use Rattle.gallery_script.specs.declared.request.Format.{Format}
-use Rattle.gallery_script.specs.Cases.{IsFirstLineError, AppliesLines, case_named}
-use Rattle.gallery_script.specs.Requests.{GalleryRequestView}
-use Rattle.gallery_script.specs.Requests.GalleryRequestView.{All, Styles, Document}
-use Rattle.gallery_cases.specs.Galleries.{IsGallery}
-use Rattle.gallery_cases.specs.Documents.{IsDocument}
-use Rattle.program_io.specs.declared.run_error.RunError.{RunError}
-use Rattle.program_io.specs.declared.run_error.RunError.TheVariants.{Program, OutOfMemory}
+-- What the arguments request.
+use Rattle.std.specs.Prelude.{ℕ, List, [], ◌∷◌, codes, Option, Some, None, if◌then◌else◌}
+use Rattle.std.specs.Option.{option_map}
+use Rattle.std.specs.Str.{bytes_eq}
+use Rattle.gallery_cases.specs.declared.request.Format.{Format}
+use Rattle.gallery_cases.specs.declared.request.Format.TheVariants.{Html, Svg, Terminal}
+use Rattle.gallery_cases.specs.declared.request.Request.{Request}
+use Rattle.gallery_cases.specs.declared.request.Request.TheVariants as requests
 
--- the bytes are what is requested of cases
-abbrev pub IsResponseOf : GalleryRequestView → List Case → List ℕ → Type 0
-IsResponseOf All cases bytes = IsGallery cases bytes
-IsResponseOf Styles cases bytes = bytes ≡ style_sheet default_styles
-IsResponseOf (Document format name) cases bytes =
-    IsSomeAnd (case_named name cases) (λ case. IsDocument format case bytes)
+-- the format with this name
+abbrev pub format_named : List ℕ → Option Format
+format_named name =
+    if bytes_eq name (codes "svg") then Some Svg
+    else if bytes_eq name (codes "html") then Some Html
+    else if bytes_eq name (codes "terminal") then Some Terminal
+    else None
 
--- the bytes are what is requested of an input
-abbrev pub IsResponse : GalleryRequestView → List ℕ → List ℕ → Type 0
-IsResponse request input bytes =
-    (cases : List Case) × AppliesLines (lines input) [] cases × IsResponseOf request cases bytes
+-- a request: every case, the style sheet of HTML elements, or the case with a name in a format
+pub data GalleryRequestView : Type 0 where
+  All : GalleryRequestView
+  Styles : GalleryRequestView
+  Document : Format → List ℕ → GalleryRequestView
 
--- why a request of cases fails: no case has the name, rendering failed, or an allocation failed
-abbrev pub IsResponseError : GalleryRequestView → List Case → RunError GalleryError → Type 0
-IsResponseError request cases (Program (UnknownCase name)) =
-    (format : Format) × (request ≡ Document format (string_bytes name))
-    × (case_named (string_bytes name) cases ≡ None)
-IsResponseError request cases (Program (CannotRender error)) = Unit {0}
-IsResponseError request cases OutOfMemory = Unit {0}
-IsResponseError request cases _ = ⊥
+-- what the arguments request: without any, every case; with `styles`, the style sheet; with
+-- `FORMAT NAME`, the case in that format; with any others, nothing
+abbrev pub gallery_request_of : List (List ℕ) → Option GalleryRequestView
+gallery_request_of [] = Some All
+gallery_request_of (arg ∷ []) = if bytes_eq arg (codes "styles") then Some Styles else None
+gallery_request_of (format ∷ name ∷ []) =
+    option_map (λ f. Document f name) (format_named format)
+gallery_request_of (format ∷ name ∷ more ∷ rest) = None
 
--- what an error says of the input: that of a line is of the first wrong line, and no case has an
--- unknown name
-abbrev pub IsGalleryRunError : Option GalleryRequestView → RunError GalleryError → List ℕ → Type 0
-IsGalleryRunError request (Program (Line number line_error)) input =
-    IsFirstLineError (lines input) (Program (Line number line_error))
-IsGalleryRunError request (Program (UnknownCase name)) input =
-    (format : Format) × (request ≡ Some (Document format (string_bytes name)))
-    × ((cases : List Case) × AppliesLines (lines input) [] cases
-    × (case_named (string_bytes name) cases ≡ None))
-IsGalleryRunError request _ input = Unit {0}
+-- a request, its name as bytes
+abbrev pub gallery_request_view : Request → GalleryRequestView
+gallery_request_view requests.All = All
+gallery_request_view requests.Styles = Styles
+gallery_request_view (requests.Document format name) = Document format name.now

@@ -5,12 +5,12 @@ ghost use Rattle.codespan_base.specs.StyleSpellings.{default_styles};
 ghost use Rattle.codespan_styled.specs.StyleSheet.{style_sheet};
 ghost use Rattle.gallery_cases.specs.Documents.{IsDocument};
 
+use crate::case::Case;
 use crate::rendering::runs_of_case;
+use crate::request::Format;
 use codespan_base::files::Error;
 use codespan_base::term::Styles;
 use codespan_styled::{html_styles, to_html, to_svg, to_terminal};
-use gallery_script::case::Case;
-use gallery_script::request::Format;
 use std::alloc::Global;
 
 /// Renders a case in colors, whatever colors it states, and returns the document in a format.

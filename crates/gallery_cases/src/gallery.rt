@@ -1,17 +1,17 @@
 //! The output of every case, each under its name.
 
 ghost use Rattle.std.specs.Prelude.{◌≡◌, ℕ, List, ◌++◌, IfOk, OnOk};
-ghost use Rattle.gallery_script.specs.declared.case.ColorChoice.TheVariants.{Plain, Svg};
+ghost use Rattle.gallery_cases.specs.declared.case.ColorChoice.TheVariants.{Plain, Svg};
 ghost use Rattle.gallery_cases.specs.CaseOutputs.{AppendsOutput};
 ghost use Rattle.gallery_cases.specs.Documents.{AppendsSvg};
 ghost use Rattle.gallery_cases.specs.Galleries.{heading, with_escapes, IsSection, IsGallery};
 ghost use Rattle.gallery_cases.specs.Galleries.{IsErrorLine};
 
+use crate::case::{Case, ColorChoice};
 use crate::document::document;
 use crate::rendering::render;
+use crate::request::Format;
 use codespan_base::files::Error;
-use gallery_script::case::{Case, ColorChoice};
-use gallery_script::request::Format;
 use std::alloc::{AllocError, Global};
 
 /// Returns the heading and the output of each case, one after another.

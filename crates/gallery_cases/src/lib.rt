@@ -1,10 +1,21 @@
-//! What `gallery` does, over any reader and writers: cases are parsed and rendered.
+//! What `gallery` does, over any reader and writers: its arguments and the cases of its input are
+//! parsed, and the cases are rendered. A case is a diagnostic, its files and a configuration, stated
+//! by lines of a text.
 //!
-//! [`gallery_script::cases`] documents the input. `tools/gallery/README.md` says how the cases of
-//! the program's file `stdin` and their expected outputs were made.
+//! [`cases`] documents the input. `tools/gallery/README.md` says how the cases of the program's file
+//! `stdin` and their expected outputs were made.
 #![tactic(auto)]
 
+pub mod case;
+pub mod cases;
+pub mod database;
 pub mod document;
+pub mod errors;
+pub mod escape;
 pub mod gallery;
+pub mod numbers;
 pub mod rendering;
+pub mod request;
 pub mod run;
+pub mod statement;
+pub mod words;

@@ -1,20 +1,20 @@
 //! The output of a case, by the calls of the library.
 
 ghost use Rattle.std.specs.Prelude.{◌≡◌, IfOk, OnOk};
-ghost use Rattle.gallery_script.specs.declared.case.ColorChoice.TheVariants.{Plain};
+ghost use Rattle.gallery_cases.specs.declared.case.ColorChoice.TheVariants.{Plain};
 ghost use Rattle.codespan_views.specs.Output.{IsAppended};
 ghost use Rattle.codespan_picture.specs.StatedNames.{NamesAreStated};
 ghost use Rattle.codespan_styled.specs.Runs.{styled_runs};
 ghost use Rattle.gallery_cases.specs.Documents.{AreRunsOf, AreRunsOver};
 ghost use Rattle.gallery_cases.specs.CaseOutputs.{AppendsOutput};
 
+use crate::case::{Case, ColorChoice};
+use crate::database::{Database, database_of};
 use codespan_base::diagnostic::Diagnostic;
 use codespan_base::files::{Error, Files};
 use codespan_base::term::{Ansi, Styles, StylesWriter, WriteColor};
 use codespan_styled::{StyledText, styled_text};
 use codespan_views::emitting::{emit_into_string, emit_to_write_style};
-use gallery_script::case::{Case, ColorChoice};
-use gallery_script::database::{Database, database_of};
 use std::alloc::Global;
 
 /// Appends the rendered case over its files: as plain text, or in colors by escape sequences.

@@ -3,17 +3,17 @@
 ghost use Rattle.std.specs.Prelude.{◌≡◌, ◌≢◌, ◌≤◌, ◌↔◌, ℕ, List, MatchResult, None, OnOk, IfErr};
 ghost use Rattle.std.specs.Prelude.{IfOk, IfSome, IsErrAnd, IsErrOf, IsOkAnd, map, string_bytes};
 ghost use Rattle.std.specs.Io.KnownBytes.{Appends};
-ghost use Rattle.gallery_cases.specs.Requests.{IsResponse, IsResponseOf, IsGalleryRunError};
-ghost use Rattle.gallery_cases.specs.Requests.{IsResponseError};
-ghost use Rattle.gallery_script.specs.Requests.{gallery_request_of, gallery_request_view};
+ghost use Rattle.gallery_cases.specs.Responses.{IsResponse, IsResponseOf, IsGalleryRunError};
+ghost use Rattle.gallery_cases.specs.Responses.{IsResponseError};
+ghost use Rattle.gallery_cases.specs.Requests.{gallery_request_of, gallery_request_view};
 
+use crate::case::Case;
+use crate::cases::{case_named, parse_cases};
 use crate::document::{default_style_sheet, document};
+use crate::errors::GalleryError;
 use crate::gallery::render_cases;
+use crate::request::Request;
 use codespan_base::files::Error;
-use gallery_script::case::Case;
-use gallery_script::cases::{case_named, parse_cases};
-use gallery_script::errors::GalleryError;
-use gallery_script::request::Request;
 use program_io::input::read_text;
 use program_io::run_error::{RunError, conclude, write_output};
 use std::alloc::Global;

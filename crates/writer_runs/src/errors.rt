@@ -4,7 +4,7 @@ use crate::rendering::RenderCall;
 use crate::style_writers::StyleWriterKind;
 use codespan_base::files::Error;
 use codespan_base::term::DisplayStyle;
-use gallery_script::errors::LineError;
+use gallery_cases::errors::LineError;
 use program_io::input::InputError;
 use std::fmt::Write;
 use std::{fmt, io};

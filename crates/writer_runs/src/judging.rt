@@ -11,7 +11,7 @@ use codespan_base::diagnostic::Diagnostic;
 use codespan_base::files::{Error, Files};
 use codespan_base::term::{Config, DisplayStyle};
 use codespan_views::emitting::{emit_into_string, emit_to_string};
-use gallery_script::database::{Database, database_of};
+use gallery_cases::database::{Database, database_of};
 use std::alloc::Global;
 
 /// The styles in which each worked output is rendered.

@@ -7,7 +7,7 @@ use codespan_renderer::term::renderer::Renderer;
 use codespan_views::emitting::{emit, emit_to_io_write, emit_to_write_style};
 use codespan_views::rich::RichDiagnostic;
 use codespan_views::short::ShortDiagnostic;
-use gallery_script::database::Database;
+use gallery_cases::database::Database;
 use std::fmt;
 use std::io::Write;
 

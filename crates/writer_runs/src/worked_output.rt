@@ -2,8 +2,8 @@
 
 use codespan_base::files::Error;
 use codespan_base::term::{Config, DisplayStyle};
-use gallery_script::case::Case;
-use gallery_script::errors::LineError;
+use gallery_cases::case::Case;
+use gallery_cases::errors::LineError;
 use std::alloc::Global;
 
 /// Which output of a case a text is.

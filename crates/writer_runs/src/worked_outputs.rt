@@ -1,6 +1,6 @@
 //! The parser of the worked outputs.
 //!
-//! The input is that of [`gallery_script::cases`], and may have these lines too, each of which
+//! The input is that of [`gallery_cases::cases`], and may have these lines too, each of which
 //! belongs to the last case; texts are escaped as there:
 //!
 //! | line | meaning |
@@ -17,9 +17,9 @@
 use crate::errors::FatalError;
 use crate::worked_output::{TextKind, WorkedOutput};
 use codespan_base::term::Chars;
-use gallery_script::errors::LineError;
-use gallery_script::escape::unescape;
-use gallery_script::statement::{Line, Statement, parse_line};
+use gallery_cases::errors::LineError;
+use gallery_cases::escape::unescape;
+use gallery_cases::statement::{Line, Statement, parse_line};
 use program_io::fields::split_field;
 use std::alloc::Global;
 

@@ -1,9 +1,9 @@
 use Rattle.std.proofs.Common.{◌≡◌, List, [], ℕ, Some, IfSome, map, rules, string_bytes, subst, sym}
 use Rattle.std.specs.Str.Lines.{lines}
-use Rattle.gallery_script.specs.declared.case.Case.{Case}
-use Rattle.gallery_script.specs.Cases.{AppliesLines}
-use Rattle.gallery_script.specs.Requests.{gallery_request_of, gallery_request_view}
-use Rattle.gallery_cases.specs.Requests.{IsResponseOf, IsGalleryRunError, IsResponseError}
+use Rattle.gallery_cases.specs.declared.case.Case.{Case}
+use Rattle.gallery_cases.specs.Cases.{AppliesLines}
+use Rattle.gallery_cases.specs.Requests.{gallery_request_of, gallery_request_view}
+use Rattle.gallery_cases.specs.Responses.{IsResponseOf, IsGalleryRunError, IsResponseError}
 use Rattle.gallery_cases.proofs.Outcomes.{responded, requested, failed}
 use Rattle.gallery_cases.proofs.run.respond.Given.{Over}
 use Rattle.gallery_cases.proofs.run.respond.Goals.{After-as_slice}

@@ -1,7 +1,7 @@
 use Rattle.std.proofs.Common.{◌≡◌, ℕ, List, Option, Result, Ok, Err, IfOk, MatchResult, Vec, Global, string_bytes, subst, sym}
 use Rattle.std.specs.Prelude.{IsOkAnd, IsSomeAnd}
-use Rattle.gallery_script.specs.declared.case.Case.{Case}
-use Rattle.gallery_script.specs.Cases.{case_named}
+use Rattle.gallery_cases.specs.declared.case.Case.{Case}
+use Rattle.gallery_cases.specs.Cases.{case_named}
 use Rattle.gallery_cases.specs.Documents.{IsDocument}
 use Rattle.gallery_cases.proofs.run.response.Goals as goal
 

@@ -1,0 +1,88 @@
+-- For the clauses of `cases::apply_to_last` and `Case::continue_source`: the last one of several,
+-- and what is done to it.
+use Rattle.std.proofs.Common.{zero, suc, ◌≡◌, ◌+◌, ◌-◌, ◌<◌, ℕ, List, [], ◌∷◌, ◌++◌, length, map, Result, Ok, Err, OnOk, IfErr, refl, sym, ◌∙◌, ap, subst, inl, inr, ◌⊎◌, arith, string_bytes, String, Global}
+use Rattle.std.proofs.lemmas.List.{map-append}
+use Rattle.std.specs.Prelude.{slice_set, slice_index_or}
+use Rattle.gallery_cases.specs.declared.case.Case.{Case}
+use Rattle.gallery_cases.specs.declared.case.File.{File}
+use Rattle.gallery_cases.specs.declared.errors.LineError.{LineError}
+use Rattle.gallery_cases.specs.declared.errors.LineError.TheVariants.{NoFile, OutOfMemory}
+use Rattle.gallery_cases.specs.declared.statement.Statement.{Statement}
+use Rattle.gallery_cases.specs.Cases.{Applies, AppliesToLast, FailsAtLast, IsSource, ContinuesSource, file_view}
+
+-- a list is the elements before the last one, and that one; the last one can be set
+pub record IsLast {X : Type 0} (xs : List X) (k : ℕ) (old new : X) : Type 0 where
+  pub front : List X
+  pub was : xs ≡ front ++ old ∷ []
+  pub is : slice_set xs k new ≡ front ++ new ∷ []
+
+-- the element at the last index is the last one
+pub last_one : {X : Type 0} (xs : List X) (k : ℕ) (old new : X) → k + 1 ≡ length xs
+    → old ≡ slice_index_or xs k old → IsLast xs k old new
+last_one [] k old new count at = absurd (omega arith)
+last_one (x ∷ []) zero old new count at =
+    record { front = []; was = ap (λ y. y ∷ []) (sym at); is = refl }
+last_one (x ∷ y ∷ ys) zero old new count at = absurd (omega arith)
+last_one (x ∷ xs) (suc k) old new count at =
+    let left : IsLast xs k old new = last_one xs k old new (omega arith) at in
+    record {
+      front =
+          x ∷ left.front;
+      was = ap (λ ys. x ∷ ys) left.was;
+      is = ap (λ ys. x ∷ ys) left.is;
+    }
+
+-- the statement has been applied to the last case
+pub last_applied : (cases : List Case) (n : ℕ) (statement : Statement) (old new : Case)
+    (r : Result (Unit {0}) LineError)
+    → n ≡ length cases → 0 < n → old ≡ slice_index_or cases (n - 1) old
+    → OnOk r (Applies statement old new)
+    → OnOk r (AppliesToLast statement cases (slice_set cases (n - 1) new))
+last_applied cases n statement old new (Ok done) count some at applied =
+    let last : IsLast cases (n - 1) old new = last_one cases (n - 1) old new (omega arith) at in
+    record {
+      front =
+          last.front;
+      old = old;
+      new = new;
+      was = last.was;
+      is = last.is;
+      applied = applied;
+    }
+last_applied cases n statement old new (Err line_error) count some at applied = tt
+
+-- the statement could not be applied to the last case
+pub last_failed : (cases : List Case) (n : ℕ) (statement : Statement) (old : Case)
+    (r : Result (Unit {0}) LineError)
+    → n ≡ length cases → 0 < n → old ≡ slice_index_or cases (n - 1) old
+    → IfErr r
+    (λ line_error. (line_error ≡ OutOfMemory)
+    ⊎ ((line_error ≡ NoFile) × IsSource statement × (old.files.items ≡ [])))
+    → IfErr r (FailsAtLast statement cases)
+last_failed cases n statement old (Ok done) count some at failed = tt
+last_failed cases n statement old (Err line_error) count some at (inl memory) =
+    subst (FailsAtLast statement cases) (sym memory) tt
+last_failed cases n statement old (Err line_error) count some at (inr no_file) =
+    let last : IsLast cases (n - 1) old old = last_one cases (n - 1) old old (omega arith) at in
+    subst (FailsAtLast statement cases) (sym no_file.0)
+    (no_file.1, (last.front, old, last.was, no_file.2))
+
+-- the text continues the last file
+pub last_continues : (files : List File) (n : ℕ) (text : List ℕ) (old : File)
+    (source : String Global)
+    → n ≡ length files → 0 < n → old ≡ slice_index_or files (n - 1) old
+    → string_bytes source ≡ string_bytes old.source ++ text
+    → ContinuesSource text (map file_view files)
+    (map file_view (slice_set files (n - 1) (record { name = old.name; source = source })))
+last_continues files n text old source count some at is =
+    let new : File = record { name = old.name; source = source } in
+    let last : IsLast files (n - 1) old new = last_one files (n - 1) old new (omega arith) at in
+    record {
+      front = map file_view last.front;
+      name = string_bytes old.name;
+      source = string_bytes old.source;
+      was = ap (map file_view) last.was ∙ map-append file_view last.front (old ∷ []);
+      is =
+          ap (map file_view) last.is ∙ map-append file_view last.front (new ∷ [])
+          ∙ ap (λ bytes. map file_view last.front ++ (string_bytes old.name, bytes) ∷ []) is;
+    }

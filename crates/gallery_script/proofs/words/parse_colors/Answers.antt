@@ -1,8 +1,0 @@
-use Rattle.std.proofs.Common.{refl}
-use Rattle.gallery_script.specs.Words.{colors_named}
-use Rattle.gallery_script.proofs.words.parse_colors.Goals as goal
-
--- the colors of the word `svg`
-pub returns-in-svg : goal.returns-in-svg
-unfolding colors_named
-returns-in-svg c = rw c.in-svg.is refl
