@@ -48,7 +48,7 @@ class Copies(VendorCase):
     def test_further_libraries(self):
         self.vendor(self.dest, 'codespan_lsp', 'codespan_styled', says='6 libraries')
         self.assertEqual(self.there()['crates.txt'], f'{BEGIN}{LINES}{STYLED_LINES}{LSP_LINES}{END}')
-        self.assertIn('crates/codespan_documents/src/lib.rt', self.there())
+        self.assertIn('crates/codespan_forms/src/lib.rt', self.there())
 
     def test_lines_before(self):
         self.put_there('crates.txt', '# mine\nfirst:\n')
@@ -106,9 +106,9 @@ class Updates(VendorCase):
 
     def test_all_kinds_of_changes(self):
         self.vendor(self.dest, 'codespan_styled')
-        self.change('crates.txt', 'codespan_base codespan_documents', 'codespan_base codespan_inks')
-        self.change('crates.txt', 'codespan_documents: codespan_core', 'codespan_inks:')
-        git(self.top, 'mv', 'crates/codespan_documents', 'crates/codespan_inks')
+        self.change('crates.txt', 'codespan_base codespan_forms', 'codespan_base codespan_inks')
+        self.change('crates.txt', 'codespan_forms: codespan_core', 'codespan_inks:')
+        git(self.top, 'mv', 'crates/codespan_forms', 'crates/codespan_inks')
         git(self.top, 'rm', '-q', 'crates/codespan_core/src/sums/more.rt')
         self.put(CORE, '// changed\n')
         self.put('crates/codespan_base/src/added.rt', '// added\n')
@@ -118,14 +118,14 @@ class Updates(VendorCase):
             'crates/codespan_base/src/added.rt: missing there',
             f'{CORE}: different',
             'crates/codespan_core/src/sums/more.rt: only there',
-            'crates/codespan_documents/src/lib.rt: only there',
+            'crates/codespan_forms/src/lib.rt: only there',
             'crates/codespan_inks/src/lib.rt: missing there',
             f'{HOME}/LICENSE: different',
             'crates.txt: the lines of the libraries',
         )
         self.vendor(self.dest, says='5 libraries: 4 files written, 2 removed, 8 unchanged')
         self.assert_is_fresh_copy('codespan_styled')
-        for folder in ('crates/codespan_core/src/sums', 'crates/codespan_documents'):
+        for folder in ('crates/codespan_core/src/sums', 'crates/codespan_forms'):
             self.assertFalse((self.dest / folder).exists(), folder)
 
     def test_what_rt_makes(self):

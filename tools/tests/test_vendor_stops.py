@@ -60,9 +60,9 @@ class OthersCrates(VendorCase):
 
     def test_folder_of_a_new_library(self):
         self.vendor(self.dest)
-        self.change('crates.txt', 'codespan_base: codespan_core', 'codespan_base: codespan_core codespan_documents')
-        self.put_there('crates/codespan_documents/src/lib.rt', '// mine\n')
-        self.assert_stops_also_by_force(self.dest, says='crates/codespan_documents, which')
+        self.change('crates.txt', 'codespan_base: codespan_core', 'codespan_base: codespan_core codespan_forms')
+        self.put_there('crates/codespan_forms/src/lib.rt', '// mine\n')
+        self.assert_stops_also_by_force(self.dest, says='crates/codespan_forms, which')
 
     def test_folder_that_only_rt_wrote(self):
         self.put_there('crates/codespan_base/out/kept', '')
@@ -81,9 +81,9 @@ class OthersCrates(VendorCase):
 
     def test_user_of_a_library_that_is_dropped(self):
         self.vendor(self.dest, 'codespan_styled')
-        self.put_there('crates.txt', self.there()['crates.txt'] + 'first: codespan_base codespan_documents # and no other\n')
+        self.put_there('crates.txt', self.there()['crates.txt'] + 'first: codespan_base codespan_forms # and no other\n')
         self.assert_stops_also_by_force('--drop', 'codespan_styled', self.dest,
-                                        says='crates.txt: first uses codespan_documents, which this run would remove: change these lines first')
+                                        says='crates.txt: first uses codespan_forms, which this run would remove: change these lines first')
         self.vendor(self.dest)
 
     def test_user_of_a_library_that_is_gone_here(self):

@@ -14,8 +14,8 @@ codespan_base: codespan_core
 codespan_reporting: codespan_base
 '''
 STYLED_LINES = '''\
-codespan_documents: codespan_core
-codespan_styled: codespan_base codespan_documents
+codespan_forms: codespan_core
+codespan_styled: codespan_base codespan_forms
 '''
 LSP_LINES = '''\
 codespan_lsp: codespan_base
@@ -52,7 +52,7 @@ class VendorCase(TreeCase):
         'crates/codespan_base/src/lib.rt': '// base\n',
         'crates/codespan_base/specs/Sums.antt': '-- definitions\n',
         'crates/codespan_base/proofs/Sums.antt': '-- proofs\n',
-        'crates/codespan_documents/src/lib.rt': '// documents\n',
+        'crates/codespan_forms/src/lib.rt': '// forms\n',
         'crates/codespan_styled/src/lib.rt': '// styled\n',
         'crates/codespan_lsp/src/lib.rt': '// lsp\n',
         'crates/all_tests/src/lib.rt': '// tests\n',

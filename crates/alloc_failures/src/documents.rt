@@ -3,7 +3,7 @@
 //! No expected text rests on what these libraries return. The SVG document is the one that
 //! another program makes by the rules of the format: `document` of `tools/gallery/inks.py`. The
 //! others are by hand: the element and the text for a terminal by the tables of `docs/STYLED.md`
-//! and `docs/TERMINAL.md`, the style sheet by `style_sheet` of `codespan_documents`, and the
+//! and `docs/TERMINAL.md`, the style sheet by `style_sheet` of `codespan_styled`, and the
 //! diagnostic by `docs/LSP.md`.
 
 use crate::outcome::{Outcome, judge_failure, judge_success, judge_value};

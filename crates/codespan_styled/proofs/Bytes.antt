@@ -8,9 +8,9 @@ use Rattle.std.proofs.Math.Utf8.{scalar, scalar_cases}
 use Rattle.std.proofs.lemmas.Bool.{cond_both}
 use Rattle.std.proofs.lemmas.Bool.Decides.{nat_tests}
 use Rattle.std.proofs.lemmas.Str.{IsUtf8-string_bytes}
-use Rattle.codespan_documents.specs.declared.text.Run.{Run}
+use Rattle.codespan_styled.specs.declared.text.Run.{Run}
 use Rattle.codespan_styled.specs.Private.Recorded.{TextsAreBytes, AreBytes}
-use Rattle.codespan_documents.specs.Runs.{run_view}
+use Rattle.codespan_styled.specs.Runs.{run_view}
 
 -- bytes, one list after another
 AreBytes-append : (xs bs : List ℕ) → AreBytes xs → AreBytes bs → AreBytes (xs ++ bs)

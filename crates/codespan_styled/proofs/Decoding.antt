@@ -14,7 +14,7 @@ use Rattle.codespan_base.specs.declared.term.config.style_mark.StyleMark.TheVari
 use Rattle.codespan_base.specs.declared.term.config.style_mark.StyleMark.TheVariants.{Label, Reset}
 use Rattle.codespan_base.specs.Streams.{Stream, Byte, Mark, Slot, spelled, text_of}
 use Rattle.codespan_styled.specs.Private.Recorded.{TextsAreBytes, AreBytes, recorded_runs, style_number, style_spelling}
-use Rattle.codespan_documents.specs.Runs.{RunView, joined, runs_from, runs_of}
+use Rattle.codespan_styled.specs.Runs.{RunView, joined, runs_from, runs_of}
 
 -- a run
 abbrev run_of : StyleMark → List ℕ → RunView

@@ -5,9 +5,9 @@ use Rattle.std.proofs.lemmas.List.{map-append}
 use Rattle.codespan_base.specs.WriterLaw.{PrefixAppended, extended, AppendsBytes}
 use Rattle.codespan_styled.specs.declared.recorder.Recorder.{Recorder}
 use Rattle.codespan_base.specs.declared.term.config.style_mark.StyleMark.{StyleMark}
-use Rattle.codespan_documents.specs.declared.text.Run.{Run}
+use Rattle.codespan_styled.specs.declared.text.Run.{Run}
 use Rattle.codespan_styled.specs.Private.Recorded.{ended_runs, recorded_run, recorded_runs, recorded, style_number}
-use Rattle.codespan_documents.specs.Runs.{run_view}
+use Rattle.codespan_styled.specs.Runs.{run_view}
 
 -- bytes that the last run takes are recorded last
 pub recorded-bytes : (front : List ℕ) (n : ℕ) (old new bytes : List ℕ) → new ≡ old ++ bytes

@@ -17,9 +17,9 @@ use Rattle.codespan_views.specs.Output.{IsEmitError}
 use Rattle.codespan_views.specs.WriteCalls.{WritesStyled}
 use Rattle.codespan_base.specs.declared.term.config.style_mark.StyleMark.{StyleMark}
 use Rattle.codespan_base.specs.declared.term.config.style_mark.StyleMark.TheVariants.{Reset}
-use Rattle.codespan_documents.specs.declared.text.StyledText.{StyledText}
+use Rattle.codespan_styled.specs.declared.text.StyledText.{StyledText}
 use Rattle.codespan_styled.specs.Private.Recorded.{recorded_runs, style_number, style_spelling}
-use Rattle.codespan_documents.specs.Runs.{TextsAreUtf8, joined, runs_from, styled_runs}
+use Rattle.codespan_styled.specs.Runs.{TextsAreUtf8, joined, runs_from, styled_runs}
 use Rattle.codespan_styled.proofs.Bytes.{runs-bytes, utf8-bytes}
 use Rattle.codespan_styled.proofs.Decoding.{joined_runs, runs_of_recorded}
 use Rattle.codespan_styled.specs.Outputs.{AreRuns, EmitsRuns, RunsAreUtf8, output_at}

@@ -1,13 +1,18 @@
--- re-exports: runs, the documents, and text for a terminal
-pub use Rattle.codespan_documents.specs.Runs
-pub use Rattle.codespan_documents.specs.Html
-pub use Rattle.codespan_documents.specs.HtmlReading
-pub use Rattle.codespan_documents.specs.StyleSheet
-pub use Rattle.codespan_documents.specs.Inks
-pub use Rattle.codespan_documents.specs.Glyphs
-pub use Rattle.codespan_documents.specs.Svg
-pub use Rattle.codespan_documents.specs.SvgReading
-pub use Rattle.codespan_terminal.specs.Terminal
+-- text in runs
+pub mod Runs
+-- the cells of characters
+pub mod Cells
+-- HTML: the element, what a reader finds in it, and its style sheet
+pub mod Html
+pub mod HtmlReading
+pub mod StyleSheet
+-- SVG: inks, characters in their cells, the document, and what a reader finds in it
+pub mod Inks
+pub mod Glyphs
+pub mod Svg
+pub mod SvgReading
+-- text for a terminal
+pub mod Terminal
 -- the runs of a diagnostic
 pub mod Outputs
 -- definitions that private calls and proofs use

@@ -9,7 +9,7 @@ use Rattle.codespan_picture.specs.Utf8Laws.{CharsAreScalars}
 use Rattle.codespan_picture.specs.OutputStreams.{AreLoci, NamesAreUtf8, output}
 use Rattle.codespan_picture.specs.Rows.{Locus}
 use Rattle.codespan_views.specs.Output.{IsEmitError, Succeeds}
-use Rattle.codespan_documents.specs.Runs.{TextsAreUtf8, RunView, joined, runs_of}
+use Rattle.codespan_styled.specs.Runs.{TextsAreUtf8, RunView, joined, runs_of}
 
 module _ {Id : Type 0} (config : Config) (files : FileDatabase Id) (d : Diagnostic Id) where
   -- the output with these loci, in the configuration's style

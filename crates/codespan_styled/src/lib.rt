@@ -5,12 +5,19 @@
 //! [`to_svg`] a document, and [`to_terminal`] a text that is safe to print.
 #![tactic(auto)]
 
+mod cells;
+pub mod html;
 mod recorder;
 pub mod render;
+pub mod style_sheet;
+pub mod svg;
+pub mod terminal;
+pub mod text;
 
-pub use codespan_documents::{
-    Run, StyleMark, StyledText, html, html_styles, style_sheet, svg, text, to_html, to_svg,
-};
-pub use codespan_terminal::terminal;
-pub use codespan_terminal::terminal::to_terminal;
+pub use codespan_base::term::config::style_mark::StyleMark;
+pub use html::to_html;
 pub use render::styled_text;
+pub use style_sheet::html_styles;
+pub use svg::to_svg;
+pub use terminal::to_terminal;
+pub use text::{Run, StyledText};

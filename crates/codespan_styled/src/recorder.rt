@@ -5,15 +5,15 @@ ghost use Rattle.codespan_base.specs.Streams.{style_mark};
 ghost use Rattle.codespan_base.specs.declared.term.config.style_mark.StyleMark.TheVariants.{Reset};
 ghost use Rattle.codespan_base.specs.WriterLaw.{Writes, AppendsBytes};
 ghost use Rattle.codespan_base.specs.Writers.{fresh_sink};
-ghost use Rattle.codespan_documents.specs.Runs.{styled_runs};
+ghost use Rattle.codespan_styled.specs.Runs.{styled_runs};
 ghost use Rattle.codespan_styled.specs.Private.Recorded.{recorded_runs, style_number};
 ghost use Rattle.codespan_styled.specs.Private.Recorded.{style_spelling};
 
+use crate::text::{Run, StyledText};
 use codespan_base::diagnostic::{LabelStyle, Severity};
 use codespan_base::files::Error;
 use codespan_base::term::WriteStyle;
 use codespan_base::term::config::style_mark::StyleMark;
-use codespan_documents::text::{Run, StyledText};
 use std::alloc::Global;
 use std::io::{ErrorKind, Write};
 use std::{io, str};

@@ -1,15 +1,15 @@
 //! The output of a diagnostic as runs of text, each in one style.
 
-ghost use Rattle.codespan_documents.specs.Runs.{styled_runs};
+ghost use Rattle.codespan_styled.specs.Runs.{styled_runs};
 ghost use Rattle.codespan_styled.specs.Outputs.{EmitsRuns};
 
 pub mod laws;
 
 use crate::recorder::Recorder;
+use crate::text::StyledText;
 use codespan_base::diagnostic::Diagnostic;
 use codespan_base::files::{Error, Files};
 use codespan_base::term::Config;
-use codespan_documents::text::StyledText;
 use codespan_picture::scalar_chars::chars_are_scalars;
 use codespan_views::emitting::emit_to_write_style;
 use std::alloc::Global;

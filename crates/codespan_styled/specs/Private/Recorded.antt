@@ -17,7 +17,7 @@ use Rattle.codespan_base.specs.declared.term.config.style_mark.StyleMark.TheVari
 use Rattle.codespan_base.specs.Streams.{Spelling}
 use Rattle.codespan_base.specs.WriterLaw.{Sink}
 use Rattle.codespan_styled.specs.declared.recorder.Recorder.{Recorder}
-use Rattle.codespan_documents.specs.Runs.{RunView, run_view}
+use Rattle.codespan_styled.specs.Runs.{RunView, run_view}
 
 -- ---- bytes
 

@@ -1,4 +1,0 @@
-use Rattle.codespan_documents.proofs.html.push_span_end.Goals as goal
-
-pub returns : goal.returns
-returns c = c.in_ok-push_str.ensures.bytes

@@ -1,9 +1,0 @@
-pub mod Runs
-pub mod Cells
-pub mod Html
-pub mod HtmlReading
-pub mod StyleSheet
-pub mod Inks
-pub mod Glyphs
-pub mod Svg
-pub mod SvgReading

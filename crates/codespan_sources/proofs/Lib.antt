@@ -1,3 +1,0 @@
-pub mod FileLines
-pub mod Lookups
-pub mod Searches

@@ -1,4 +1,0 @@
--- which argument is invalid
-pub mod FirstInvalid
--- files
-pub mod Views

@@ -1,0 +1,47 @@
+-- Texts and runs that are appended to an element one by one: for the clause `element` of
+-- `to_html`.
+use Rattle.std.proofs.Common.{◌≡◌, ℕ, List, [], ◌∷◌, ◌++◌, length, map, sym, ap, ◌∙◌, append_assoc}
+use Rattle.std.proofs.Common.{append-nil, arith, codes, refl}
+use Rattle.std.specs.Char.{encode_utf8}
+use Rattle.std.specs.List.{flat_map}
+use Rattle.std.specs.Str.{IsUtf8}
+use Rattle.std.proofs.lemmas.Str.{chars-nil, chars_past_char}
+use Rattle.codespan_styled.specs.declared.text.Run.{Run}
+use Rattle.codespan_styled.specs.Html.{escaped_text, html_cell, html_element, html_run}
+use Rattle.codespan_styled.specs.Html.{html_span, span_tag}
+use Rattle.codespan_styled.specs.Runs.{run_view}
+
+-- a character of the text that is left
+pub text-more : (front next whole rest more : List ℕ) (c : ℕ) → IsUtf8 rest
+    → rest ≡ encode_utf8 c ++ more → next ≡ front ++ html_cell c
+    → front ++ escaped_text rest ≡ whole
+    → next ++ escaped_text more ≡ whole
+text-more front next whole rest more c u e is before =
+    ap (λ f. f ++ escaped_text more) is ∙ append_assoc front (html_cell c) (escaped_text more)
+    ∙ ap (λ cs. front ++ flat_map html_cell cs) (sym (chars_past_char rest more c u e))
+    ∙ before
+
+-- no text is left
+pub text-end : (front whole rest : List ℕ) → length rest ≡ 0 → front ++ escaped_text rest ≡ whole
+    → front ≡ whole
+text-end front whole [] none before =
+    sym (append-nil front) ∙ ap (λ cs. front ++ flat_map html_cell cs) (sym chars-nil) ∙ before
+text-end front whole (b ∷ rest) none before = absurd (omega arith)
+
+regrouped : (front tag content end : List ℕ)
+    → ((front ++ tag) ++ content) ++ end ≡ front ++ ((tag ++ content) ++ end)
+regrouped front tag content end = simp append_assoc
+
+-- a `span` of a class
+pub span-written : (front b1 b2 b3 class named content : List ℕ) → named ≡ class
+    → b1 ≡ front ++ span_tag named → b2 ≡ b1 ++ content → b3 ≡ b2 ++ codes "</span>"
+    → b3 ≡ front ++ html_span class content
+span-written front b1 b2 b3 class named content is e1 e2 e3 =
+    rw (e3, e2, e1, is) (regrouped front (span_tag class) content (codes "</span>"))
+
+-- the whole element
+pub element-written : (runs slice : List Run) (b0 b1 b2 b3 : List ℕ) → b0 ≡ []
+    → b1 ≡ b0 ++ codes "<pre class=\"diagnostic\">\n" → slice ≡ runs
+    → b2 ≡ b1 ++ flat_map html_run (map run_view slice)
+    → b3 ≡ b2 ++ codes "</pre>" → b3 ≡ html_element (map run_view runs)
+element-written runs slice b0 b1 b2 b3 e0 e1 same e2 e3 = rw (e3, e2, same, e1, e0) refl

@@ -1,0 +1,222 @@
+-- An SVG document reads back as its tags and its text: for the clauses `tokens` and `text` of
+-- `to_svg`.
+use Rattle.std.proofs.Common.{◌≡◌, ℕ, ◌+◌, true, false, List, [], ◌∷◌, ◌++◌, map, codes, refl, sym}
+use Rattle.std.proofs.Common.{ap, ◌∙◌, append_assoc, append-nil}
+use Rattle.std.specs.Prelude.{Bool, ◌==◌, if◌then◌else◌}
+use Rattle.std.specs.Char.{encode_utf8}
+use Rattle.std.specs.List.{flat_map}
+use Rattle.std.specs.Str.{chars}
+use Rattle.std.proofs.lemmas.Bool.{or_parts}
+use Rattle.std.proofs.lemmas.List.{map-append}
+use Rattle.codespan_base.specs.declared.term.config.styles.Styles.{Styles}
+use Rattle.codespan_styled.specs.declared.svg.glyph.Glyph.{Glyph}
+use Rattle.codespan_styled.specs.declared.svg.ink.Ink.{Ink}
+use Rattle.codespan_styled.specs.declared.svg.Pen.{Pen}
+use Rattle.codespan_styled.specs.Glyphs.{cells_of, extent_from, follows, glyphs_of}
+use Rattle.codespan_styled.specs.Glyphs.{glyphs_of_run, joins_next, is_white_space, joined_cells}
+use Rattle.codespan_styled.specs.Glyphs.{start}
+use Rattle.codespan_styled.specs.HtmlReading.{InText, Token, Tag, TextByte, read_tokens, tokens_from, text_of_tokens}
+use Rattle.codespan_styled.specs.Runs.{RunView, run_characters}
+use Rattle.codespan_styled.specs.Svg.{first_pen, glyph_text, background_tag_content, next_pen, svg_document, svg_tag_content, text_tag_content, text_tag, texts_from, xml_character}
+use Rattle.codespan_styled.specs.SvgReading.{piece_tokens, pieces_from, svg_tokens, shown_in_svg, shown_svg_text}
+use Rattle.codespan_styled.proofs.HtmlReading.{text_of-append, text_of-bytes}
+use Rattle.codespan_styled.proofs.SvgPieces.{glyph_tokens, tokens_of_glyphs, tokens_of_pieces, two_ifs}
+use Rattle.codespan_styled.proofs.SvgElements.{is_inside, text-inside, svg-inside, tag-read}
+use Rattle.codespan_styled.proofs.SvgElements.{character-read, white-space-read}
+use Rattle.codespan_styled.proofs.SvgElements.{white-space-shown}
+
+-- ---- glyphs
+
+-- what ends with a token reads as that token and what is after it
+ended-read : (t : Bool) (rest : List ℕ)
+    → tokens_from InText
+    ((if t then [] else codes "</text>") ++ rest) ≡ (if t then [] else Tag (codes "/text") ∷ [])
+    ++ tokens_from InText rest
+ended-read true rest = refl
+ended-read false rest = refl
+
+prefix-read : (t : Bool) (content rest : List ℕ) → is_inside content ≡ true
+    → tokens_from InText
+    ((if t then [] else codes "<" ++ content ++ codes ">") ++ rest)
+    ≡ (if t then [] else Tag content ∷ []) ++ tokens_from InText rest
+prefix-read true content rest h = refl
+prefix-read false content rest h = tag-read content rest h
+
+-- a glyph that is no white space
+character-glyph : (pen : Pen) (glyph : Glyph) (others : List Glyph) (rest : List ℕ)
+    → is_white_space glyph ≡ false
+    → tokens_from InText
+    (((if follows pen.before glyph then []
+    else text_tag pen.position (cells_of glyph + joined_cells glyph others) glyph.ink) ++ xml_character glyph.character ++ (if joins_next glyph others then [] else codes "</text>")) ++ rest)
+    ≡ ((if follows pen.before glyph then []
+    else Tag (text_tag_content pen.position (cells_of glyph + joined_cells glyph others) glyph.ink) ∷ []) ++ map TextByte (shown_in_svg glyph.character) ++ (if joins_next glyph others then [] else Tag (codes "/text") ∷ []))
+    ++ tokens_from InText rest
+character-glyph pen glyph others rest shown_glyph =
+    let content =
+    text_tag_content pen.position (cells_of glyph + joined_cells glyph others) glyph.ink in
+    let prefix = if follows pen.before glyph then [] else codes "<" ++ content ++ codes ">" in
+    let character = xml_character glyph.character in
+    let ended = if joins_next glyph others then [] else codes "</text>" in
+    let opening_tokens : List Token = if follows pen.before glyph then [] else Tag content ∷ [] in
+    let shown : List Token = map TextByte (shown_in_svg glyph.character) in
+    let ended_tokens : List Token =
+    if joins_next glyph others then [] else Tag (codes "/text") ∷ [] in
+    ap (tokens_from InText)
+    (append_assoc (prefix ++ character) ended rest
+    ∙ append_assoc prefix character (ended ++ rest))
+    ∙ prefix-read (follows pen.before glyph) content (character ++ (ended ++ rest))
+    (text-inside pen.position (cells_of glyph + joined_cells glyph others) glyph.ink)
+    ∙ ap (λ (tokens : List Token). opening_tokens ++ tokens)
+    (character-read glyph.character (ended ++ rest)
+    (or_parts (glyph.character == 10) (glyph.character == 32) shown_glyph).0
+    ∙ ap (λ (tokens : List Token). shown ++ tokens) (ended-read (joins_next glyph others) rest))
+    ∙ sym (append_assoc opening_tokens shown (ended_tokens ++ tokens_from InText rest))
+    ∙ sym (append_assoc (opening_tokens ++ shown) ended_tokens (tokens_from InText rest))
+
+glyph-read : (pen : Pen) (glyph : Glyph) (others : List Glyph) (rest : List ℕ)
+    → tokens_from InText (glyph_text pen glyph others ++ rest) ≡ glyph_tokens pen glyph
+    others ++ tokens_from InText rest
+glyph-read pen glyph others rest =
+    two_ifs (is_white_space glyph) (encode_utf8 glyph.character)
+    ((if follows pen.before glyph then []
+    else text_tag pen.position (cells_of glyph + joined_cells glyph others) glyph.ink) ++ xml_character glyph.character ++ (if joins_next glyph others then [] else codes "</text>"))
+    (TextByte glyph.character ∷ [])
+    ((if follows pen.before glyph then []
+    else Tag (text_tag_content pen.position (cells_of glyph + joined_cells glyph others) glyph.ink) ∷ []) ++ map TextByte (shown_in_svg glyph.character) ++ (if joins_next glyph others then [] else Tag (codes "/text") ∷ []))
+    (λ bytes tokens. tokens_from InText (bytes ++ rest) ≡ tokens ++ tokens_from InText rest)
+    (white-space-read glyph.character rest) (character-glyph pen glyph others rest)
+
+glyphs-read : (pen : Pen) (glyphs : List Glyph) (rest : List ℕ)
+    → tokens_from InText (texts_from pen glyphs ++ rest) ≡ tokens_of_glyphs pen
+    glyphs ++ tokens_from InText rest
+glyphs-read pen [] rest = refl
+glyphs-read pen (glyph ∷ glyphs) rest =
+    ap (tokens_from InText)
+    (append_assoc (glyph_text pen glyph glyphs) (texts_from (next_pen pen glyph) glyphs) rest)
+    ∙ glyph-read pen glyph glyphs (texts_from (next_pen pen glyph) glyphs ++ rest)
+    ∙ ap (λ (tokens : List Token). glyph_tokens pen glyph glyphs ++ tokens)
+    (glyphs-read (next_pen pen glyph) glyphs rest)
+    ∙ sym
+    (append_assoc (glyph_tokens pen glyph glyphs) (tokens_of_glyphs (next_pen pen glyph) glyphs)
+    (tokens_from InText rest))
+
+-- ---- documents
+
+regrouped : (lt head gt line background end texts last : List ℕ)
+    → (((((lt ++ head) ++ (gt ++ line)) ++ background) ++ end) ++ texts) ++ last
+    ≡ ((lt ++ head) ++ gt) ++ (((line ++ background) ++ end) ++ (texts ++ last))
+regrouped lt head gt line background end texts last = simp append_assoc
+
+-- the document of glyphs reads back
+pub svg-read : (glyphs : List Glyph) → read_tokens (svg_document glyphs) ≡ svg_tokens glyphs
+unfolding background_tag_content
+svg-read glyphs =
+    let head = svg_tag_content (extent_from start glyphs) in
+    let texts = texts_from first_pen glyphs in
+    let last = codes "</svg>\n" in
+    let pieces : List Token = flat_map piece_tokens (pieces_from first_pen glyphs) in
+    let whole : svg_document glyphs ≡ (codes "<" ++ head ++ codes ">")
+    ++ (codes "\n<" ++ background_tag_content ++ codes ">\n" ++ (texts ++ last)) =
+    regrouped (codes "<") head (codes ">") (codes "\n<") background_tag_content (codes ">\n") texts
+    last in
+    let inner : tokens_from InText (texts ++ last) ≡ pieces ++ Tag (codes "/svg") ∷ TextByte 10
+    ∷ [] =
+    glyphs-read first_pen glyphs last
+    ∙ ap (λ (tokens : List Token). tokens ++ tokens_from InText last)
+    (tokens_of_pieces glyphs) in
+    ap read_tokens whole
+    ∙ tag-read head (codes "\n<" ++ background_tag_content ++ codes ">\n" ++ (texts ++ last))
+    (svg-inside (extent_from start glyphs))
+    ∙ ap
+    (λ (tokens : List Token). Tag head ∷ TextByte 10 ∷ Tag background_tag_content ∷ TextByte 10
+    ∷ tokens)
+    inner
+
+-- ---- text
+
+-- the text of the tokens of a glyph
+glyph-text : (pen : Pen) (glyph : Glyph) (others : List Glyph)
+    → text_of_tokens (glyph_tokens pen glyph others) ≡ shown_in_svg glyph.character
+glyph-text pen glyph others = at (is_white_space glyph) refl
+  where
+    prefix : Bool → List Token
+    prefix t =
+        if t then []
+        else Tag
+        (text_tag_content pen.position (cells_of glyph + joined_cells glyph others) glyph.ink)
+        ∷ []
+
+    ended : Bool → List Token
+    ended t = if t then [] else Tag (codes "/text") ∷ []
+
+    between : (f o : Bool)
+        → text_of_tokens
+        (prefix f ++ map TextByte (shown_in_svg glyph.character) ++ ended o)
+        ≡ shown_in_svg glyph.character
+    between true true =
+        ap text_of_tokens (append-nil (map TextByte (shown_in_svg glyph.character)))
+        ∙ text_of-bytes (shown_in_svg glyph.character)
+    between true false =
+        text_of-append (map TextByte (shown_in_svg glyph.character)) (Tag (codes "/text") ∷ [])
+        ∙ append-nil _ ∙ text_of-bytes (shown_in_svg glyph.character)
+    between false true =
+        ap text_of_tokens (append-nil (map TextByte (shown_in_svg glyph.character)))
+        ∙ text_of-bytes (shown_in_svg glyph.character)
+    between false false =
+        text_of-append (map TextByte (shown_in_svg glyph.character)) (Tag (codes "/text") ∷ [])
+        ∙ append-nil _ ∙ text_of-bytes (shown_in_svg glyph.character)
+
+    tokens : Bool → List Token
+    tokens t =
+        if t then TextByte glyph.character ∷ []
+        else prefix (follows pen.before glyph) ++ map TextByte (shown_in_svg glyph.character)
+        ++ ended (joins_next glyph others)
+
+    at : (n : Bool) → is_white_space glyph ≡ n
+        → text_of_tokens (glyph_tokens pen glyph others) ≡ shown_in_svg glyph.character
+    at true e =
+        ap (λ t. text_of_tokens (tokens t)) e
+        ∙ white-space-shown glyph.character e
+    at false e =
+        ap (λ t. text_of_tokens (tokens t)) e
+        ∙ between (follows pen.before glyph) (joins_next glyph others)
+
+glyphs-text : (pen : Pen) (glyphs : List Glyph)
+    → text_of_tokens (tokens_of_glyphs pen glyphs) ≡ flat_map shown_in_svg
+    (map (λ (glyph : Glyph). glyph.character) glyphs)
+glyphs-text pen [] = refl
+glyphs-text pen (glyph ∷ glyphs) =
+    text_of-append (glyph_tokens pen glyph glyphs) (tokens_of_glyphs (next_pen pen glyph) glyphs)
+    ∙ ap (λ bs. bs ++ text_of_tokens (tokens_of_glyphs (next_pen pen glyph) glyphs))
+    (glyph-text pen glyph glyphs)
+    ∙ ap (λ bs. shown_in_svg glyph.character ++ bs) (glyphs-text (next_pen pen glyph) glyphs)
+
+-- the characters of the glyphs of runs
+run-characters : (ink : Ink) (cs : List ℕ)
+    → map (λ (glyph : Glyph). glyph.character)
+    (map (λ c. let g : Glyph = record { character = c; ink = ink } in g) cs) ≡ cs
+run-characters ink [] = refl
+run-characters ink (c ∷ cs) = ap (λ ds. c ∷ ds) (run-characters ink cs)
+
+characters-are : (styles : Styles) (runs : List RunView)
+    → map (λ (glyph : Glyph). glyph.character) (glyphs_of styles runs) ≡ run_characters runs
+characters-are styles [] = refl
+characters-are styles (run ∷ runs) =
+    map-append (λ (glyph : Glyph). glyph.character) (glyphs_of_run styles run)
+    (glyphs_of styles runs)
+    ∙ ap (λ cs. cs ++ map (λ (glyph : Glyph). glyph.character) (glyphs_of styles runs))
+    (run-characters _ (chars run.text))
+    ∙ ap (λ cs. chars run.text ++ cs) (characters-are styles runs)
+
+-- the text of a document is that of its runs
+pub shown-svg-text : (styles : Styles) (runs : List RunView)
+    → text_of_tokens (read_tokens (svg_document (glyphs_of styles runs))) ≡ shown_svg_text runs
+shown-svg-text styles runs =
+    let glyphs = glyphs_of styles runs in
+    let last = Tag (codes "/svg") ∷ TextByte 10 ∷ [] in
+    ap text_of_tokens (svg-read glyphs)
+    ∙ ap (λ bs. 10 ∷ 10 ∷ bs)
+    (ap (λ (tokens : List Token). text_of_tokens (tokens ++ last)) (sym (tokens_of_pieces glyphs))
+    ∙ text_of-append (tokens_of_glyphs first_pen glyphs) last
+    ∙ ap (λ bs. bs ++ 10 ∷ [])
+    (glyphs-text first_pen glyphs ∙ ap (flat_map shown_in_svg) (characters-are styles runs)))

@@ -1,0 +1,9 @@
+use Rattle.std.proofs.Common.{◌≡◌, ◌++◌, string_bytes}
+use Rattle.std.specs.Str.{encode_utf8_all}
+use Rattle.codespan_styled.specs.Terminal.{safe_characters}
+use Rattle.codespan_styled.proofs.terminal.push_safe.Given as goal
+
+abbrev pub invariant-loop-c : goal.invariant-loop-c
+invariant-loop-c l =
+    string_bytes l.terminal ≡ string_bytes l.initial.terminal
+    ++ encode_utf8_all (safe_characters l.yielded)

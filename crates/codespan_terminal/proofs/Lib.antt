@@ -1,6 +1,0 @@
-mod UnsafeCells
-mod SafeTexts
-mod Sequences
-mod TerminalStates
-mod TerminalRuns
-mod AnsiStreams

@@ -1,5 +1,0 @@
-use Rattle.codespan_terminal.proofs.UnsafeCells.{columns_stay}
-use Rattle.codespan_terminal.proofs.terminal.laws.columns_stay.Goals as goal
-
-pub returns : goal.returns
-returns c = columns_stay

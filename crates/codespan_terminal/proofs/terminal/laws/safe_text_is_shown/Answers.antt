@@ -1,5 +1,0 @@
-use Rattle.codespan_terminal.proofs.TerminalRuns.{shows_safe}
-use Rattle.codespan_terminal.proofs.terminal.laws.safe_text_is_shown.Goals as goal
-
-pub returns : goal.returns
-returns c = shows_safe

@@ -1,2 +1,0 @@
--- text for a terminal
-pub mod Terminal
