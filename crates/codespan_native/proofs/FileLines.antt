@@ -3,11 +3,11 @@ use Rattle.std.proofs.Common.{◌≡◌, ◌<◌, ℕ, suc, length, None, refl, 
 use Rattle.std.proofs.lemmas.Bool.{le-leb}
 use Rattle.codespan_base.specs.FileModel.{line_of}
 use Rattle.codespan_base.specs.Lemmas.Lines.{line_of_below}
-use Rattle.codespan_sources.specs.declared.native_file.NativeFile.{NativeFile}
-use Rattle.codespan_sources.specs.Lemmas.NativeFiles.{text_is_lawful}
-use Rattle.codespan_sources.specs.SourceModel.{native_file_view}
-use Rattle.codespan_sources.specs.SourceTexts.{source_line_failure}
-use Rattle.codespan_sources.specs.StatedLines.{location_at}
+use Rattle.codespan_native.specs.declared.native_file.NativeFile.{NativeFile}
+use Rattle.codespan_native.specs.Lemmas.NativeFiles.{text_is_lawful}
+use Rattle.codespan_native.specs.SourceModel.{native_file_view}
+use Rattle.codespan_native.specs.SourceTexts.{source_line_failure}
+use Rattle.codespan_native.specs.StatedLines.{location_at}
 
 -- the line of a byte exists
 pub byte_has_line : (f : NativeFile) (byte : ℕ)

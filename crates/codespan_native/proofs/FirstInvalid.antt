@@ -3,12 +3,12 @@ use Rattle.std.proofs.Common.{◌≡◌, ℕ, zero, suc, ◌+◌, ◌<◌, ◌�
 use Rattle.std.specs.Prelude.{IsTrue, MatchOption}
 use Rattle.std.proofs.lemmas.Bool.{cases_lt}
 use Rattle.std.specs.List.{HoldsAt}
-use Rattle.codespan_structs.specs.declared.error.Argument.{Argument}
-use Rattle.codespan_structs.specs.declared.error.Argument.TheVariants.{Abi, DisplayStyle, Layout, Spelling, Characters, SnippetStart, Character, Color, FileName, FileSource, FileLines, FileLocations, Severity, Code, Message, LabelStyle, LabelMessage, LabelFile, Note}
-use Rattle.codespan_structs.specs.declared.raw.RawConfig.{RawConfig}
-use Rattle.codespan_structs.specs.declared.raw.RawDiagnostic.{RawDiagnostic}
-use Rattle.codespan_structs.specs.declared.raw.RawFile.{RawFile}
-use Rattle.codespan_structs.specs.Validity.{FindsFirstInvalid, FindsFirstWithout, HoldsIfAt, IsFirstInvalid, IsFirstInvalidIndex, IsValidAt, argument_number}
+use Rattle.codespan_native.specs.declared.error.Argument.{Argument}
+use Rattle.codespan_native.specs.declared.error.Argument.TheVariants.{Abi, DisplayStyle, Layout, Spelling, Characters, SnippetStart, Character, Color, FileName, FileSource, FileLines, FileLocations, Severity, Code, Message, LabelStyle, LabelMessage, LabelFile, Note}
+use Rattle.codespan_native.specs.declared.raw.RawConfig.{RawConfig}
+use Rattle.codespan_native.specs.declared.raw.RawDiagnostic.{RawDiagnostic}
+use Rattle.codespan_native.specs.declared.raw.RawFile.{RawFile}
+use Rattle.codespan_native.specs.Validity.{FindsFirstInvalid, FindsFirstWithout, HoldsIfAt, IsFirstInvalid, IsFirstInvalidIndex, IsValidAt, argument_number}
 
 -- what a search among values found, by their indices
 pub by_index : {X : Type 0} (P : X → Type 0) (xs : List X) (r : Option ℕ)

@@ -15,17 +15,17 @@ use Rattle.codespan_picture.specs.Types.{Config, Diagnostic, Error, DisplayStyle
 use Rattle.codespan_picture.specs.Lookups.{AllSucceed, looked_up_lines, lookups_of_file, early_lookups, ends_context_lines, file_at, filled_lines, header_lookups_of, is_looked_up, label_lookups, late_lookups, locus_lookups, lookup_past_end, lookups_in, numbers_for_padding, filled_line_lookups, label_line_lookups, line_lookups, snippet_lookups}
 use Rattle.codespan_picture.specs.Snippets.{LabelInFile, file_ids, locus_byte_of, primary_of}
 use Rattle.codespan_base.specs.Diagnostics.{DiagnosticView, LabelView}
-use Rattle.codespan_structs.specs.declared.error.Argument.TheVariants.{LabelFile}
-use Rattle.codespan_structs.specs.declared.raw.RawConfig.{RawConfig}
-use Rattle.codespan_structs.specs.declared.raw.RawDiagnostic.{RawDiagnostic}
-use Rattle.codespan_structs.specs.declared.raw.RawFile.{RawFile}
-use Rattle.codespan_structs.specs.declared.raw.RawLabel.{RawLabel}
+use Rattle.codespan_native.specs.declared.error.Argument.TheVariants.{LabelFile}
+use Rattle.codespan_native.specs.declared.raw.RawConfig.{RawConfig}
+use Rattle.codespan_native.specs.declared.raw.RawDiagnostic.{RawDiagnostic}
+use Rattle.codespan_native.specs.declared.raw.RawFile.{RawFile}
+use Rattle.codespan_native.specs.declared.raw.RawLabel.{RawLabel}
 use Rattle.codespan_native.specs.Meaning.{NoLookupFails}
-use Rattle.codespan_structs.specs.Converted.{converted_label, converted_file}
-use Rattle.codespan_structs.specs.Validity.{AreValid}
+use Rattle.codespan_native.specs.Converted.{converted_label, converted_file}
+use Rattle.codespan_native.specs.Validity.{AreValid}
 use Rattle.codespan_picture.specs.ViewPictures.{label_of_view}
 use Rattle.codespan_picture.proofs.ViewPictures.{labels-of_view}
-use Rattle.codespan_sources.specs.SourceTexts.{NativeFileView, native_database, native_failure, native_file_model}
+use Rattle.codespan_native.specs.SourceTexts.{NativeFileView, native_database, native_failure, native_file_model}
 
 -- ---- facts of each element of a list
 

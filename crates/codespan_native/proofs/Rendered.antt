@@ -18,13 +18,13 @@ use Rattle.codespan_picture.proofs.StatedNames.{output_stated}
 use Rattle.codespan_picture.specs.ViewPictures.{picture_of_diagnostic_view}
 use Rattle.codespan_picture.proofs.ViewPictures.{picture-of_view}
 use Rattle.codespan_views.specs.WriteCalls.{WritesStyled}
-use Rattle.codespan_sources.specs.declared.error.OutOfMemory.{OutOfMemory}
-use Rattle.codespan_structs.specs.declared.raw.RawConfig.{RawConfig}
-use Rattle.codespan_structs.specs.declared.raw.RawDiagnostic.{RawDiagnostic}
-use Rattle.codespan_structs.specs.declared.raw.RawFile.{RawFile}
+use Rattle.codespan_native.specs.declared.error.OutOfMemory.{OutOfMemory}
+use Rattle.codespan_native.specs.declared.raw.RawConfig.{RawConfig}
+use Rattle.codespan_native.specs.declared.raw.RawDiagnostic.{RawDiagnostic}
+use Rattle.codespan_native.specs.declared.raw.RawFile.{RawFile}
 use Rattle.codespan_native.specs.Meaning.{Means, output_bytes}
-use Rattle.codespan_structs.specs.Converted.{converted_config, display_style_of, converted_file, spelling_of, converted_diagnostic}
-use Rattle.codespan_sources.specs.SourceTexts.{NativeFileView, native_database, native_file_model}
+use Rattle.codespan_native.specs.Converted.{converted_config, display_style_of, converted_file, spelling_of, converted_diagnostic}
+use Rattle.codespan_native.specs.SourceTexts.{NativeFileView, native_database, native_file_model}
 use Rattle.codespan_native.specs.RenderedStreams.{IsSpelledOutput, stream_of_output}
 
 -- the names of the files are stated

@@ -15,10 +15,10 @@ use Rattle.std.proofs.lemmas.List.Sorted.{IsNonDecreasingBy-from_default, IsPart
 use Rattle.codespan_base.specs.declared.files.Location.{Location}
 use Rattle.codespan_base.specs.FileModel.{line_of}
 use Rattle.codespan_base.specs.Lemmas.Lines.{count_split}
-use Rattle.codespan_sources.specs.declared.raw.RawLine.{RawLine}
-use Rattle.codespan_sources.specs.declared.raw.RawLocation.{RawLocation}
+use Rattle.codespan_native.specs.declared.raw.RawLine.{RawLine}
+use Rattle.codespan_native.specs.declared.raw.RawLocation.{RawLocation}
 use Rattle.codespan_base.specs.Lines.{is_char_boundary}
-use Rattle.codespan_sources.specs.StatedLines.{are_next_lines, bytes_ascend_from, location_at, locations_ascend, starts_of}
+use Rattle.codespan_native.specs.StatedLines.{are_next_lines, bytes_ascend_from, location_at, locations_ascend, starts_of}
 
 -- ---- lines
 

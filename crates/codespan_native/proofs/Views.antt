@@ -1,7 +1,7 @@
 -- Views of files by their parts, for the clause of `convert::files::file_of`.
 use Rattle.std.proofs.Common.{◌≡◌, ◌∙◌, ap, ℕ, Option}
 use Rattle.codespan_base.specs.declared.files.Location.{Location}
-use Rattle.codespan_sources.specs.SourceTexts.{SourceTextView, NativeFileView}
+use Rattle.codespan_native.specs.SourceTexts.{SourceTextView, NativeFileView}
 
 -- a view of these parts
 abbrev view : SourceTextView → (ℕ → Option Location) → NativeFileView

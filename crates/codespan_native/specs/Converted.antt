@@ -25,20 +25,20 @@ use Rattle.codespan_base.specs.declared.term.config.color.Color.TheVariants.{Yel
 use Rattle.codespan_base.specs.declared.term.config.color.Color.TheVariants.{Cyan, White}
 use Rattle.codespan_base.specs.declared.term.config.color.ColorSpec.{ColorSpec}
 use Rattle.codespan_base.specs.declared.term.config.styles.Styles.{Styles}
-use Rattle.codespan_structs.specs.declared.raw.RawChars.{RawChars}
-use Rattle.codespan_structs.specs.declared.raw.RawColorSpec.{RawColorSpec}
-use Rattle.codespan_structs.specs.declared.raw.RawConfig.{RawConfig}
-use Rattle.codespan_structs.specs.declared.raw.RawDiagnostic.{RawDiagnostic}
-use Rattle.codespan_structs.specs.declared.raw.RawFile.{RawFile}
-use Rattle.codespan_structs.specs.declared.raw.RawLabel.{RawLabel}
-use Rattle.codespan_sources.specs.declared.raw.RawLine.{RawLine}
-use Rattle.codespan_structs.specs.declared.raw.RawStyles.{RawStyles}
-use Rattle.codespan_structs.specs.declared.raw.RawText.{RawText}
-use Rattle.codespan_structs.specs.Constants.{TAB_WIDTH_MAX}
-use Rattle.codespan_structs.specs.StyleMarkBytes.{style_mark_spelling}
-use Rattle.codespan_sources.specs.StatedLines.{location_at}
-use Rattle.codespan_sources.specs.SourceTexts.{SourceTextView, NativeFileView, native_database}
-use Rattle.codespan_sources.specs.SourceTexts.{stated_text, newline_text}
+use Rattle.codespan_native.specs.declared.raw.RawChars.{RawChars}
+use Rattle.codespan_native.specs.declared.raw.RawColorSpec.{RawColorSpec}
+use Rattle.codespan_native.specs.declared.raw.RawConfig.{RawConfig}
+use Rattle.codespan_native.specs.declared.raw.RawDiagnostic.{RawDiagnostic}
+use Rattle.codespan_native.specs.declared.raw.RawFile.{RawFile}
+use Rattle.codespan_native.specs.declared.raw.RawLabel.{RawLabel}
+use Rattle.codespan_native.specs.declared.raw.RawLine.{RawLine}
+use Rattle.codespan_native.specs.declared.raw.RawStyles.{RawStyles}
+use Rattle.codespan_native.specs.declared.raw.RawText.{RawText}
+use Rattle.codespan_native.specs.Constants.{TAB_WIDTH_MAX}
+use Rattle.codespan_native.specs.StyleMarkBytes.{style_mark_spelling}
+use Rattle.codespan_native.specs.StatedLines.{location_at}
+use Rattle.codespan_native.specs.SourceTexts.{SourceTextView, NativeFileView, native_database}
+use Rattle.codespan_native.specs.SourceTexts.{stated_text, newline_text}
 
 -- ---- numbers of the header
 

@@ -1,13 +1,13 @@
 -- What the call for C does.
 use Rattle.std.specs.Prelude.{◌≡◌, ◌≢◌, ◌≤◌, ◌↔◌, ℕ, List}
-use Rattle.codespan_structs.specs.declared.error.Argument.TheVariants.{LabelFile}
-use Rattle.codespan_structs.specs.declared.raw.Detail.{Detail}
-use Rattle.codespan_structs.specs.declared.raw.RawConfig.{RawConfig}
-use Rattle.codespan_structs.specs.declared.raw.RawDiagnostic.{RawDiagnostic}
-use Rattle.codespan_structs.specs.declared.raw.RawFile.{RawFile}
-use Rattle.codespan_structs.specs.Results.{IsTooSmall, IsUnchanged, IsWritten}
-use Rattle.codespan_structs.specs.Statuses.{OK, TOO_SMALL, OUT_OF_MEMORY, FILE_MISSING, INVALID}
-use Rattle.codespan_structs.specs.Validity.{AreValid, FirstInvalidIs, NamesFirstInvalid, no_detail}
+use Rattle.codespan_native.specs.declared.error.Argument.TheVariants.{LabelFile}
+use Rattle.codespan_native.specs.declared.raw.Detail.{Detail}
+use Rattle.codespan_native.specs.declared.raw.RawConfig.{RawConfig}
+use Rattle.codespan_native.specs.declared.raw.RawDiagnostic.{RawDiagnostic}
+use Rattle.codespan_native.specs.declared.raw.RawFile.{RawFile}
+use Rattle.codespan_native.specs.Results.{IsTooSmall, IsUnchanged, IsWritten}
+use Rattle.codespan_native.specs.Statuses.{OK, TOO_SMALL, OUT_OF_MEMORY, FILE_MISSING, INVALID}
+use Rattle.codespan_native.specs.Validity.{AreValid, FirstInvalidIs, NamesFirstInvalid, no_detail}
 use Rattle.codespan_native.specs.Meaning.{Means, NoLookupFails, output_bytes}
 
 -- the call returns this status, length and detail, and leaves `new` in `out`, which was `old`

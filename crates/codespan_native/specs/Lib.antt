@@ -1,20 +1,25 @@
--- What the contracts of this crate cite.
--- re-exports: the structs of C, and the files of a call
-pub use Rattle.codespan_structs.specs.Constants
-pub use Rattle.codespan_structs.specs.StyleMarkBytes
-pub use Rattle.codespan_sources.specs.StatedLines
-pub use Rattle.codespan_sources.specs.SourceTexts
-pub use Rattle.codespan_sources.specs.SourceModel
-pub use Rattle.codespan_structs.specs.Converted
-pub use Rattle.codespan_structs.specs.Spellings
-pub use Rattle.codespan_structs.specs.Validity
-pub use Rattle.codespan_structs.specs.ValidParts
-pub use Rattle.codespan_structs.specs.Results
-pub use Rattle.codespan_structs.specs.Statuses
-pub use Rattle.codespan_structs.specs.StatusTexts
--- the writer of style marks in band
+-- What the contracts of this crate cite, and lemmas.
+-- constants of the header
+pub mod Constants
+-- style marks in band, and their writer
+pub mod StyleMarkBytes
 pub mod StyleMarkWriters
+-- what a caller states of lines, and files
+pub mod StatedLines
+pub mod SourceTexts
+pub mod SourceModel
+-- what the structs of C are converted to, which of their values are valid, and what a call leaves
+pub mod Converted
+pub mod Spellings
+pub mod Validity
+pub mod ValidParts
+pub mod Results
+-- statuses, and their texts
+pub mod Statuses
+pub mod StatusTexts
 -- the output of the structs, what it means, and what the call does
 pub mod Meaning
 pub mod EmitCalls
 pub mod RenderedStreams
+-- lemmas, which a reader may skip
+pub mod Lemmas

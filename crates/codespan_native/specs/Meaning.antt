@@ -8,11 +8,11 @@ use Rattle.codespan_base.specs.declared.term.config.Config.{Config}
 use Rattle.codespan_picture.specs.RichLaws.{MeansLabels}
 use Rattle.codespan_picture.specs.Lookups.{AllSucceed, lookups_in}
 use Rattle.codespan_picture.specs.ViewPictures.{picture_of_diagnostic_view}
-use Rattle.codespan_structs.specs.declared.raw.RawConfig.{RawConfig}
-use Rattle.codespan_structs.specs.declared.raw.RawDiagnostic.{RawDiagnostic}
-use Rattle.codespan_structs.specs.declared.raw.RawFile.{RawFile}
-use Rattle.codespan_structs.specs.Converted.{converted_diagnostic, converted_config, spelling_of}
-use Rattle.codespan_structs.specs.Converted.{converted_files}
+use Rattle.codespan_native.specs.declared.raw.RawConfig.{RawConfig}
+use Rattle.codespan_native.specs.declared.raw.RawDiagnostic.{RawDiagnostic}
+use Rattle.codespan_native.specs.declared.raw.RawFile.{RawFile}
+use Rattle.codespan_native.specs.Converted.{converted_diagnostic, converted_config, spelling_of}
+use Rattle.codespan_native.specs.Converted.{converted_files}
 
 -- the bytes of the output that the structs describe
 unfoldable pub output_bytes : List RawFile → RawDiagnostic → RawConfig → List ℕ

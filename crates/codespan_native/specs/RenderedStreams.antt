@@ -6,7 +6,7 @@ use Rattle.codespan_base.specs.declared.term.config.DisplayStyle.TheVariants.{Ri
 use Rattle.codespan_base.specs.Streams.{Spelling, Stream, spelled}
 use Rattle.codespan_picture.specs.RichLaws.{MeansLabels}
 use Rattle.codespan_picture.specs.Picture.{picture}
-use Rattle.codespan_sources.specs.SourceTexts.{NativeFileView, native_database}
+use Rattle.codespan_native.specs.SourceTexts.{NativeFileView, native_database}
 
 module _ (config : Config) (files : List NativeFileView) (d : Diagnostic ℕ) where
   -- the output of a diagnostic over files, with the names that the files have

@@ -1,15 +1,15 @@
 -- What contracts see of the Rust values of the files that a caller of C passes.
 use Rattle.std.specs.Prelude.{List, map}
 use Rattle.codespan_base.specs.SimpleFileViews.{name_of, source_of as simple_source_of}
-use Rattle.codespan_sources.specs.declared.native_file.stated.StatedText.{StatedText}
-use Rattle.codespan_sources.specs.declared.native_file.newline.NewlineText.{NewlineText}
-use Rattle.codespan_sources.specs.declared.native_file.NativeFile.{NativeFile}
-use Rattle.codespan_sources.specs.declared.native_file.text.SourceText.{SourceText}
-use Rattle.codespan_sources.specs.declared.native_file.text.SourceText.TheVariants.{Newline, Stated}
-use Rattle.codespan_sources.specs.declared.native_files.NativeFiles.{NativeFiles}
-use Rattle.codespan_sources.specs.StatedLines.{location_at}
-use Rattle.codespan_sources.specs.SourceTexts.{SourceTextView, NativeFileView, stated_text}
-use Rattle.codespan_sources.specs.SourceTexts.{newline_text}
+use Rattle.codespan_native.specs.declared.native_file.stated.StatedText.{StatedText}
+use Rattle.codespan_native.specs.declared.native_file.newline.NewlineText.{NewlineText}
+use Rattle.codespan_native.specs.declared.native_file.NativeFile.{NativeFile}
+use Rattle.codespan_native.specs.declared.native_file.text.SourceText.{SourceText}
+use Rattle.codespan_native.specs.declared.native_file.text.SourceText.TheVariants.{Newline, Stated}
+use Rattle.codespan_native.specs.declared.native_files.NativeFiles.{NativeFiles}
+use Rattle.codespan_native.specs.StatedLines.{location_at}
+use Rattle.codespan_native.specs.SourceTexts.{SourceTextView, NativeFileView, stated_text}
+use Rattle.codespan_native.specs.SourceTexts.{newline_text}
 
 -- a text cut at newlines
 abbrev pub newline_view : NewlineText → SourceTextView

@@ -11,8 +11,8 @@ use Rattle.codespan_base.specs.FileModel.{FileDatabase, FileModel, Lookup, line_
 use Rattle.codespan_base.specs.FileModel.Lookup.{ColumnNumber, LineRange}
 use Rattle.codespan_base.specs.Lines.{column_index_of, line_starts_of}
 use Rattle.codespan_base.specs.SimpleModel.{line_ends, missing_file}
-use Rattle.codespan_sources.specs.declared.raw.RawLine.{RawLine}
-use Rattle.codespan_sources.specs.StatedLines.{ends_of, numbers_of, starts_of}
+use Rattle.codespan_native.specs.declared.raw.RawLine.{RawLine}
+use Rattle.codespan_native.specs.StatedLines.{ends_of, numbers_of, starts_of}
 
 -- ---- texts
 

@@ -1,15 +1,15 @@
 -- The texts of statuses and arguments, which are ASCII.
 use Rattle.std.specs.Prelude.{ℕ, ◌==◌, if◌then◌else◌, List, ◌++◌, codes}
-use Rattle.codespan_structs.specs.declared.error.Argument.TheVariants.{Abi, DisplayStyle, Layout}
-use Rattle.codespan_structs.specs.declared.error.Argument.TheVariants.{Spelling, Characters}
-use Rattle.codespan_structs.specs.declared.error.Argument.TheVariants.{SnippetStart, Character}
-use Rattle.codespan_structs.specs.declared.error.Argument.TheVariants.{Color, FileName, FileSource}
-use Rattle.codespan_structs.specs.declared.error.Argument.TheVariants.{FileLines, FileLocations}
-use Rattle.codespan_structs.specs.declared.error.Argument.TheVariants.{Severity, Code, Message}
-use Rattle.codespan_structs.specs.declared.error.Argument.TheVariants.{LabelStyle, LabelMessage}
-use Rattle.codespan_structs.specs.declared.error.Argument.TheVariants.{Note}
-use Rattle.codespan_structs.specs.Statuses.{OK, TOO_SMALL, OUT_OF_MEMORY, FILE_MISSING, INVALID}
-use Rattle.codespan_structs.specs.Validity.{argument_number}
+use Rattle.codespan_native.specs.declared.error.Argument.TheVariants.{Abi, DisplayStyle, Layout}
+use Rattle.codespan_native.specs.declared.error.Argument.TheVariants.{Spelling, Characters}
+use Rattle.codespan_native.specs.declared.error.Argument.TheVariants.{SnippetStart, Character}
+use Rattle.codespan_native.specs.declared.error.Argument.TheVariants.{Color, FileName, FileSource}
+use Rattle.codespan_native.specs.declared.error.Argument.TheVariants.{FileLines, FileLocations}
+use Rattle.codespan_native.specs.declared.error.Argument.TheVariants.{Severity, Code, Message}
+use Rattle.codespan_native.specs.declared.error.Argument.TheVariants.{LabelStyle, LabelMessage}
+use Rattle.codespan_native.specs.declared.error.Argument.TheVariants.{Note}
+use Rattle.codespan_native.specs.Statuses.{OK, TOO_SMALL, OUT_OF_MEMORY, FILE_MISSING, INVALID}
+use Rattle.codespan_native.specs.Validity.{argument_number}
 
 -- what a status means
 abbrev pub status_text : ℕ → List ℕ

@@ -1,7 +1,7 @@
 -- What contracts see of a writer of style marks in band.
 use Rattle.std.specs.Prelude.{ℕ, Bool, List, [], Option}
 use Rattle.codespan_base.specs.WriterLaw.{Sink}
-use Rattle.codespan_structs.specs.StyleMarkBytes.{style_mark_spelling}
+use Rattle.codespan_native.specs.StyleMarkBytes.{style_mark_spelling}
 use Rattle.codespan_native.specs.declared.style_mark_writer.StyleMarkWriter.{StyleMarkWriter}
 
 -- what the law of writers sees of a writer of style marks in band

@@ -2,12 +2,12 @@
 use Rattle.std.specs.Prelude.{◌≡◌, ◌≤◌, All}
 use Rattle.std.specs.Char.{InScalarRange}
 use Rattle.std.specs.Str.{IsUtf8}
-use Rattle.codespan_structs.specs.declared.raw.RawChars.{RawChars}
-use Rattle.codespan_structs.specs.declared.raw.RawConfig.{RawConfig}
-use Rattle.codespan_structs.specs.declared.raw.RawDiagnostic.{RawDiagnostic}
-use Rattle.codespan_structs.specs.declared.raw.RawFile.{RawFile}
-use Rattle.codespan_structs.specs.Validity.{HasValidMessage, HasValidName, HasValidSource}
-use Rattle.codespan_structs.specs.Validity.{HasValidLines, HasValidLocations, IsValidText}
+use Rattle.codespan_native.specs.declared.raw.RawChars.{RawChars}
+use Rattle.codespan_native.specs.declared.raw.RawConfig.{RawConfig}
+use Rattle.codespan_native.specs.declared.raw.RawDiagnostic.{RawDiagnostic}
+use Rattle.codespan_native.specs.declared.raw.RawFile.{RawFile}
+use Rattle.codespan_native.specs.Validity.{HasValidMessage, HasValidName, HasValidSource}
+use Rattle.codespan_native.specs.Validity.{HasValidLines, HasValidLocations, IsValidText}
 
 -- the caller's characters
 pub record AreCustomChars (c : RawChars) : Type 0 where

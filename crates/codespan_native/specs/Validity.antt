@@ -3,28 +3,28 @@ use Rattle.std.specs.Prelude.{◌≡◌, ◌<◌, ◌≤◌, ℕ, true, List, []
 use Rattle.std.specs.List.{slice_index_or, HoldsAt, AllWithin}
 use Rattle.std.specs.Char.{InScalarRange}
 use Rattle.std.specs.Str.{IsUtf8}
-use Rattle.codespan_structs.specs.declared.error.Argument.{Argument}
-use Rattle.codespan_structs.specs.declared.error.Argument.TheVariants.{Abi, DisplayStyle, Layout}
-use Rattle.codespan_structs.specs.declared.error.Argument.TheVariants.{Spelling, Characters}
-use Rattle.codespan_structs.specs.declared.error.Argument.TheVariants.{SnippetStart, Character}
-use Rattle.codespan_structs.specs.declared.error.Argument.TheVariants.{Color, FileName, FileSource}
-use Rattle.codespan_structs.specs.declared.error.Argument.TheVariants.{FileLines, FileLocations}
-use Rattle.codespan_structs.specs.declared.error.Argument.TheVariants.{Severity, Code, Message}
-use Rattle.codespan_structs.specs.declared.error.Argument.TheVariants.{LabelStyle, LabelMessage}
-use Rattle.codespan_structs.specs.declared.error.Argument.TheVariants.{LabelFile, Note}
-use Rattle.codespan_structs.specs.declared.raw.Detail.{Detail}
-use Rattle.codespan_structs.specs.declared.raw.RawChars.{RawChars}
-use Rattle.codespan_structs.specs.declared.raw.RawColorSpec.{RawColorSpec}
-use Rattle.codespan_structs.specs.declared.raw.RawConfig.{RawConfig}
-use Rattle.codespan_structs.specs.declared.raw.RawDiagnostic.{RawDiagnostic}
-use Rattle.codespan_structs.specs.declared.raw.RawFile.{RawFile}
-use Rattle.codespan_structs.specs.declared.raw.RawLabel.{RawLabel}
-use Rattle.codespan_sources.specs.declared.raw.RawLine.{RawLine}
-use Rattle.codespan_structs.specs.declared.raw.RawStyles.{RawStyles}
-use Rattle.codespan_structs.specs.declared.raw.RawText.{RawText}
-use Rattle.codespan_sources.specs.StatedLines.{are_lines, locations_ascend}
-use Rattle.codespan_structs.specs.Constants.{ABI}
-use Rattle.codespan_structs.specs.Statuses.{FILE_MISSING, INVALID}
+use Rattle.codespan_native.specs.declared.error.Argument.{Argument}
+use Rattle.codespan_native.specs.declared.error.Argument.TheVariants.{Abi, DisplayStyle, Layout}
+use Rattle.codespan_native.specs.declared.error.Argument.TheVariants.{Spelling, Characters}
+use Rattle.codespan_native.specs.declared.error.Argument.TheVariants.{SnippetStart, Character}
+use Rattle.codespan_native.specs.declared.error.Argument.TheVariants.{Color, FileName, FileSource}
+use Rattle.codespan_native.specs.declared.error.Argument.TheVariants.{FileLines, FileLocations}
+use Rattle.codespan_native.specs.declared.error.Argument.TheVariants.{Severity, Code, Message}
+use Rattle.codespan_native.specs.declared.error.Argument.TheVariants.{LabelStyle, LabelMessage}
+use Rattle.codespan_native.specs.declared.error.Argument.TheVariants.{LabelFile, Note}
+use Rattle.codespan_native.specs.declared.raw.Detail.{Detail}
+use Rattle.codespan_native.specs.declared.raw.RawChars.{RawChars}
+use Rattle.codespan_native.specs.declared.raw.RawColorSpec.{RawColorSpec}
+use Rattle.codespan_native.specs.declared.raw.RawConfig.{RawConfig}
+use Rattle.codespan_native.specs.declared.raw.RawDiagnostic.{RawDiagnostic}
+use Rattle.codespan_native.specs.declared.raw.RawFile.{RawFile}
+use Rattle.codespan_native.specs.declared.raw.RawLabel.{RawLabel}
+use Rattle.codespan_native.specs.declared.raw.RawLine.{RawLine}
+use Rattle.codespan_native.specs.declared.raw.RawStyles.{RawStyles}
+use Rattle.codespan_native.specs.declared.raw.RawText.{RawText}
+use Rattle.codespan_native.specs.StatedLines.{are_lines, locations_ascend}
+use Rattle.codespan_native.specs.Constants.{ABI}
+use Rattle.codespan_native.specs.Statuses.{FILE_MISSING, INVALID}
 
 -- ---- values
 

@@ -1,8 +1,8 @@
 //! The caller's buffer.
 
 ghost use Rattle.std.specs.Prelude.{◌≡◌, ◌≤◌, length};
-ghost use Rattle.codespan_structs.specs.Results.{IsTooSmall, IsWritten};
-ghost use Rattle.codespan_structs.specs.Statuses.{OK, TOO_SMALL};
+ghost use Rattle.codespan_native.specs.Results.{IsTooSmall, IsWritten};
+ghost use Rattle.codespan_native.specs.Statuses.{OK, TOO_SMALL};
 
 use crate::status::{OK, TOO_SMALL};
 

@@ -3,21 +3,21 @@
 ghost use Rattle.std.specs.Prelude.{◌≡◌, IfOk};
 ghost use Rattle.codespan_native.specs.EmitCalls.{EmitsToBuffer};
 ghost use Rattle.codespan_native.specs.Meaning.{Means, output_bytes};
-ghost use Rattle.codespan_structs.specs.Validity.{AreValid};
+ghost use Rattle.codespan_native.specs.Validity.{AreValid};
 
+use crate::buffer::copy_out;
+use crate::convert::{convert_config, convert_diagnostic, convert_files};
+use crate::error::OutOfMemory;
+use crate::raw::{Detail, RawConfig, RawDiagnostic, RawFile};
 use crate::render::render;
-use codespan_structs::buffer::copy_out;
-use codespan_structs::convert::{convert_config, convert_diagnostic, convert_files};
-use codespan_structs::error::OutOfMemory;
-use codespan_structs::raw::{Detail, RawConfig, RawDiagnostic, RawFile};
-use codespan_structs::status::{NO_ARGUMENT, OUT_OF_MEMORY, status_for};
-use codespan_structs::validate::first_invalid;
+use crate::status::{NO_ARGUMENT, OUT_OF_MEMORY, status_for};
+use crate::validate::first_invalid;
 use std::alloc::Global;
 
 /// What a call returns, besides the bytes that it writes.
 #[derive(Drop)]
 pub struct Outcome {
-    /// The status, a constant of [`codespan_structs::status`].
+    /// The status, a constant of [`crate::status`].
     pub status: u32,
     /// The length of the output in bytes; 0 where there is none.
     pub written: usize,

@@ -1,6 +1,22 @@
 //! The arguments that can be invalid, and the error of a failed allocation.
 
-pub use codespan_sources::error::OutOfMemory;
+use std::alloc::{AllocError, AllocFailed};
+
+/// An allocation failed.
+#[derive(Clone, Copy, Debug)]
+pub struct OutOfMemory;
+
+impl From<AllocError> for OutOfMemory {
+    fn from(_error: AllocError) -> OutOfMemory {
+        OutOfMemory
+    }
+}
+
+impl<T: Drop> From<AllocFailed<T>> for OutOfMemory {
+    fn from(_error: AllocFailed<T>) -> OutOfMemory {
+        OutOfMemory
+    }
+}
 
 /// An argument that can be invalid, by its number in the header.
 #[derive(Clone, Copy)]
@@ -49,7 +65,7 @@ pub enum Argument {
 
 impl Argument {
     ghost use Rattle.std.specs.Prelude.{◌≡◌};
-    ghost use Rattle.codespan_structs.specs.Validity.{argument_number};
+    ghost use Rattle.codespan_native.specs.Validity.{argument_number};
 
     /// Returns the number of the argument in the header.
     pub fn number(self) -> u32

@@ -3,10 +3,24 @@
 //! [`emit::emit`] takes the structs of [`raw`], which may hold any numbers and bytes, and returns a
 //! status. It has no `requires`. The static library `codespan_c` exports it to C;
 //! `native/include/codespan.h` is its header.
+//!
+//! [`validate`] finds the first invalid argument, and [`convert`] converts valid ones to a
+//! diagnostic, a configuration and a file database. Files are whole or windows: a text is cut at
+//! newlines, or into lines that the caller states, and the caller can state the locations of bytes.
+//! [`native_file`] has a file, [`native_files`] the database, and [`stated_lines`] validates what a
+//! caller states. [`status`] has the statuses, and [`buffer`] copies the output to the caller's
+//! buffer.
 #![tactic(auto)]
 
+pub mod buffer;
+pub mod convert;
 pub mod emit;
+pub mod error;
+pub mod native_file;
+pub mod native_files;
+pub mod raw;
 pub mod render;
+pub mod stated_lines;
+pub mod status;
 pub mod style_mark_writer;
-
-pub use codespan_structs::{error, raw, status};
+pub mod validate;

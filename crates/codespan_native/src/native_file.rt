@@ -3,9 +3,9 @@
 ghost use Rattle.std.specs.Prelude.{◌≡◌, true, IfOk, None};
 ghost use Rattle.codespan_base.specs.FileModel.{line_of};
 ghost use Rattle.codespan_base.specs.LawfulFiles.{FailsBy};
-ghost use Rattle.codespan_sources.specs.StatedLines.{locations_ascend, location_at};
-ghost use Rattle.codespan_sources.specs.SourceTexts.{IsSourceLineRange, source_column};
-ghost use Rattle.codespan_sources.specs.SourceTexts.{native_file_model, source_line_failure};
+ghost use Rattle.codespan_native.specs.StatedLines.{locations_ascend, location_at};
+ghost use Rattle.codespan_native.specs.SourceTexts.{IsSourceLineRange, source_column};
+ghost use Rattle.codespan_native.specs.SourceTexts.{native_file_model, source_line_failure};
 
 mod newline;
 mod stated;
@@ -31,7 +31,7 @@ pub struct NativeFile<'a> {
 }
 
 impl<'a> NativeFile<'a> {
-    ghost use Rattle.codespan_sources.specs.SourceModel.{source_text_view, native_file_view};
+    ghost use Rattle.codespan_native.specs.SourceModel.{source_text_view, native_file_view};
 
     /// Returns the file of a text, which starts at the byte `first_byte` of the file, with these
     /// locations.

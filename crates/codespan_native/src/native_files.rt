@@ -18,7 +18,7 @@ pub struct NativeFiles<'a> {
 }
 
 impl<'a> NativeFiles<'a> {
-    ghost use Rattle.codespan_sources.specs.SourceModel.{native_file_view, native_file_views};
+    ghost use Rattle.codespan_native.specs.SourceModel.{native_file_view, native_file_views};
 
     /// Returns a database without files.
     pub fn new(alloc: Global) -> NativeFiles<'a>
@@ -70,10 +70,10 @@ impl<'a> NativeFiles<'a> {
 
 impl<'files, 'a: 'files> Files<'files> for NativeFiles<'a> {
     ghost use Rattle.codespan_base.specs.Lemmas.Missing.{same_at};
-    ghost use Rattle.codespan_sources.specs.Lemmas.NativeFiles.{database_is_lawful};
-    ghost use Rattle.codespan_sources.specs.Lemmas.NativeFiles.{database_fails_past_last_line};
-    ghost use Rattle.codespan_sources.specs.SourceModel.{native_file_views};
-    ghost use Rattle.codespan_sources.specs.SourceTexts.{native_database};
+    ghost use Rattle.codespan_native.specs.Lemmas.NativeFiles.{database_is_lawful};
+    ghost use Rattle.codespan_native.specs.Lemmas.NativeFiles.{database_fails_past_last_line};
+    ghost use Rattle.codespan_native.specs.SourceModel.{native_file_views};
+    ghost use Rattle.codespan_native.specs.SourceTexts.{native_database};
 
     /// The index of a file, from 0.
     type FileId = usize;

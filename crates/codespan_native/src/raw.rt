@@ -1,10 +1,7 @@
 //! The structs that cross from C, field by field those of `native/include/codespan.h`.
 //!
 //! Numbers stand for enumerations and bytes for texts, so any value can be passed;
-//! [`crate::validate`] finds the invalid ones. The structs of stated lines and locations are
-//! re-exported from [`codespan_sources`].
-
-pub use codespan_sources::raw::{RawLine, RawLocation};
+//! [`crate::validate`] finds the invalid ones.
 
 /// The ABI version, which fixes the layouts of these structs.
 pub const ABI: u32 = 1;
@@ -18,6 +15,30 @@ pub const TAB_WIDTH_MAX: usize = 1024;
 pub struct RawText<'a> {
     /// Its bytes.
     pub bytes: &'a [u8],
+}
+
+/// A line of a file, as the caller states it.
+#[derive(Drop)]
+#[repr(C)]
+pub struct RawLine {
+    /// Byte index in the file, from 0, of its start.
+    pub start: usize,
+    /// Byte index in the file, from 0, of its end, exclusive.
+    pub end: usize,
+    /// The line number that is shown.
+    pub number: usize,
+}
+
+/// The line and column number that are shown for a byte at which a label starts.
+#[derive(Drop)]
+#[repr(C)]
+pub struct RawLocation {
+    /// Byte index in the file, from 0.
+    pub byte: usize,
+    /// The line number.
+    pub line_number: usize,
+    /// The column number.
+    pub column_number: usize,
 }
 
 /// A file, or a window of one.

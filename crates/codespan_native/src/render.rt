@@ -3,19 +3,19 @@
 ghost use Rattle.std.specs.Prelude.{◌≡◌, [], true, IfOk, OnOk};
 ghost use Rattle.codespan_base.specs.Streams.{plain_spelling};
 ghost use Rattle.codespan_base.specs.WriterLaw.{is_known, with_written};
-ghost use Rattle.codespan_structs.specs.StyleMarkBytes.{style_mark_spelling};
+ghost use Rattle.codespan_native.specs.StyleMarkBytes.{style_mark_spelling};
 ghost use Rattle.codespan_base.specs.StyleSpellings.{ansi_spelling};
-ghost use Rattle.codespan_sources.specs.SourceModel.{native_file_views};
-ghost use Rattle.codespan_structs.specs.Spellings.{spelling_by_kind};
+ghost use Rattle.codespan_native.specs.SourceModel.{native_file_views};
+ghost use Rattle.codespan_native.specs.Spellings.{spelling_by_kind};
 ghost use Rattle.codespan_native.specs.RenderedStreams.{IsSpelledOutput, MeansIfRich};
 ghost use Rattle.codespan_native.specs.RenderedStreams.{stream_of_output};
 
+use crate::convert::{Settings, SpellingKind};
+use crate::error::OutOfMemory;
+use crate::native_files::NativeFiles;
 use crate::style_mark_writer::StyleMarkWriter;
 use codespan_base::diagnostic::Diagnostic;
 use codespan_base::term::{Ansi, Config, PlainWriter, Styles, StylesWriter, WriteStyle};
-use codespan_sources::native_files::NativeFiles;
-use codespan_structs::convert::{Settings, SpellingKind};
-use codespan_structs::error::OutOfMemory;
 use codespan_views::emitting::emit_to_write_style;
 use std::alloc::Global;
 

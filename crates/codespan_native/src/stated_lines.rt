@@ -2,7 +2,7 @@
 
 ghost use Rattle.std.specs.Prelude.{◌≡◌};
 ghost use Rattle.codespan_base.specs.Lines.{is_char_boundary};
-ghost use Rattle.codespan_sources.specs.StatedLines.{are_lines, locations_ascend};
+ghost use Rattle.codespan_native.specs.StatedLines.{are_lines, locations_ascend};
 
 use crate::raw::{RawLine, RawLocation};
 

@@ -1,11 +1,11 @@
 //! Statuses by their numbers, and the texts of statuses and arguments.
 
 ghost use Rattle.std.specs.Prelude.{◌≡◌, ◌≤◌, length};
-ghost use Rattle.codespan_structs.specs.Constants.{STATUS_TEXT_MAX};
-ghost use Rattle.codespan_structs.specs.Results.{IsTooSmall, IsWritten};
-ghost use Rattle.codespan_structs.specs.Statuses.{OK, TOO_SMALL};
-ghost use Rattle.codespan_structs.specs.StatusTexts.{argument_text, status_text, text_for};
-ghost use Rattle.codespan_structs.specs.Validity.{status_for};
+ghost use Rattle.codespan_native.specs.Constants.{STATUS_TEXT_MAX};
+ghost use Rattle.codespan_native.specs.Results.{IsTooSmall, IsWritten};
+ghost use Rattle.codespan_native.specs.Statuses.{OK, TOO_SMALL};
+ghost use Rattle.codespan_native.specs.StatusTexts.{argument_text, status_text, text_for};
+ghost use Rattle.codespan_native.specs.Validity.{status_for};
 
 use crate::buffer::copy_out;
 use crate::error::Argument;

@@ -4,7 +4,7 @@ ghost use Rattle.std.specs.Prelude.{◌≡◌, refl};
 ghost use Rattle.codespan_base.specs.Diagnostics.{severity_rank};
 ghost use Rattle.codespan_base.specs.Streams.{style_mark};
 ghost use Rattle.codespan_base.specs.WriterLaw.{Writes};
-ghost use Rattle.codespan_structs.specs.StyleMarkBytes.{style_mark_number};
+ghost use Rattle.codespan_native.specs.StyleMarkBytes.{style_mark_number};
 ghost use Rattle.codespan_native.specs.StyleMarkWriters.{style_mark_sink};
 
 use codespan_base::diagnostic::{LabelStyle, Severity};
@@ -28,7 +28,7 @@ pub struct StyleMarkWriter<W> {
 
 impl<W: Write> StyleMarkWriter<W> {
     ghost use Rattle.codespan_base.specs.Writers.{fresh_sink};
-    ghost use Rattle.codespan_structs.specs.StyleMarkBytes.{style_mark_spelling};
+    ghost use Rattle.codespan_native.specs.StyleMarkBytes.{style_mark_spelling};
     ghost use Rattle.codespan_native.specs.StyleMarkWriters.{style_mark_inner};
     ghost use Rattle.codespan_native.specs.StyleMarkWriters.{style_mark_writer_sink};
 

@@ -1,8 +1,8 @@
 //! Finds the first invalid argument, before anything is converted or allocated.
 
 ghost use Rattle.std.specs.Prelude.{IfNone, IfSome, IsTrue, MatchOption, ◌≡◌};
-ghost use Rattle.codespan_structs.specs.Validity.{AreValid, FindsFirstInvalid, IsFirstInvalid};
-ghost use Rattle.codespan_structs.specs.Validity.{IsValidAt};
+ghost use Rattle.codespan_native.specs.Validity.{AreValid, FindsFirstInvalid, IsFirstInvalid};
+ghost use Rattle.codespan_native.specs.Validity.{IsValidAt};
 
 mod config;
 mod diagnostic;

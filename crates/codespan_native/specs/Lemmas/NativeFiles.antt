@@ -6,16 +6,16 @@ use Rattle.codespan_base.specs.FileModel.Lookup.{LineRange}
 use Rattle.codespan_base.specs.LawfulFiles.{IsLawful, FailsPastLastLine}
 use Rattle.codespan_base.specs.Lemmas.Simple.{past_last_line_is, text_fits, text_is_utf8}
 use Rattle.codespan_base.specs.Lemmas.Missing.{past_last_line_or, database_lawful}
-use Rattle.codespan_sources.specs.declared.native_file.stated.StatedText.{StatedText}
-use Rattle.codespan_sources.specs.declared.native_file.text.SourceText.{SourceText}
-use Rattle.codespan_sources.specs.declared.native_file.text.SourceText.TheVariants.{Newline, Stated}
-use Rattle.codespan_sources.specs.declared.native_files.NativeFiles.{NativeFiles}
-use Rattle.codespan_sources.specs.Lemmas.SourceTexts.{newline_lawful, stated_lawful}
-use Rattle.codespan_sources.specs.SourceModel.{source_text_view, native_file_view}
-use Rattle.codespan_sources.specs.SourceModel.{native_file_views, stated_view}
-use Rattle.codespan_sources.specs.SourceTexts.{NativeFileView, native_database, native_failure}
-use Rattle.codespan_sources.specs.SourceTexts.{native_file_model}
-use Rattle.codespan_sources.specs.StatedLines.{location_at}
+use Rattle.codespan_native.specs.declared.native_file.stated.StatedText.{StatedText}
+use Rattle.codespan_native.specs.declared.native_file.text.SourceText.{SourceText}
+use Rattle.codespan_native.specs.declared.native_file.text.SourceText.TheVariants.{Newline, Stated}
+use Rattle.codespan_native.specs.declared.native_files.NativeFiles.{NativeFiles}
+use Rattle.codespan_native.specs.Lemmas.SourceTexts.{newline_lawful, stated_lawful}
+use Rattle.codespan_native.specs.SourceModel.{source_text_view, native_file_view}
+use Rattle.codespan_native.specs.SourceModel.{native_file_views, stated_view}
+use Rattle.codespan_native.specs.SourceTexts.{NativeFileView, native_database, native_failure}
+use Rattle.codespan_native.specs.SourceTexts.{native_file_model}
+use Rattle.codespan_native.specs.StatedLines.{location_at}
 
 -- a text of stated lines makes a lawful file, whatever its locations are
 pub stated_is_lawful : (t : StatedText) (stated : ℕ → Option Location)

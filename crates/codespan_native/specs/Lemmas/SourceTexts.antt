@@ -13,9 +13,9 @@ use Rattle.codespan_base.specs.LawfulFiles.{IsLawful}
 use Rattle.codespan_base.specs.Lines.{is_char_boundary}
 use Rattle.codespan_base.specs.SimpleModel.{simple_file}
 use Rattle.codespan_base.specs.Lemmas.Simple.{renumbered_lawful, simple_lawful}
-use Rattle.codespan_sources.specs.declared.raw.RawLine.{RawLine}
-use Rattle.codespan_sources.specs.StatedLines.{are_lines, are_next_lines, ends_of, starts_of}
-use Rattle.codespan_sources.specs.SourceTexts.{native_file_model, stated_text, newline_text}
+use Rattle.codespan_native.specs.declared.raw.RawLine.{RawLine}
+use Rattle.codespan_native.specs.StatedLines.{are_lines, are_next_lines, ends_of, starts_of}
+use Rattle.codespan_native.specs.SourceTexts.{native_file_model, stated_text, newline_text}
 
 -- a text cut at newlines makes a lawful file
 pub newline_lawful : (name text : List ℕ) (first_line : ℕ) (stated : ℕ → Option Location)

@@ -3,8 +3,8 @@
 ghost use Rattle.std.specs.Prelude.{◌≡◌};
 ghost use Rattle.std.specs.Char.{InScalarRange};
 ghost use Rattle.codespan_base.specs.ConfigEquality.{IsEqualChars};
-ghost use Rattle.codespan_structs.specs.Converted.{converted_chars, custom_chars};
-ghost use Rattle.codespan_structs.specs.ValidParts.{AreCustomChars, AreValidChars};
+ghost use Rattle.codespan_native.specs.Converted.{converted_chars, custom_chars};
+ghost use Rattle.codespan_native.specs.ValidParts.{AreCustomChars, AreValidChars};
 
 use crate::convert::text::str_of;
 use crate::raw::{RawChars, RawConfig};

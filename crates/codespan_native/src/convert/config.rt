@@ -2,10 +2,10 @@
 
 ghost use Rattle.std.specs.Prelude.{◌≡◌};
 ghost use Rattle.codespan_base.specs.ConfigEquality.{IsEqualConfig};
-ghost use Rattle.codespan_structs.specs.Converted.{converted_config, display_style_of, layout_of};
-ghost use Rattle.codespan_structs.specs.Converted.{spelling_of};
-ghost use Rattle.codespan_structs.specs.Spellings.{spelling_by_kind};
-ghost use Rattle.codespan_structs.specs.ValidParts.{AreValidChars};
+ghost use Rattle.codespan_native.specs.Converted.{converted_config, display_style_of, layout_of};
+ghost use Rattle.codespan_native.specs.Converted.{spelling_of};
+ghost use Rattle.codespan_native.specs.Spellings.{spelling_by_kind};
+ghost use Rattle.codespan_native.specs.ValidParts.{AreValidChars};
 
 use crate::convert::chars::convert_chars;
 use crate::convert::styles::convert_styles;

@@ -4,11 +4,11 @@ ghost use Rattle.std.specs.Prelude.{◌≡◌, All, IfOk, map, string_bytes};
 ghost use Rattle.std.specs.Str.{IsUtf8};
 ghost use Rattle.std.specs.Option.{option_map};
 ghost use Rattle.codespan_base.specs.Diagnostics.{diagnostic_view, label_view};
-ghost use Rattle.codespan_structs.specs.Converted.{bytes_of, code_of, converted_label};
-ghost use Rattle.codespan_structs.specs.Converted.{label_style_of, first_byte_of, severity_of};
-ghost use Rattle.codespan_structs.specs.Converted.{converted_diagnostic};
-ghost use Rattle.codespan_structs.specs.Validity.{HasValidMessage, IsValidText};
-ghost use Rattle.codespan_structs.specs.ValidParts.{IsValidDiagnostic};
+ghost use Rattle.codespan_native.specs.Converted.{bytes_of, code_of, converted_label};
+ghost use Rattle.codespan_native.specs.Converted.{label_style_of, first_byte_of, severity_of};
+ghost use Rattle.codespan_native.specs.Converted.{converted_diagnostic};
+ghost use Rattle.codespan_native.specs.Validity.{HasValidMessage, IsValidText};
+ghost use Rattle.codespan_native.specs.ValidParts.{IsValidDiagnostic};
 
 use crate::convert::text::string_of;
 use crate::error::OutOfMemory;

@@ -1,16 +1,16 @@
 //! Converts the files.
 
 ghost use Rattle.std.specs.Prelude.{◌≡◌, All, IfOk, map};
-ghost use Rattle.codespan_structs.specs.Converted.{converted_file};
-ghost use Rattle.codespan_sources.specs.SourceModel.{source_text_view, native_file_view};
-ghost use Rattle.codespan_sources.specs.SourceModel.{native_file_views};
-ghost use Rattle.codespan_structs.specs.ValidParts.{IsValidFile};
+ghost use Rattle.codespan_native.specs.Converted.{converted_file};
+ghost use Rattle.codespan_native.specs.SourceModel.{source_text_view, native_file_view};
+ghost use Rattle.codespan_native.specs.SourceModel.{native_file_views};
+ghost use Rattle.codespan_native.specs.ValidParts.{IsValidFile};
 
 use crate::convert::text::str_of;
 use crate::error::OutOfMemory;
+use crate::native_file::{NativeFile, NewlineText, SourceText, StatedText};
+use crate::native_files::NativeFiles;
 use crate::raw::RawFile;
-use codespan_sources::native_file::{NativeFile, NewlineText, SourceText, StatedText};
-use codespan_sources::native_files::NativeFiles;
 use std::alloc::Global;
 
 /// Returns the file database of these files.

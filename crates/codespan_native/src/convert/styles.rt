@@ -1,7 +1,7 @@
 //! Converts the caller's styles.
 
 ghost use Rattle.std.specs.Prelude.{◌≡◌};
-ghost use Rattle.codespan_structs.specs.Converted.{color_of, color_spec_of, custom_styles};
+ghost use Rattle.codespan_native.specs.Converted.{color_of, color_spec_of, custom_styles};
 
 use crate::raw::{RawColorSpec, RawStyles};
 use codespan_base::term::{Color, ColorSpec, Styles};

@@ -3,8 +3,8 @@
 ghost use Rattle.std.specs.Prelude.{◌≡◌, IfOk};
 ghost use Rattle.codespan_base.specs.FileModel.{line_of};
 ghost use Rattle.codespan_base.specs.LawfulFiles.{FailsBy};
-ghost use Rattle.codespan_sources.specs.SourceTexts.{IsSourceLineRange, newline_text};
-ghost use Rattle.codespan_sources.specs.SourceTexts.{source_line_failure};
+ghost use Rattle.codespan_native.specs.SourceTexts.{IsSourceLineRange, newline_text};
+ghost use Rattle.codespan_native.specs.SourceTexts.{source_line_failure};
 
 use crate::error::OutOfMemory;
 use codespan_base::files::{Error, Files, SimpleFile};
@@ -22,7 +22,7 @@ pub struct NewlineText<'a> {
 }
 
 impl<'a> NewlineText<'a> {
-    ghost use Rattle.codespan_sources.specs.SourceModel.{newline_view};
+    ghost use Rattle.codespan_native.specs.SourceModel.{newline_view};
 
     /// Returns a source with a name, cut at newlines. `first_line` is the index in the file, from
     /// 0, of its first line.

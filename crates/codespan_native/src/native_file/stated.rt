@@ -4,9 +4,9 @@ ghost use Rattle.std.specs.Prelude.{◌≡◌, ◌^◌, ◌<◌, true, length, I
 ghost use Rattle.std.specs.Str.{IsUtf8};
 ghost use Rattle.codespan_base.specs.FileModel.{line_of};
 ghost use Rattle.codespan_base.specs.LawfulFiles.{FailsBy};
-ghost use Rattle.codespan_sources.specs.StatedLines.{are_lines};
-ghost use Rattle.codespan_sources.specs.SourceTexts.{IsSourceLineRange, stated_text};
-ghost use Rattle.codespan_sources.specs.SourceTexts.{source_line_failure};
+ghost use Rattle.codespan_native.specs.StatedLines.{are_lines};
+ghost use Rattle.codespan_native.specs.SourceTexts.{IsSourceLineRange, stated_text};
+ghost use Rattle.codespan_native.specs.SourceTexts.{source_line_failure};
 
 use crate::raw::RawLine;
 use codespan_base::files::Error;
@@ -29,7 +29,7 @@ pub struct StatedText<'a> {
 }
 
 impl<'a> StatedText<'a> {
-    ghost use Rattle.codespan_sources.specs.SourceModel.{stated_view};
+    ghost use Rattle.codespan_native.specs.SourceModel.{stated_view};
 
     /// Returns a source with a name, cut into these lines.
     ///

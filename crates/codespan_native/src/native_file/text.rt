@@ -3,7 +3,7 @@
 ghost use Rattle.std.specs.Prelude.{◌≡◌, IfOk};
 ghost use Rattle.codespan_base.specs.FileModel.{line_of};
 ghost use Rattle.codespan_base.specs.LawfulFiles.{FailsBy};
-ghost use Rattle.codespan_sources.specs.SourceTexts.{IsSourceLineRange, source_line_failure};
+ghost use Rattle.codespan_native.specs.SourceTexts.{IsSourceLineRange, source_line_failure};
 
 use crate::native_file::{NewlineText, StatedText};
 use codespan_base::files::Error;
@@ -19,7 +19,7 @@ pub enum SourceText<'a> {
 }
 
 impl<'a> SourceText<'a> {
-    ghost use Rattle.codespan_sources.specs.SourceModel.{source_text_view};
+    ghost use Rattle.codespan_native.specs.SourceModel.{source_text_view};
 
     /// Returns the name.
     pub fn name(&self) -> &'a str

@@ -3,10 +3,10 @@
 ghost use Rattle.std.specs.Prelude.{◌≡◌, IsTrue, ◌↔◌};
 ghost use Rattle.std.specs.Char.{InScalarRange};
 ghost use Rattle.std.specs.Str.{IsUtf8};
-ghost use Rattle.codespan_structs.specs.Constants.{ABI};
-ghost use Rattle.codespan_structs.specs.Validity.{code_points_of, color_specs_of};
-ghost use Rattle.codespan_structs.specs.Validity.{FindsFirstInvalid, FindsFirstWithout, HoldsIfAt};
-ghost use Rattle.codespan_structs.specs.Validity.{IsValidColorSpec};
+ghost use Rattle.codespan_native.specs.Constants.{ABI};
+ghost use Rattle.codespan_native.specs.Validity.{code_points_of, color_specs_of};
+ghost use Rattle.codespan_native.specs.Validity.{FindsFirstInvalid, FindsFirstWithout, HoldsIfAt};
+ghost use Rattle.codespan_native.specs.Validity.{IsValidColorSpec};
 
 use crate::raw::{ABI, RawChars, RawColorSpec, RawConfig, RawStyles};
 use crate::validate::values::{is_scalar_value, is_utf8, is_valid_color_spec};

@@ -1,8 +1,8 @@
 //! Validates the diagnostic.
 
 ghost use Rattle.std.specs.Prelude.{◌≤◌, length};
-ghost use Rattle.codespan_structs.specs.Validity.{FindsFirstWithout, HasValidStyle};
-ghost use Rattle.codespan_structs.specs.Validity.{HasValidMessage, HasValidFile, IsValidText};
+ghost use Rattle.codespan_native.specs.Validity.{FindsFirstWithout, HasValidStyle};
+ghost use Rattle.codespan_native.specs.Validity.{HasValidMessage, HasValidFile, IsValidText};
 
 use crate::raw::{RawFile, RawLabel, RawText};
 use crate::validate::values::is_utf8;

@@ -1,12 +1,12 @@
 //! Validates the files.
 
 ghost use Rattle.std.specs.Prelude.{IsTrue, ◌↔◌};
-ghost use Rattle.codespan_structs.specs.Validity.{FindsFirstWithout, HasValidName, HasValidSource};
-ghost use Rattle.codespan_structs.specs.Validity.{HasValidLines, HasValidLocations};
+ghost use Rattle.codespan_native.specs.Validity.{FindsFirstWithout, HasValidName, HasValidSource};
+ghost use Rattle.codespan_native.specs.Validity.{HasValidLines, HasValidLocations};
 
 use crate::raw::RawFile;
+use crate::stated_lines::{are_lines, locations_ascend};
 use crate::validate::values::is_utf8;
-use codespan_sources::stated_lines::{are_lines, locations_ascend};
 
 /// Returns the index of the first file whose name is not UTF-8.
 pub fn name_index(files: &[RawFile<'_>]) -> Option<usize>

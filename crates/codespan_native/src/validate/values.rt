@@ -3,7 +3,7 @@
 ghost use Rattle.std.specs.Prelude.{◌≡◌, ◌-◌, IsTrue, ◌↔◌};
 ghost use Rattle.std.specs.Char.{InScalarRange};
 ghost use Rattle.std.specs.Str.{IsUtf8};
-ghost use Rattle.codespan_structs.specs.Validity.{IsValidColorSpec};
+ghost use Rattle.codespan_native.specs.Validity.{IsValidColorSpec};
 
 use crate::raw::RawColorSpec;
 

@@ -1,5 +1,5 @@
 use Rattle.std.proofs.Common.{◌++◌, ap, drop, length, refl}
-use Rattle.codespan_structs.proofs.buffer.copy_out.Goals as goal
+use Rattle.codespan_native.proofs.buffer.copy_out.Goals as goal
 
 -- the bytes are too many, and `out` is unchanged
 pub returns-then-length-out-clause-too_small : goal.returns-then-length-out-clause-too_small

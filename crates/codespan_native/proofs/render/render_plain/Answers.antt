@@ -1,7 +1,7 @@
 use Rattle.std.proofs.Common.{◌∙◌, ap, refl, ℕ, Vec, Global}
 use Rattle.codespan_base.specs.Streams.{plain_spelling}
 use Rattle.codespan_native.proofs.Rendered.{fresh_known, text_after}
-use Rattle.codespan_sources.specs.SourceModel.{native_file_views}
+use Rattle.codespan_native.specs.SourceModel.{native_file_views}
 use Rattle.codespan_native.specs.RenderedStreams.{stream_of_output}
 use Rattle.codespan_native.proofs.render.render_plain.Goals as goal
 

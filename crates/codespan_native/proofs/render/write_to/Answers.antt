@@ -1,5 +1,5 @@
 use Rattle.codespan_native.proofs.Rendered.{written_stream}
-use Rattle.codespan_sources.specs.SourceModel.{native_file_views}
+use Rattle.codespan_native.specs.SourceModel.{native_file_views}
 use Rattle.codespan_native.proofs.render.write_to.Goals as goal
 
 pub returns-in-Ok-clause-value : goal.returns-in-Ok-clause-value

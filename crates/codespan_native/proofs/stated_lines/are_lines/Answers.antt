@@ -1,5 +1,5 @@
-use Rattle.codespan_sources.proofs.Searches.{are_next_lines-more}
-use Rattle.codespan_sources.proofs.stated_lines.are_lines.Goals as goal
+use Rattle.codespan_native.proofs.Searches.{are_next_lines-more}
+use Rattle.codespan_native.proofs.stated_lines.are_lines.Goals as goal
 
 -- the next line follows the last one, so the others decide
 pub loop-line-preserved : goal.loop-line-preserved

@@ -1,6 +1,6 @@
 use Rattle.std.proofs.Common.{◌≡◌, drop}
-use Rattle.codespan_sources.specs.StatedLines.{are_lines, are_next_lines}
-use Rattle.codespan_sources.proofs.stated_lines.are_lines.Given as goal
+use Rattle.codespan_native.specs.StatedLines.{are_lines, are_next_lines}
+use Rattle.codespan_native.proofs.stated_lines.are_lines.Given as goal
 
 -- the lines that are left decide
 abbrev pub invariant-loop-line : goal.invariant-loop-line

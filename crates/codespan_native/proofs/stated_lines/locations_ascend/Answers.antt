@@ -1,5 +1,5 @@
-use Rattle.codespan_sources.proofs.Searches.{locations_ascend-more}
-use Rattle.codespan_sources.proofs.stated_lines.locations_ascend.Goals as goal
+use Rattle.codespan_native.proofs.Searches.{locations_ascend-more}
+use Rattle.codespan_native.proofs.stated_lines.locations_ascend.Goals as goal
 
 -- the next location is after the last one, so the others decide
 pub loop-location-preserved : goal.loop-location-preserved

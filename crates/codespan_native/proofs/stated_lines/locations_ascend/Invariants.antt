@@ -1,6 +1,6 @@
 use Rattle.std.proofs.Common.{◌≡◌, drop}
-use Rattle.codespan_sources.specs.StatedLines.{bytes_ascend_from, locations_ascend}
-use Rattle.codespan_sources.proofs.stated_lines.locations_ascend.Given as goal
+use Rattle.codespan_native.specs.StatedLines.{bytes_ascend_from, locations_ascend}
+use Rattle.codespan_native.proofs.stated_lines.locations_ascend.Given as goal
 
 -- the locations that are left decide
 abbrev pub invariant-loop-location : goal.invariant-loop-location

@@ -1,8 +1,8 @@
 use Rattle.std.proofs.Common.{◌≡◌, ◌<◌, ◌≤◌, ℕ, zero, suc, Bool, true, List, [], ◌∷◌, length, get_or, leb, refl, arith, Bor}
 use Rattle.std.specs.Prelude.{◌&&◌}
 use Rattle.std.proofs.lemmas.Bool.{and_parts, leb-true}
-use Rattle.codespan_structs.specs.Constants.{STATUS_TEXT_MAX}
-use Rattle.codespan_structs.proofs.status.argument_text.Goals as goal
+use Rattle.codespan_native.specs.Constants.{STATUS_TEXT_MAX}
+use Rattle.codespan_native.proofs.status.argument_text.Goals as goal
 
 -- whether all texts are short
 abbrev are_short : List (Bor (List ℕ)) → Bool

@@ -1,5 +1,5 @@
 use Rattle.std.proofs.Common.{rules, refl}
-use Rattle.codespan_structs.proofs.status.status_for.Goals as goal
+use Rattle.codespan_native.proofs.status.status_for.Goals as goal
 
 -- the file of a label has a status of its own
 pub returns-in-LabelFile : goal.returns-in-LabelFile

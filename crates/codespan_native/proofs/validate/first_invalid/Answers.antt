@@ -1,5 +1,5 @@
-use Rattle.codespan_structs.proofs.FirstInvalid.{first-found, next-valid}
-use Rattle.codespan_structs.proofs.validate.first_invalid.Goals as goal
+use Rattle.codespan_native.proofs.FirstInvalid.{first-found, next-valid}
+use Rattle.codespan_native.proofs.validate.first_invalid.Goals as goal
 
 -- the argument at the index is valid too
 pub loop-argument-preserved : goal.loop-argument-preserved

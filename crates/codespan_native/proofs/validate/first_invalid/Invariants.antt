@@ -1,7 +1,7 @@
 use Rattle.std.proofs.Common.{ℕ, ◌≤◌}
-use Rattle.codespan_structs.specs.declared.error.Argument.{Argument}
-use Rattle.codespan_structs.specs.Validity.{IsValidAt, argument_number}
-use Rattle.codespan_structs.proofs.validate.first_invalid.Given as goal
+use Rattle.codespan_native.specs.declared.error.Argument.{Argument}
+use Rattle.codespan_native.specs.Validity.{IsValidAt, argument_number}
+use Rattle.codespan_native.proofs.validate.first_invalid.Given as goal
 
 -- the arguments so far are valid
 abbrev pub invariant-loop-argument : goal.invariant-loop-argument

@@ -1,6 +1,6 @@
-use Rattle.codespan_structs.proofs.FirstInvalid.{by_index, by_test}
-use Rattle.codespan_structs.specs.Validity.{HasValidStyle, HasValidMessage, HasValidName, HasValidSource, HasValidLines, HasValidLocations, HasValidFile, IsValidText}
-use Rattle.codespan_structs.proofs.validate.invalid_index.Goals as goal
+use Rattle.codespan_native.proofs.FirstInvalid.{by_index, by_test}
+use Rattle.codespan_native.specs.Validity.{HasValidStyle, HasValidMessage, HasValidName, HasValidSource, HasValidLines, HasValidLocations, HasValidFile, IsValidText}
+use Rattle.codespan_native.proofs.validate.invalid_index.Goals as goal
 
 pub returns-in-Character : goal.returns-in-Character
 returns-in-Character c = rw c.in-Character.is c.character_index.ensures

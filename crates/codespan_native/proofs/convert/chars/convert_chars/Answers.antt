@@ -1,5 +1,5 @@
 use Rattle.std.proofs.Common.{◌≢◌, arith, ne_eqb}
-use Rattle.codespan_structs.proofs.convert.chars.convert_chars.Goals as goal
+use Rattle.codespan_native.proofs.convert.chars.convert_chars.Goals as goal
 
 -- each number but 0 and 1 chooses the caller's characters
 pub returns-in_default : goal.returns-in_default

@@ -1,5 +1,5 @@
 use Rattle.std.proofs.Common.{◌≡◌, refl}
-use Rattle.codespan_structs.proofs.convert.chars.custom_chars.Goals as goal
+use Rattle.codespan_native.proofs.convert.chars.custom_chars.Goals as goal
 
 -- each character is that of its own code point
 pub returns : goal.returns

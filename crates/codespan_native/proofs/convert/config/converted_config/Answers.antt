@@ -1,5 +1,5 @@
 use Rattle.std.proofs.Common.{refl}
-use Rattle.codespan_structs.proofs.convert.config.converted_config.Goals as goal
+use Rattle.codespan_native.proofs.convert.config.converted_config.Goals as goal
 
 -- the fields but the characters are equal; the tab width has a greatest value
 pub returns : goal.returns

@@ -1,6 +1,6 @@
 use Rattle.std.proofs.Common.{◌≡◌, map, string_bytes, refl}
-use Rattle.codespan_structs.specs.Converted.{bytes_of}
-use Rattle.codespan_structs.proofs.convert.diagnostic.convert_diagnostic.Goals as goal
+use Rattle.codespan_native.specs.Converted.{bytes_of}
+use Rattle.codespan_native.proofs.convert.diagnostic.convert_diagnostic.Goals as goal
 
 -- each field is converted, and all the notes are
 pub returns : goal.returns

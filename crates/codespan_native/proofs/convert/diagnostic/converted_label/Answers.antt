@@ -1,5 +1,5 @@
 use Rattle.std.proofs.Common.{refl}
-use Rattle.codespan_structs.proofs.convert.diagnostic.converted_label.Goals as goal
+use Rattle.codespan_native.proofs.convert.diagnostic.converted_label.Goals as goal
 
 -- both ends of the range are counted from the first byte of the file
 pub returns : goal.returns

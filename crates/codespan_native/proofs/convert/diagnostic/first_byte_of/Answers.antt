@@ -1,8 +1,8 @@
 use Rattle.std.proofs.Common.{Option, ap, length, refl, sym}
 use Rattle.std.specs.Option.{option_map_or}
 use Rattle.std.proofs.lemmas.Option.{slice_get_past, slice_get_read}
-use Rattle.codespan_structs.specs.declared.raw.RawFile.{RawFile}
-use Rattle.codespan_structs.proofs.convert.diagnostic.first_byte_of.Goals as goal
+use Rattle.codespan_native.specs.declared.raw.RawFile.{RawFile}
+use Rattle.codespan_native.proofs.convert.diagnostic.first_byte_of.Goals as goal
 
 pub returns-in-Some : goal.returns-in-Some
 returns-in-Some c =

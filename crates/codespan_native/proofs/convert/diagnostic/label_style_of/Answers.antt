@@ -1,5 +1,5 @@
 use Rattle.std.proofs.Common.{rules}
-use Rattle.codespan_structs.proofs.convert.diagnostic.label_style_of.Goals as goal
+use Rattle.codespan_native.proofs.convert.diagnostic.label_style_of.Goals as goal
 
 -- each number but 0 is secondary
 pub returns-in_default : goal.returns-in_default

@@ -1,8 +1,8 @@
 use Rattle.std.proofs.Common.{◌∙◌, ◌++◌, ◌∷◌, [], ap, sym, map, take, arith}
 use Rattle.std.proofs.lemmas.List.{map-append, map_more}
 use Rattle.codespan_base.specs.Diagnostics.{label_view}
-use Rattle.codespan_structs.specs.Converted.{converted_label}
-use Rattle.codespan_structs.proofs.convert.diagnostic.labels_of.Goals as goal
+use Rattle.codespan_native.specs.Converted.{converted_label}
+use Rattle.codespan_native.proofs.convert.diagnostic.labels_of.Goals as goal
 
 pub loop-label-preserved : goal.loop-label-preserved
 loop-label-preserved c =

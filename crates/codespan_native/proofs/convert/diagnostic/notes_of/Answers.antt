@@ -1,7 +1,7 @@
 use Rattle.std.proofs.Common.{◌∙◌, ◌++◌, ◌∷◌, [], ap, sym, map, take, arith, string_bytes}
 use Rattle.std.proofs.lemmas.List.{map-append, map_more}
-use Rattle.codespan_structs.specs.Converted.{bytes_of}
-use Rattle.codespan_structs.proofs.convert.diagnostic.notes_of.Goals as goal
+use Rattle.codespan_native.specs.Converted.{bytes_of}
+use Rattle.codespan_native.proofs.convert.diagnostic.notes_of.Goals as goal
 
 pub loop-note-preserved : goal.loop-note-preserved
 loop-note-preserved c =

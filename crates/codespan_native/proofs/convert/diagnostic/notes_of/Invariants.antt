@@ -1,6 +1,6 @@
 use Rattle.std.proofs.Common.{◌≡◌, map, take, string_bytes}
-use Rattle.codespan_structs.specs.Converted.{bytes_of}
-use Rattle.codespan_structs.proofs.convert.diagnostic.notes_of.Given as goal
+use Rattle.codespan_native.specs.Converted.{bytes_of}
+use Rattle.codespan_native.proofs.convert.diagnostic.notes_of.Given as goal
 
 -- the notes so far
 abbrev pub invariant-loop-note : goal.invariant-loop-note

@@ -1,8 +1,8 @@
 use Rattle.std.proofs.Common.{◌∙◌, ◌++◌, ◌∷◌, [], ap, sym, map, take, arith}
 use Rattle.std.proofs.lemmas.List.{map_more}
-use Rattle.codespan_structs.specs.Converted.{converted_file}
-use Rattle.codespan_sources.specs.SourceModel.{native_file_view}
-use Rattle.codespan_structs.proofs.convert.files.convert_files.Goals as goal
+use Rattle.codespan_native.specs.Converted.{converted_file}
+use Rattle.codespan_native.specs.SourceModel.{native_file_view}
+use Rattle.codespan_native.proofs.convert.files.convert_files.Goals as goal
 
 pub loop-file-preserved : goal.loop-file-preserved
 loop-file-preserved c =

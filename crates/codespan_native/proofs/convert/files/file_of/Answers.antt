@@ -1,6 +1,6 @@
 use Rattle.std.proofs.Common.{◌∙◌}
-use Rattle.codespan_structs.proofs.Views.{source_is}
-use Rattle.codespan_structs.proofs.convert.files.file_of.Goals as goal
+use Rattle.codespan_native.proofs.Views.{source_is}
+use Rattle.codespan_native.proofs.convert.files.file_of.Goals as goal
 
 pub returns : goal.returns
 returns c =

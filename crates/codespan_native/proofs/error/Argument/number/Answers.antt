@@ -1,10 +1,10 @@
 use Rattle.std.proofs.Common.{◌≡◌, ◌+◌, refl}
 use denote.Enum.Declared.{tag_of}
-use Rattle.codespan_structs.specs.contracts.error.Argument.{the_type}
-use Rattle.codespan_structs.specs.Validity.{argument_number}
-use Rattle.codespan_structs.specs.declared.error.Argument.{Argument}
-use Rattle.codespan_structs.specs.declared.error.Argument.TheVariants.{Abi, DisplayStyle, Layout, Spelling, Characters, SnippetStart, Character, Color, FileName, FileSource, FileLines, FileLocations, Severity, Code, Message, LabelStyle, LabelMessage, LabelFile, Note}
-use Rattle.codespan_structs.proofs.error.Argument.number.Goals as goal
+use Rattle.codespan_native.specs.contracts.error.Argument.{the_type}
+use Rattle.codespan_native.specs.Validity.{argument_number}
+use Rattle.codespan_native.specs.declared.error.Argument.{Argument}
+use Rattle.codespan_native.specs.declared.error.Argument.TheVariants.{Abi, DisplayStyle, Layout, Spelling, Characters, SnippetStart, Character, Color, FileName, FileSource, FileLines, FileLocations, Severity, Code, Message, LabelStyle, LabelMessage, LabelFile, Note}
+use Rattle.codespan_native.proofs.error.Argument.number.Goals as goal
 
 -- arguments count from 1, in their order
 numbered : (a : Argument) → tag_of the_type a + 1 ≡ argument_number a

@@ -1,8 +1,8 @@
 use Rattle.std.proofs.Common.{◌-◌, Ok, Err, rules, sym}
 use Rattle.std.proofs.lemmas.Fn.{always_returns_same}
-use Rattle.codespan_sources.specs.declared.raw.RawLocation.{RawLocation}
-use Rattle.codespan_sources.proofs.Searches.{location_found}
-use Rattle.codespan_sources.proofs.native_file.NativeFile.stated_location.Goals as goal
+use Rattle.codespan_native.specs.declared.raw.RawLocation.{RawLocation}
+use Rattle.codespan_native.proofs.Searches.{location_found}
+use Rattle.codespan_native.proofs.native_file.NativeFile.stated_location.Goals as goal
 
 pub returns-in-Ok : goal.returns-in-Ok
 returns-in-Ok c =

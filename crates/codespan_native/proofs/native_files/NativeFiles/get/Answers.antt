@@ -1,7 +1,7 @@
 use Rattle.std.proofs.Common.{refl}
-use Rattle.codespan_sources.specs.SourceModel.{native_file_view}
-use Rattle.codespan_sources.proofs.Lookups.{missing, there}
-use Rattle.codespan_sources.proofs.native_files.NativeFiles.get.Goals as goal
+use Rattle.codespan_native.specs.SourceModel.{native_file_view}
+use Rattle.codespan_native.proofs.Lookups.{missing, there}
+use Rattle.codespan_native.proofs.native_files.NativeFiles.get.Goals as goal
 
 pub returns-in-Some-clause-found : goal.returns-in-Some-clause-found
 returns-in-Some-clause-found c =

@@ -1,8 +1,8 @@
 use Rattle.std.proofs.Common.{rules, subst}
 use Rattle.std.specs.Char.{InScalarRange}
-use Rattle.codespan_structs.proofs.FirstInvalid.{by_index, where_chosen}
-use Rattle.codespan_structs.specs.Validity.{FindsFirstInvalid, HoldsIfAt}
-use Rattle.codespan_structs.proofs.validate.config.character_index.Goals as goal
+use Rattle.codespan_native.proofs.FirstInvalid.{by_index, where_chosen}
+use Rattle.codespan_native.specs.Validity.{FindsFirstInvalid, HoldsIfAt}
+use Rattle.codespan_native.proofs.validate.config.character_index.Goals as goal
 
 pub returns : goal.returns
 returns c =

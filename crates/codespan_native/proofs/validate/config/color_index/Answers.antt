@@ -1,7 +1,7 @@
 use Rattle.std.proofs.Common.{rules, subst}
-use Rattle.codespan_structs.proofs.FirstInvalid.{by_index, where_chosen}
-use Rattle.codespan_structs.specs.Validity.{FindsFirstInvalid, HoldsIfAt, IsValidColorSpec}
-use Rattle.codespan_structs.proofs.validate.config.color_index.Goals as goal
+use Rattle.codespan_native.proofs.FirstInvalid.{by_index, where_chosen}
+use Rattle.codespan_native.specs.Validity.{FindsFirstInvalid, HoldsIfAt, IsValidColorSpec}
+use Rattle.codespan_native.proofs.validate.config.color_index.Goals as goal
 
 pub returns : goal.returns
 returns c =

@@ -1,8 +1,8 @@
 use Rattle.std.proofs.Common.{rules}
 use Rattle.std.proofs.lemmas.Iterator.{IsFirst-from_position, YieldsList-from_slice}
 use borrow.Author.Tests.{tests}
-use Rattle.codespan_structs.specs.Validity.{IsValidText}
-use Rattle.codespan_structs.proofs.validate.diagnostic.note_index.Goals as goal
+use Rattle.codespan_native.specs.Validity.{IsValidText}
+use Rattle.codespan_native.proofs.validate.diagnostic.note_index.Goals as goal
 
 pub returns : goal.returns
 returns c =

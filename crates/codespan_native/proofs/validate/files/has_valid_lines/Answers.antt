@@ -1,10 +1,10 @@
 use Rattle.std.proofs.Common.{◌≡◌, ◌∙◌, ℕ, Bool, false, IsTrue, List, [], ◌∷◌, length, sym}
 use borrow.Author.Tests.{clash}
 use Rattle.std.specs.Prelude.{◌==◌, ◌↔◌}
-use Rattle.codespan_sources.specs.declared.raw.RawLine.{RawLine}
-use Rattle.codespan_sources.specs.StatedLines.{are_lines}
-use Rattle.codespan_structs.specs.Validity.{AreValidLines}
-use Rattle.codespan_structs.proofs.validate.files.has_valid_lines.Goals as goal
+use Rattle.codespan_native.specs.declared.raw.RawLine.{RawLine}
+use Rattle.codespan_native.specs.StatedLines.{are_lines}
+use Rattle.codespan_native.specs.Validity.{AreValidLines}
+use Rattle.codespan_native.proofs.validate.files.has_valid_lines.Goals as goal
 
 -- there are lines, and a test decides whether the text is cut into them
 tested : (text : List ℕ) (first : ℕ) (lines : List RawLine) (test : Bool)

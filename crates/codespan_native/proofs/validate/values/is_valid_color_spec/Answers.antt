@@ -1,7 +1,7 @@
 use Rattle.std.proofs.Common.{arith}
 use Rattle.std.proofs.lemmas.Bool.Decides.{nat_tests}
-use Rattle.codespan_structs.specs.Validity.{IsValidColorSpec}
-use Rattle.codespan_structs.proofs.validate.values.is_valid_color_spec.Goals as goal
+use Rattle.codespan_native.specs.Validity.{IsValidColorSpec}
+use Rattle.codespan_native.proofs.validate.values.is_valid_color_spec.Goals as goal
 
 -- the color is one, so the background decides
 pub returns-then-spec-le8 : goal.returns-then-spec-le8

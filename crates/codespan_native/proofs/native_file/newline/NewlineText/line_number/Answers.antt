@@ -1,5 +1,5 @@
 use Rattle.std.proofs.Common.{arith}
-use Rattle.codespan_sources.proofs.native_file.newline.NewlineText.line_number.Goals as goal
+use Rattle.codespan_native.proofs.native_file.newline.NewlineText.line_number.Goals as goal
 
 -- lines count from one, up to the greatest number
 pub returns : goal.returns

@@ -2,12 +2,12 @@ use Rattle.std.proofs.Common.{◌≡◌, ◌-◌, ◌≤◌, None, leb, rules}
 use Rattle.std.proofs.lemmas.List.{length-map}
 use Rattle.std.proofs.lemmas.List.Sorted.{IsPartitionPoint-from_clause}
 use Rattle.codespan_base.specs.FileModel.{line_of}
-use Rattle.codespan_sources.specs.declared.raw.RawLine.{RawLine}
-use Rattle.codespan_sources.specs.StatedLines.{starts_of}
-use Rattle.codespan_sources.specs.Lemmas.NativeFiles.{stated_is_lawful}
-use Rattle.codespan_sources.proofs.Searches.{line_found, parted}
-use Rattle.codespan_sources.proofs.native_file.stated.StatedText.line_index.Goals.{After-partition_point}
-use Rattle.codespan_sources.proofs.native_file.stated.StatedText.line_index.Goals as goal
+use Rattle.codespan_native.specs.declared.raw.RawLine.{RawLine}
+use Rattle.codespan_native.specs.StatedLines.{starts_of}
+use Rattle.codespan_native.specs.Lemmas.NativeFiles.{stated_is_lawful}
+use Rattle.codespan_native.proofs.Searches.{line_found, parted}
+use Rattle.codespan_native.proofs.native_file.stated.StatedText.line_index.Goals.{After-partition_point}
+use Rattle.codespan_native.proofs.native_file.stated.StatedText.line_index.Goals as goal
 
 -- the lines that start at the byte or before it are counted, and there is one
 counted : (c : After-partition_point) → (1 ≤ c.partition_point.result)

@@ -1,6 +1,6 @@
-use Rattle.codespan_sources.specs.declared.raw.RawLine.{RawLine}
-use Rattle.codespan_sources.proofs.Lookups.{number_missing, number_there}
-use Rattle.codespan_sources.proofs.native_file.stated.StatedText.line_number.Goals as goal
+use Rattle.codespan_native.specs.declared.raw.RawLine.{RawLine}
+use Rattle.codespan_native.proofs.Lookups.{number_missing, number_there}
+use Rattle.codespan_native.proofs.native_file.stated.StatedText.line_number.Goals as goal
 
 pub returns-in-Some : goal.returns-in-Some
 returns-in-Some c =

@@ -1,8 +1,8 @@
 use Rattle.std.proofs.Common.{◌-◌, ◌∙◌}
 use Rattle.std.proofs.lemmas.List.{length-map}
-use Rattle.codespan_sources.specs.declared.raw.RawLine.{RawLine}
-use Rattle.codespan_sources.proofs.Lookups.{number_there}
-use Rattle.codespan_sources.proofs.native_file.stated.StatedText.line_range.Goals as goal
+use Rattle.codespan_native.specs.declared.raw.RawLine.{RawLine}
+use Rattle.codespan_native.proofs.Lookups.{number_there}
+use Rattle.codespan_native.proofs.native_file.stated.StatedText.line_range.Goals as goal
 
 -- both ends are counted from the first byte of the text
 pub returns-in-Some-clause-value : goal.returns-in-Some-clause-value
