@@ -1,16 +1,16 @@
--- For `is_plain` and `plain_from`: text of a line that is rendered unchanged.
+-- For `plain_from` and `write_text`: text of a line that is rendered unchanged.
 use Rattle.std.proofs.Common.{◌≡◌, ℕ, ◌+◌, ◌-◌, ◌<◌, ◌≤◌, Option, length, take, drop, length-append, length-drop, append_assoc, append-nil, arith, ◌++◌, Bool, true, false, ◌&&◌, ◌||◌, ◌==◌, List, [], ◌∷◌, None, refl, sym, ap, ◌∙◌}
 use Rattle.std.specs.Char.{encode_utf8, len_utf8}
-use Rattle.std.specs.Prelude.{not}
+use Rattle.std.specs.Prelude.{filter}
 use Rattle.std.specs.List.{list_any}
-use Rattle.std.specs.Str.{IsUtf8, chars}
+use Rattle.std.specs.Str.{IsUtf8}
 use Rattle.std.proofs.lemmas.Bool.{false≢true, ne_eqb}
 use Rattle.std.proofs.lemmas.List.Folds.{list_any-append}
 use Rattle.std.proofs.Math.Seq.{take-length}
 use Rattle.std.proofs.lemmas.List.{drop-drop, take-append-drop}
-use Rattle.std.proofs.lemmas.Str.{encodes-chars, length-encode, len_utf8_bounds}
+use Rattle.std.proofs.lemmas.Str.{length-encode, len_utf8_bounds}
 use lib.Utf8.{encodes}
-use Rattle.codespan_core.specs.Labels.{LabelModel, LaneMark, is_primary, is_primary_style}
+use Rattle.codespan_core.specs.Labels.{LabelModel, is_primary}
 use Rattle.codespan_core.specs.Streams.{byte_stream, glyph}
 use Rattle.codespan_core.proofs.Writes.{byte_stream-append}
 use Rattle.codespan_picture.specs.declared.char_metrics.Metrics.{Metrics}
@@ -20,42 +20,15 @@ use Rattle.codespan_picture.proofs.CaretEnds.{style_under-below}
 use Rattle.codespan_picture.specs.declared.rows.primary_cover.PrimaryCover.{PrimaryCover}
 use Rattle.codespan_picture.specs.Private.PrimaryCover.{CoversAsLaneMarks, covers_char}
 use Rattle.codespan_picture.proofs.RowEquations.{style_change-same}
-use Rattle.codespan_picture.proofs.TextRuns.{IsOver, text-end, text_rest}
+use Rattle.codespan_picture.proofs.TextRuns.{IsOver, over-start, text-end, text-start, text_rest}
 use Rattle.codespan_picture.specs.CharMetrics.{metrics_then, width_at}
 use Rattle.codespan_picture.specs.Rows.{Line, RowContext}
-use Rattle.codespan_picture.specs.RowParts.{style_change, colored_text, source_glyph, source_style, styled, multi_label_covers}
+use Rattle.codespan_picture.specs.RowParts.{style_change, colored_text, source_glyph, source_style, styled}
 
--- ---- no label is primary
-
+-- two tests that both failed
 or_parts : (a b : Bool) → (a || b) ≡ false → (a ≡ false) × (b ≡ false)
 or_parts true b e = absurd (cc)
 or_parts false b e = (refl, e)
-
--- none of these labels is primary and has a byte of the character
-no-label : (c : Metrics) (xs : List LabelModel) → list_any is_primary xs ≡ false
-    → list_any (λ x. is_primary x && covers x c) xs ≡ false
-no-label c [] e = refl
-no-label c (x ∷ xs) e =
-    let parts = or_parts (is_primary x) (list_any is_primary xs) e in
-    rw (parts.0, no-label c xs parts.1) refl
-
--- none of these lane marks is of a primary label that covers the character
-no-lane_mark : (c : Metrics) (ms : List LaneMark)
-    → list_any (λ (m : LaneMark). is_primary_style m.style) ms ≡ false
-    → list_any (λ (m : LaneMark). is_primary_style m.style && multi_label_covers c m.multi_label)
-    ms ≡ false
-no-lane_mark c [] e = refl
-no-lane_mark c (m ∷ ms) e =
-    let parts = or_parts (is_primary_style m.style)
-    (list_any (λ (x : LaneMark). is_primary_style x.style) ms) e in
-    rw (parts.0, no-lane_mark c ms parts.1) refl
-
--- no character is primary
-no-style : (line : Line) (c : Metrics) → list_any is_primary line.labels ≡ false
-    → list_any (λ (m : LaneMark). is_primary_style m.style) line.lanes.lane_marks ≡ false
-    → source_style line c ≡ None
-no-style line c labels lane_marks =
-    rw (no-label c line.labels labels, no-lane_mark c line.lanes.lane_marks lane_marks) refl
 
 -- ---- no character is a tab
 
@@ -112,54 +85,44 @@ plain-past context line tab byte_index column from top previous (c ∷ cs) low h
     ∙ ap (λ l. style_change context.severity previous None ++ l)
     (sym (byte_stream-append (encode_utf8 c) (encodes cs))))
 
--- a text without a tab, in a line without a primary label
-colored-plain : (context : RowContext) (line : Line) → list_any is_primary line.labels ≡ false
-    → list_any (λ (m : LaneMark). is_primary_style m.style) line.lanes.lane_marks ≡ false
-    → list_any (λ b. b == 9) line.text ≡ false → IsUtf8 line.text
-    → colored_text context line ≡ byte_stream line.text
-unfolding colored_text
-colored-plain context line labels lane_marks tab u =
-    let is = encodes-chars line.text u in
-    let text = encodes (chars line.text) in
-    plain-past context line context.tab_width 0 0 0 (length text) None (chars line.text)
-    (omega arith) (omega arith) (λ c _ _ _. no-style line c labels lane_marks)
-    (ap (list_any (λ b. b == 9)) is ∙ tab)
-    ∙ ap (λ l. l ++ byte_stream text) (style_change-same context.severity None)
-    ∙ ap byte_stream is
-
--- a test that failed
-pub not_true : (b : Bool) → not b ≡ true → b ≡ false
-not_true true e = cc
-not_true false e = refl
-
--- the same by tests that were made
-pub colored-seen : (context : RowContext) (line : Line) (labels lane_marks tab : Bool)
-    → labels ≡ list_any is_primary line.labels
-    → lane_marks ≡ list_any (λ (m : LaneMark). is_primary_style m.style) line.lanes.lane_marks
-    → tab ≡ list_any (λ b. b == 9) line.text → IsUtf8 line.text
-    → labels ≡ false → not lane_marks ≡ true → not tab ≡ true
-    → colored_text context line ≡ byte_stream line.text
-colored-seen context line labels lane_marks tab l m t u no_label no_lane_mark no_tab =
-    colored-plain context line (sym l ∙ no_label) (sym m ∙ not_true lane_marks no_lane_mark)
-    (sym t ∙ not_true tab no_tab) u
-
 -- ---- the end of a text
 
--- past the greatest end of the labels none of them has a byte of a character
-no-label-past : (labels : List LabelModel) (c : Metrics) → max_label_end labels ≤ c.byte_index
-    → list_any (λ x. is_primary x && covers x c) labels ≡ false
-no-label-past labels c past = by_test (list_any (λ x. is_primary x && covers x c) labels) refl
+-- labels that are not primary cover no character as primary ones
+primary-alone : (c : Metrics) (xs : List LabelModel)
+    → list_any (λ x. is_primary x && covers x c) (filter is_primary xs)
+    ≡ list_any (λ x. is_primary x && covers x c) xs
+primary-alone c [] = refl
+primary-alone c (x ∷ xs) = by_test (primary-alone c xs) (is_primary x) refl
   where
-    by_test : (b : Bool) → list_any (λ x. is_primary x && covers x c) labels ≡ b
-        → list_any (λ x. is_primary x && covers x c) labels ≡ false
-    by_test true is = let low = style_under-below labels c Primary (rw is refl) in
+    by_test : list_any (λ y. is_primary y && covers y c) (filter is_primary xs)
+        ≡ list_any (λ y. is_primary y && covers y c) xs
+        → (b : Bool) → is_primary x ≡ b
+        → list_any (λ y. is_primary y && covers y c) (filter is_primary (x ∷ xs))
+        ≡ list_any (λ y. is_primary y && covers y c) (x ∷ xs)
+    by_test later true is = rw (is, is, later) refl
+    by_test later false is = rw (is, later) refl
+
+-- past the greatest end of the primary labels none of them has a byte of a character
+no-label-past : (labels : List LabelModel) (c : Metrics)
+    → max_label_end (filter is_primary labels) ≤ c.byte_index
+    → list_any (λ x. is_primary x && covers x c) labels ≡ false
+no-label-past labels c past =
+    sym (primary-alone c labels) ∙ by_test (list_any (λ x. is_primary x && covers x c) some) refl
+  where
+    some : List LabelModel
+    some = filter is_primary labels
+
+    by_test : (b : Bool) → list_any (λ x. is_primary x && covers x c) some ≡ b
+        → list_any (λ x. is_primary x && covers x c) some ≡ false
+    by_test true is = let low = style_under-below some c Primary (rw is refl) in
         absurd (omega arith)
     by_test false is = is
 
 -- past that and past what lane marks cover no character is primary
 pub no-style-past : (line : Line) (given : PrimaryCover) (c : Metrics)
     → CoversAsLaneMarks line.lanes.lane_marks given → covers_char given c ≡ false
-    → max_label_end line.labels ≤ c.byte_index → 1 ≤ c.bytes → source_style line c ≡ None
+    → max_label_end (filter is_primary line.labels) ≤ c.byte_index → 1 ≤ c.bytes
+    → source_style line c ≡ None
 no-style-past line given c are none past some =
     rw (no-label-past line.labels c past, ← are c some, none) refl
 
@@ -200,10 +163,24 @@ text-past context line previous run from byte_index left over low none tab =
     ∙ no-tab-later from byte_index line.text low tab) in
     append_assoc (byte_stream run) (style_change context.severity previous None)
     (byte_stream (drop byte_index line.text))
-    ∙ ap (λ l. byte_stream run ++ (style_change context.severity previous None ++ byte_stream l)) over.text_left
+    ∙ ap (λ l. byte_stream run ++ (style_change context.severity previous None ++ byte_stream l))
+    over.text_left
     ∙ ap (λ l. byte_stream run ++ l) (sym rest)
-    ∙ ap (λ cs. byte_stream run ++ styled context.severity (source_style line) source_glyph previous cs)
+    ∙ ap (λ cs. byte_stream run ++ styled context.severity (source_style line) source_glyph previous
+    cs)
     (sym over.char_metrics)
+
+-- a text of which no character has a style, and which has no tab
+pub text-plain : (context : RowContext) (line : Line) (from : ℕ) → IsUtf8 line.text → from ≡ 0
+    → ((c : Metrics) → from ≤ c.byte_index → c.byte_index < length line.text → 1 ≤ c.bytes
+    → source_style line c ≡ None)
+    → list_any (λ b. b == 9) (drop from line.text) ≡ false
+    → byte_stream line.text ≡ colored_text context line
+unfolding byte_stream style_change
+text-plain context line from u start none tab =
+    text-past context line None [] from 0 _ (over-start context.tab_width line.text u) (omega arith)
+    none tab
+    ∙ text-start context line
 
 -- nothing is left
 pub text-over : (context : RowContext) (line : Line) (previous : Option LabelStyle) (run : List ℕ)

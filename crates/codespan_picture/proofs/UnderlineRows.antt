@@ -1,7 +1,7 @@
 -- For `write_underlines` and `write_note`: the underlines of multi-line labels, and the rows of a
 -- note.
-use Rattle.std.proofs.Common.{◌≡◌, ℕ, ◌+◌, ◌<◌, true, false, List, [], ◌∷◌, ◌++◌, length, drop, None, Some, refl, sym, ap, arith, get_or, add-one, drop-cons}
-use Rattle.std.specs.Prelude.{filter, map}
+use Rattle.std.proofs.Common.{◌≡◌, ℕ, ◌+◌, ◌<◌, Bool, true, false, List, [], ◌∷◌, ◌++◌, append_assoc, length, drop, None, Some, refl, sym, ap, arith, get_or, add-one, drop-cons}
+use Rattle.std.specs.Prelude.{filter, map, if◌then◌else◌}
 use Rattle.std.specs.Borrow.{Bor}
 use Rattle.codespan_core.specs.declared.diagnostic.LabelStyle.{LabelStyle}
 use Rattle.std.specs.declared.str.Lines.{Lines as TextLines}
@@ -22,7 +22,9 @@ use Rattle.codespan_picture.specs.Rows.{RowContext, Lanes, Line, UnderlineRow, h
 use Rattle.codespan_picture.specs.Lanes as kind
 use Rattle.codespan_picture.specs.RowParts.{inner_gutter, underline, underline_message}
 use Rattle.codespan_picture.specs.Private.Underlines.{underline_by_width, underline_width}
-use Rattle.codespan_picture.specs.RowStreams.{underline_row, stream_of_rows}
+use Rattle.codespan_picture.specs.RowStreams.{first_note_row, later_note_row, underline_row}
+use Rattle.codespan_picture.specs.RowStreams.{stream_of_rows}
+use Rattle.codespan_picture.specs.Private.WrittenParts.{note_bullet, note_row_stream}
 use Rattle.codespan_picture.specs.RenderedRows.{later_note_rows_stream}
 
 -- ---- the lanes of an underline row
@@ -30,7 +32,8 @@ use Rattle.codespan_picture.specs.RenderedRows.{later_note_rows_stream}
 -- the lanes of the row of a lane mark are those of that kind of row
 pub underline_lanes_are : (context : RowContext) (leading : ℕ) (lane : ℕ) (style : LabelStyle)
     (multi_label : rust_multi_label.MultiLabel) (lanes : Lanes)
-    → row_lanes_stream context leading (Underline lane style multi_label) lanes ≡ inner_gutter context
+    → row_lanes_stream context leading (Underline lane style multi_label) lanes ≡ inner_gutter
+    context
     leading (kind.Underline (lane_mark_view (lane, style, multi_label))) lanes
 unfolding row_lanes_stream inner_gutter
 underline_lanes_are context leading lane style multi_label lanes = refl
@@ -53,6 +56,18 @@ underline_message-some (b ∷ bs) e = refl
 pub ruleset underline_messages = (underline_message-none, underline_message-some)
 
 -- ---- the line of an underline
+
+-- a label with an underline row has its width
+pub width-some : {A : Type 0} (b : Bool) (x w : A) → (if b then Some x else None) ≡ Some w
+    → (b ≡ true) × (w ≡ x)
+width-some true x w e = (refl, cc)
+width-some false x w e = absurd cc
+
+-- a label without one has none
+pub width-none : {A : Type 0} (b : Bool) (x : A) → (if b then Some x else None) ≡ None
+    → b ≡ false
+width-none true x e = absurd cc
+width-none false x e = refl
 
 -- an underline is that of the width of its line
 pub underline-runs : (chars : Chars) (style : LabelStyle) (width : ℕ) (cs : List Metrics)
@@ -106,6 +121,19 @@ underlines-out context line leading lane_marks i d h e t =
     rw (drop-cons lane_marks i d h, k, add-one) refl
 
 -- ---- the rows of a note
+
+-- a row with the bullet is the first one
+pub first-note : (chars : Chars) (padding : ℕ) (note_line : List ℕ)
+    → note_row_stream padding (Some chars.note_bullet) note_line
+    ≡ first_note_row chars padding note_line ++ newline
+unfolding first_note_row note_bullet
+first-note chars padding note_line = simp append_assoc
+
+-- one without it is a later one
+pub later-note : (padding : ℕ) (note_line : List ℕ)
+    → note_row_stream padding None note_line ≡ later_note_row padding note_line ++ newline
+unfolding later_note_row note_bullet
+later-note padding note_line = refl
 
 -- these lines of a text remain
 abbrev pub HasLines : TextLines → List (List ℕ) → Type 0

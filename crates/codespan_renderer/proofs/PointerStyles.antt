@@ -1,4 +1,4 @@
--- For `pointer_style_if_any` and `find_pointers`: the style of a pointer.
+-- For `next_pointer` and `find_pointers`: the style of a pointer.
 use Rattle.std.proofs.Common.{◌≡◌, ℕ, suc, ◌+◌, ◌<◌, Bool, true, false, cond, ◌==◌, ◌&&◌, ◌||◌}
 use Rattle.std.proofs.Common.{List, [], ◌∷◌, ◌++◌, length, get_or, drop, filter, fold, Option, Some}
 use Rattle.std.proofs.Common.{None, refl, sym, ap, ◌∙◌, drop-cons, add-one}

@@ -1,6 +1,6 @@
--- For `skipped_before` and `least_start`: the cached characters of a line before the first one that
--- its carets need.
-use Rattle.std.proofs.Common.{◌≡◌, Some, ℕ, zero, suc, ◌+◌, ◌<◌, ◌≤◌, true, List, [], ◌∷◌, take, length, get_or, refl, sym, ap, subst, ◌∙◌, arith, min, fold, add-zero}
+-- For `skipped_before` and `characters_from_labels`: the cached characters of a line before the
+-- first one that its carets need.
+use Rattle.std.proofs.Common.{◌≡◌, None, Some, ℕ, zero, suc, ◌+◌, ◌<◌, ◌≤◌, true, List, [], ◌∷◌, take, length, get_or, refl, sym, ap, subst, ◌∙◌, arith, min, fold, add-zero}
 use Rattle.std.specs.Str.{chars}
 use Rattle.std.specs.Prelude.{nat_le, slice_get}
 use Rattle.std.proofs.lemmas.Bool.{and_parts}
@@ -87,3 +87,9 @@ least-of_first end label (x ∷ xs) first ordered =
     let same : label ≡ x = cc in
     ap (λ (l : SingleLabelTuple). min l.1.start end) same
     ∙ least-first end (single_label_view x) (single_label_views xs) ordered
+
+-- where there is no label, it is the byte index
+pub least-of_none : (end : ℕ) (labels : List SingleLabelTuple) → None ≡ slice_get labels 0
+    → end ≡ least_start end (single_label_views labels)
+least-of_none end [] none = refl
+least-of_none end (x ∷ xs) none = absurd cc

@@ -1,58 +1,27 @@
 -- Parts of rows, by the arguments of the functions that write them.
-use Rattle.std.specs.Prelude.{ℕ, List, ◌++◌, filter, Option}
+use Rattle.std.specs.Prelude.{ℕ, List, ◌++◌, filter, Option, None, Some}
 use Rattle.std.specs.Option.{option_map}
-use Rattle.std.specs.Borrow.{Bor}
 use Rattle.codespan_picture.specs.Types.{LabelStyle, Severity}
 use Rattle.codespan_core.specs.Labels.{has_message}
-use Rattle.codespan_core.specs.Streams.{Stream, byte_stream, newline, style_mark, space}
-use Rattle.codespan_core.specs.declared.term.config.style_mark.StyleMark.TheVariants.{Header}
+use Rattle.codespan_core.specs.Streams.{Stream, byte_stream, newline, style_mark, glyph, space}
+use Rattle.codespan_core.specs.declared.term.config.style_mark.StyleMark.TheVariants.{NoteBullet}
+use Rattle.codespan_core.specs.declared.term.config.style_mark.StyleMark.TheVariants.{Reset}
 use Rattle.codespan_picture.specs.declared.char_metrics.Metrics.{Metrics}
 use Rattle.codespan_picture.specs.CharMetrics.{char_metrics_to_end}
 use Rattle.codespan_picture.specs.Arguments.{SingleLabelTuple, LaneMarkTuple, single_label_view}
-use Rattle.codespan_picture.specs.Arguments.{single_label_views, lane_mark_view, locus_view}
-use Rattle.codespan_picture.specs.Arguments.{text_now}
-use Rattle.codespan_picture.specs.Lanes.{Source, Underline, crossing_characters, label_glyph}
+use Rattle.codespan_picture.specs.Arguments.{single_label_views, lane_mark_view}
+use Rattle.codespan_picture.specs.Lanes.{crossing_characters, label_glyph}
 use Rattle.codespan_picture.specs.Rows.{caret_rows, hanging_labels, pointer_and_hanging_rows}
-use Rattle.codespan_picture.specs.RowParts.{border_left, carets, outer_gutter, label_message}
-use Rattle.codespan_picture.specs.RowParts.{leading_of, outer_gutter_number, inner_gutter}
-use Rattle.codespan_picture.specs.RowParts.{severity_name}
-use Rattle.codespan_picture.specs.RowStreams.{bracketed, header_locus, pointer_row, stream_of_rows}
-use Rattle.codespan_picture.specs.declared.arguments.Locus as rust_locus
+use Rattle.codespan_picture.specs.RowParts.{carets, outer_gutter, label_message}
+use Rattle.codespan_picture.specs.RowStreams.{stream_of_rows}
 use Rattle.codespan_picture.specs.declared.rows.line.RowContext as rust_context
 use Rattle.codespan_picture.specs.declared.rows.line.Line as rust_line
-use Rattle.codespan_picture.specs.declared.rows.messages.Messages as rust_messages
-use Rattle.codespan_picture.specs.Private.LineViews.{context_view, lanes_view, line_view}
+use Rattle.codespan_picture.specs.Private.LineViews.{context_view, line_view}
 use Rattle.codespan_picture.specs.Private.RowLabels.{hanging_stream}
 use Rattle.codespan_picture.specs.Private.PointerLists.{pointers_before, spaced}
 use Rattle.codespan_picture.specs.Private.LineCharacters.{char_input, pointers_of}
 
--- ---- the header
-
--- a header up to its message
-abbrev pub header_start_stream : Option (Bor rust_locus.Locus) → Severity → Option (Bor (List ℕ))
-    → Stream
-header_start_stream locus severity code =
-    header_locus (option_map (λ (x : Bor rust_locus.Locus). locus_view x.now) locus)
-    ++ style_mark (Header severity) ++ byte_stream (severity_name severity)
-    ++ bracketed (option_map text_now code)
-
--- ---- the starts of rows
-
--- the start of a source row: up to its text
-abbrev pub source_row_start_stream : rust_context.RowContext → rust_line.Line → Stream
-source_row_start_stream x line =
-    outer_gutter_number x.padding line.number ++ border_left x.chars.now
-    ++ inner_gutter (context_view x) (leading_of (line_view line)) Source (lanes_view line.lanes)
-    ++ space
-
--- the start of an underline row: up to the end of its lanes
-abbrev pub underline_row_start_stream : rust_context.RowContext → rust_line.Line → LaneMarkTuple
-    → Stream
-underline_row_start_stream x line lane_mark =
-    outer_gutter x.padding ++ border_left x.chars.now
-    ++ inner_gutter (context_view x) (leading_of (line_view line))
-    (Underline (lane_mark_view lane_mark))
-    (lanes_view line.lanes)
+-- ---- the lanes of a row
 
 -- the two characters of a lane that is not empty: the underline that crosses it, if one does, or a
 -- space, and its own character
@@ -61,6 +30,18 @@ abbrev pub lane_glyph_stream : rust_context.RowContext → Option LaneMarkTuple 
 lane_glyph_stream x crossing style own =
     crossing_characters x.severity x.chars.now (option_map lane_mark_view crossing) 1
     ++ label_glyph x.severity style own
+
+-- ---- the rows of a note
+
+-- the bullet of a row of a note, or a space where it has none
+unfoldable pub note_bullet : Option ℕ → Stream
+note_bullet None = space
+note_bullet (Some c) = style_mark NoteBullet ++ glyph c ++ style_mark Reset
+
+-- a row of a note, with its newline
+abbrev pub note_row_stream : ℕ → Option ℕ → List ℕ → Stream
+note_row_stream padding bullet note_line =
+    outer_gutter padding ++ note_bullet bullet ++ space ++ byte_stream note_line ++ newline
 
 -- ---- the rows under a line
 
@@ -95,14 +76,6 @@ abbrev pub hanging_rows_stream : rust_context.RowContext → rust_line.Line → 
 hanging_rows_stream x line labels =
     hanging_stream (context_view x) (line_view line)
     (filter has_message (single_label_views labels))
-
--- the pointer row, even where no message hangs, and the rows of the messages of these labels that
--- may hang
-abbrev pub unconditional_pointer_and_hanging_rows_stream : rust_context.RowContext → rust_line.Line
-    → rust_messages.Messages → Stream
-unconditional_pointer_and_hanging_rows_stream x line found =
-    pointer_row (context_view x) (line_view line) ++ newline
-    ++ hanging_rows_stream x line found.after.now ++ hanging_rows_stream x line found.before.now
 
 -- the pointer row and the rows of all messages of the line that hang, or nothing where none hangs
 abbrev pub pointer_and_hanging_rows_stream : rust_context.RowContext → rust_line.Line → Stream

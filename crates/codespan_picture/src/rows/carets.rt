@@ -2,8 +2,8 @@
 
 ghost use Rattle.std.specs.Prelude.{◌≡◌, ◌++◌};
 ghost use Rattle.codespan_core.specs.WriterLaw.{Writes};
-ghost use Rattle.codespan_picture.specs.Carets.{is_overlapping, max_label_end};
-ghost use Rattle.codespan_picture.specs.Arguments.{single_label_view, single_label_views};
+ghost use Rattle.codespan_picture.specs.Carets.{max_label_end};
+ghost use Rattle.codespan_picture.specs.Arguments.{single_label_views};
 ghost use Rattle.codespan_picture.specs.Private.Runs.{caret_run};
 ghost use Rattle.codespan_picture.specs.Private.RowLabels.{optional_label_view};
 ghost use Rattle.codespan_picture.specs.Private.WrittenParts.{caret_rows_stream, carets_stream};
@@ -16,20 +16,12 @@ use crate::rows::char_cursor::CharCursor;
 use crate::rows::line::RowContext;
 use crate::rows::line_characters::LineCharacters;
 use crate::rows::line_rows::LineRows;
-use crate::rows::parts::{change_style, write_newline, write_row_start, write_space};
+use crate::rows::parts::{change_style, write_row_start};
 use crate::rows::runs::{write_repeated, write_spaces};
 use codespan_core::diagnostic::{LabelStyle, Severity};
-use codespan_core::term::Chars;
 use codespan_core::term::config::put_style::PutStyle;
 use codespan_core::term::config::style_mark::StyleMark;
 use codespan_core::term::config::writing::put_all;
-
-/// Returns whether the label has a byte from the index `start` to before the index `end`.
-pub fn is_overlapping(label: &SingleLabel<'_>, start: usize, end: usize) -> bool
-    ensures { result ≡ is_overlapping (single_label_view label.now) start end }
-{
-    label.1.start.max(start) < label.1.end.min(end)
-}
 
 /// Returns the greatest end of the labels, in bytes from the line's start, or 0 where there is
 /// none.
@@ -43,26 +35,8 @@ pub fn max_label_end(labels: &[SingleLabel<'_>]) -> usize
     greatest
 }
 
-/// Writes `count` carets of a style, or spaces where there is no style.
-#[tactic(auto, unfolding(crate::specs::Private::Runs::caret_run))]
-#[inline(always)]
-fn write_caret_run<W: PutStyle>(
-    w: &mut W,
-    chars: &Chars<'_>,
-    style: Option<LabelStyle>,
-    count: u128,
-) -> Result<(), W::Error>
-    ensures { Writes (W.sink w.old) (caret_run chars.now style count) result (W.sink w.new) }
-{
-    match style {
-        None => write_spaces(w, count)?,
-        Some(LabelStyle::Primary) => write_repeated(w, chars.single_primary_caret, count)?,
-        Some(LabelStyle::Secondary) => write_repeated(w, chars.single_secondary_caret, count)?,
-    }
-    Ok(())
-}
-
-/// Writes a run of `count` carets of one style, or of spaces, and the style mark of the next run.
+/// Writes a run of `count` carets of a style, or of spaces where there is no style, and the style
+/// mark of the next run.
 #[inline(always)]
 fn end_caret_run<W: PutStyle>(
     w: &mut W,
@@ -76,12 +50,19 @@ fn end_caret_run<W: PutStyle>(
         ++ style_change context.entry.severity previous style)
         result (W.sink w.new) }
 {
-    write_caret_run(w, context.chars, previous, count)?;
+    match previous {
+        None => write_spaces(w, count)?,
+        Some(LabelStyle::Primary) => write_repeated(w, context.chars.single_primary_caret, count)?,
+        Some(LabelStyle::Secondary) => {
+            write_repeated(w, context.chars.single_secondary_caret, count)?;
+        }
+    }
     change_style(w, context.severity, previous, style)
 }
 
 /// Writes the carets under the characters of a line, the last of which is the placeholder after the
-/// text.
+/// text. It is not inlined, so that its loop has the registers to itself.
+#[inline(never)]
 fn write_carets<W: PutStyle, S: LineCharacters>(
     w: &mut W,
     rows: &LineRows<'_, '_, S>,
@@ -141,7 +122,7 @@ fn write_trailing_message<W: PutStyle>(
 {
     match trailing_label {
         Some(label) => {
-            write_space(w)?;
+            put_all(w, b" ")?;
             write_message(w, severity, label)
         }
         None => Ok(()),
@@ -167,5 +148,5 @@ pub fn write_caret_row<W: PutStyle, S: LineCharacters>(
     write_row_start(w, rows.context, rows.line)?;
     write_carets(w, rows)?;
     write_trailing_message(w, rows.context.severity, rows.messages.trailing_label)?;
-    write_newline(w)
+    put_all(w, b"\n")
 }

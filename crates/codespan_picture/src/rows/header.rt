@@ -4,15 +4,13 @@ ghost use Rattle.std.specs.Prelude.{◌≡◌, ◌++◌};
 ghost use Rattle.std.specs.Option.{option_map};
 ghost use Rattle.codespan_core.specs.Streams.{newline};
 ghost use Rattle.codespan_core.specs.WriterLaw.{Writes};
-ghost use Rattle.codespan_core.specs.SnippetStarts.{start_text};
 ghost use Rattle.codespan_picture.specs.Arguments.{locus_view, text_now};
 ghost use Rattle.codespan_picture.specs.RowParts.{severity_name};
 ghost use Rattle.codespan_picture.specs.RowStreams.{bracketed, header_locus, snippet_start_row};
-ghost use Rattle.codespan_picture.specs.Private.WrittenParts.{header_start_stream};
 ghost use Rattle.codespan_picture.specs.RenderedRows.{rendered_header};
 
 use crate::arguments::Locus;
-use crate::rows::parts::{outer_gutter, snippet_locus, write_newline, write_space};
+use crate::rows::parts::{outer_gutter, snippet_locus};
 use codespan_core::diagnostic::Severity;
 use codespan_core::term::config::put_style::PutStyle;
 use codespan_core::term::config::style_mark::StyleMark;
@@ -61,22 +59,6 @@ fn write_code<W: PutStyle>(w: &mut W, code: Option<&str>) -> Result<(), W::Error
     }
 }
 
-/// Writes the start of a header: locus, severity and code.
-fn write_header_start<W: PutStyle>(
-    w: &mut W,
-    locus: Option<&Locus>,
-    severity: Severity,
-    code: Option<&str>,
-) -> Result<(), W::Error>
-    ensures { Writes (W.sink w.old) (header_start_stream locus.entry severity code.entry)
-        result (W.sink w.new) }
-{
-    write_header_locus(w, locus)?;
-    w.put_mark(StyleMark::Header(severity))?;
-    put_all(w, severity_name(severity).as_bytes())?;
-    write_code(w, code)
-}
-
 /// Writes the header of a diagnostic: locus, severity, code and message. An empty code is left out.
 ///
 /// # Errors
@@ -92,22 +74,15 @@ pub fn write_header<W: PutStyle>(
     ensures { Writes (W.sink w.old) (rendered_header locus.entry severity code.entry message.now)
         result (W.sink w.new) }
 {
-    write_header_start(w, locus, severity, code)?;
+    write_header_locus(w, locus)?;
+    w.put_mark(StyleMark::Header(severity))?;
+    put_all(w, severity_name(severity).as_bytes())?;
+    write_code(w, code)?;
     w.put_mark(StyleMark::HeaderMessage)?;
     put_all(w, b": ")?;
     put_all(w, message.as_bytes())?;
     w.put_mark(StyleMark::Reset)?;
-    write_newline(w)
-}
-
-/// Returns the text before a locus at the start of a snippet.
-fn start_text<'a>(chars: &'a Chars<'_>) -> &'a str
-    ensures { result.now ≡ start_text chars.now.snippet_start }
-{
-    match &chars.snippet_start {
-        SnippetStart::Fixed(text) => text,
-        SnippetStart::Owned(text) => text.as_str(),
-    }
+    put_all(w, b"\n")
 }
 
 /// Writes the start of a file's snippet: outer gutter, [`Chars::snippet_start`] and locus.
@@ -127,9 +102,13 @@ pub fn write_snippet_start<W: PutStyle>(
 {
     outer_gutter(w, padding)?;
     w.put_mark(StyleMark::SourceBorder)?;
-    put_all(w, start_text(chars).as_bytes())?;
+    let start = match &chars.snippet_start {
+        SnippetStart::Fixed(text) => *text,
+        SnippetStart::Owned(text) => text.as_str(),
+    };
+    put_all(w, start.as_bytes())?;
     w.put_mark(StyleMark::Reset)?;
-    write_space(w)?;
+    put_all(w, b" ")?;
     snippet_locus(w, locus)?;
-    write_newline(w)
+    put_all(w, b"\n")
 }

@@ -17,7 +17,7 @@ use crate::arguments::MultiLabel;
 pub use crate::lane_shapes::Shape;
 use crate::rows::lanes::shapes::row_shape;
 use crate::rows::line::{Lanes, RowContext};
-use crate::rows::parts::write_label_glyph;
+use crate::rows::parts::write_glyph;
 use codespan_core::diagnostic::LabelStyle;
 use codespan_core::term::Chars;
 use codespan_core::term::config::put_style::PutStyle;
@@ -114,7 +114,7 @@ fn write_lane_glyph<W: PutStyle>(
         result (W.sink w.new) }
 {
     write_crossing_characters(w, context, crossing, 1)?;
-    write_label_glyph(w, context.severity, style, own)
+    write_glyph(w, StyleMark::Label(context.severity, style), own)
 }
 
 /// Writes the two characters of a lane.

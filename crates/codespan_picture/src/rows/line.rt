@@ -89,18 +89,10 @@ pub fn text_without_line_end(source: &str) -> &str
 {
     let bytes = source.as_bytes();
     let mut end = bytes.len();
-    while end > 0 && is_line_end(bytes[end - 1]) {
+    while end > 0 && matches!(bytes[end - 1], b'\n' | b'\r' | b'\0') {
         end -= 1;
     }
     &source[..end]
-}
-
-/// Returns whether a byte is a line feed, a carriage return or NUL, which are not rendered at a
-/// line's end.
-fn is_line_end(byte: u8) -> bool
-    ensures { result ≡ is_line_end byte }
-{
-    matches!(byte, b'\n' | b'\r' | b'\0')
 }
 
 /// Returns the length in bytes of the white space that the text begins with: characters with the

@@ -12,7 +12,7 @@ ghost use Rattle.codespan_picture.specs.Rows as of_line;
 ghost use Rattle.std.proofs.Props.{props};
 
 use crate::arguments::SingleLabel;
-use crate::rows::carets::{is_overlapping, max_label_end};
+use crate::rows::carets::max_label_end;
 
 /// The labels of a line by their messages: the one whose message trails, and those before and after
 /// it, of which those with a message hang.
@@ -88,7 +88,7 @@ fn overlaps_any(label: &SingleLabel<'_>, others: &[SingleLabel<'_>]) -> bool
     ensures { result ≡ overlaps_any (single_label_view label.now) (single_label_views others.now) }
 {
     for other in others {
-        if is_overlapping(label, other.1.start, other.1.end) {
+        if label.1.start.max(other.1.start) < label.1.end.min(other.1.end) {
             return true;
         }
     }

@@ -1,12 +1,13 @@
 //! Parts that several kinds of rows have.
 
-ghost use Rattle.codespan_core.specs.Streams.{space, newline};
+ghost use Rattle.std.specs.Prelude.{◌++◌};
+ghost use Rattle.codespan_core.specs.Streams.{glyph, style_mark};
+ghost use Rattle.codespan_core.specs.declared.term.config.style_mark.StyleMark.TheVariants.{Reset};
 ghost use Rattle.codespan_core.specs.WriterLaw.{Writes};
 ghost use Rattle.codespan_picture.specs.Arguments.{locus_view};
 ghost use Rattle.codespan_picture.specs.Private.LineViews.{context_view, line_view};
-ghost use Rattle.codespan_picture.specs.Lanes.{label_glyph};
-ghost use Rattle.codespan_picture.specs.RowParts.{outer_gutter, outer_gutter_number, border_left};
-ghost use Rattle.codespan_picture.specs.RowParts.{border_left_break, snippet_locus, style_change};
+ghost use Rattle.codespan_picture.specs.RowParts.{outer_gutter, outer_gutter_number};
+ghost use Rattle.codespan_picture.specs.RowParts.{snippet_locus, style_change};
 ghost use Rattle.codespan_picture.specs.RowStreams.{row_start};
 
 use crate::arguments::Locus;
@@ -15,32 +16,9 @@ use crate::rows::lanes::{LaneRowKind, inner_gutter};
 use crate::rows::line::{Line, RowContext};
 use crate::rows::runs::write_spaces;
 use codespan_core::diagnostic::{LabelStyle, Severity};
-use codespan_core::term::Chars;
 use codespan_core::term::config::put_style::PutStyle;
 use codespan_core::term::config::style_mark::StyleMark;
 use codespan_core::term::config::writing::{put_all, put_char, put_number, put_spaces};
-
-/// Writes a newline, the end of a row.
-///
-/// # Errors
-///
-/// The writer's error; a prefix has then been written.
-pub fn write_newline<W: PutStyle>(w: &mut W) -> Result<(), W::Error>
-    ensures { Writes (W.sink w.old) newline result (W.sink w.new) }
-{
-    put_all(w, b"\n")
-}
-
-/// Writes a space.
-///
-/// # Errors
-///
-/// The writer's error; a prefix has then been written.
-pub fn write_space<W: PutStyle>(w: &mut W) -> Result<(), W::Error>
-    ensures { Writes (W.sink w.old) space result (W.sink w.new) }
-{
-    put_all(w, b" ")
-}
 
 /// Writes the outer gutter without a line number: the padding and one space more.
 ///
@@ -72,51 +50,20 @@ pub fn outer_gutter_number<W: PutStyle>(
     put_spaces(w, padding.saturating_sub(count_digits(number)))?;
     put_number(w, number)?;
     w.put_mark(StyleMark::Reset)?;
-    write_space(w)
+    put_all(w, b" ")
 }
 
-/// Writes the left border of a row that is not a break row.
+/// Writes one character in the style of a mark: the mark, the character and a reset.
 ///
 /// # Errors
 ///
 /// The writer's error; a prefix has then been written.
 #[inline(always)]
-pub fn border_left<W: PutStyle>(w: &mut W, chars: &Chars<'_>) -> Result<(), W::Error>
-    ensures { Writes (W.sink w.old) (border_left chars.now) result (W.sink w.new) }
+pub fn write_glyph<W: PutStyle>(w: &mut W, mark: StyleMark, c: char) -> Result<(), W::Error>
+    ensures { Writes (W.sink w.old) (style_mark mark ++ glyph c ++ style_mark Reset) result
+        (W.sink w.new) }
 {
-    w.put_mark(StyleMark::SourceBorder)?;
-    put_char(w, chars.source_border_left)?;
-    w.put_mark(StyleMark::Reset)
-}
-
-/// Writes the left border of a break row.
-///
-/// # Errors
-///
-/// The writer's error; a prefix has then been written.
-pub fn border_left_break<W: PutStyle>(w: &mut W, chars: &Chars<'_>) -> Result<(), W::Error>
-    ensures { Writes (W.sink w.old) (border_left_break chars.now) result (W.sink w.new) }
-{
-    w.put_mark(StyleMark::SourceBorder)?;
-    put_char(w, chars.source_border_left_break)?;
-    w.put_mark(StyleMark::Reset)
-}
-
-/// Writes one character in a label's style.
-///
-/// # Errors
-///
-/// The writer's error; a prefix has then been written.
-#[inline(always)]
-pub fn write_label_glyph<W: PutStyle>(
-    w: &mut W,
-    severity: Severity,
-    style: LabelStyle,
-    c: char,
-) -> Result<(), W::Error>
-    ensures { Writes (W.sink w.old) (label_glyph severity style c) result (W.sink w.new) }
-{
-    w.put_mark(StyleMark::Label(severity, style))?;
+    w.put_mark(mark)?;
     put_char(w, c)?;
     w.put_mark(StyleMark::Reset)
 }
@@ -177,7 +124,7 @@ pub fn write_row_start<W: PutStyle>(
         result (W.sink w.new) }
 {
     outer_gutter(w, context.padding)?;
-    border_left(w, context.chars)?;
+    write_glyph(w, StyleMark::SourceBorder, context.chars.source_border_left)?;
     inner_gutter(
         w,
         context,
@@ -185,5 +132,5 @@ pub fn write_row_start<W: PutStyle>(
         LaneRowKind::SingleLabels,
         line.lanes,
     )?;
-    write_space(w)
+    put_all(w, b" ")
 }

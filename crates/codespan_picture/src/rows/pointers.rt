@@ -9,7 +9,6 @@ ghost use Rattle.codespan_picture.specs.Private.PointerLists.{pointer_under};
 ghost use Rattle.codespan_picture.specs.Private.WrittenParts.{pointers_before_stream};
 ghost use Rattle.codespan_picture.specs.Private.WrittenParts.{hanging_rows_stream};
 ghost use Rattle.codespan_picture.specs.Private.WrittenParts.{pointer_and_hanging_rows_stream};
-ghost use Rattle.codespan_picture.specs.Private.WrittenParts.{unconditional_pointer_and_hanging_rows_stream};
 ghost use Rattle.codespan_picture.specs.RowParts.{max_label_start};
 ghost use Rattle.codespan_picture.specs.RowStreams.{pointer_row, hanging_row};
 
@@ -19,11 +18,13 @@ use crate::rows::carets::write_message;
 use crate::rows::line_characters::LineCharacters;
 use crate::rows::line_rows::LineRows;
 use crate::rows::messages::has_any_message;
-use crate::rows::parts::{write_label_glyph, write_newline, write_row_start};
+use crate::rows::parts::{write_glyph, write_row_start};
 use crate::rows::pointer_cursor::{Pointer, PointerCursor};
 use crate::rows::runs::write_spaces;
 use codespan_core::diagnostic::LabelStyle;
 use codespan_core::term::config::put_style::PutStyle;
+use codespan_core::term::config::style_mark::StyleMark;
+use codespan_core::term::config::writing::put_all;
 
 /// Returns the greatest start of the labels, in bytes from the line's start, or 0 where there is
 /// none.
@@ -72,12 +73,8 @@ fn write_caret_pointers<W: PutStyle, S: LineCharacters>(
             break;
         }
         write_spaces(w, pointer.column.saturating_sub(column))?;
-        write_label_glyph(
-            w,
-            context.severity,
-            pointer.style,
-            context.chars.pointer_left,
-        )?;
+        let mark = StyleMark::Label(context.severity, pointer.style);
+        write_glyph(w, mark, context.chars.pointer_left)?;
         column = pointer.end_column;
     }
     write_spaces(w, edge.saturating_sub(column))
@@ -97,7 +94,7 @@ fn write_pointer_row<W: PutStyle, S: LineCharacters>(
         .characters
         .width_up_to(max_label_start(rows.line.labels));
     write_caret_pointers(w, rows, usize::MAX, edge)?;
-    write_newline(w)
+    put_all(w, b"\n")
 }
 
 /// Writes a hanging message under its pointer.
@@ -117,7 +114,7 @@ fn write_hanging_row<W: PutStyle, S: LineCharacters>(
     let edge = rows.characters.width_before(label.1.start);
     write_caret_pointers(w, rows, label.1.start, edge)?;
     write_message(w, rows.context.severity, label)?;
-    write_newline(w)
+    put_all(w, b"\n")
 }
 
 /// Writes a row for each message of these labels, the last label's first.
@@ -140,22 +137,6 @@ fn write_hanging_rows<W: PutStyle, S: LineCharacters>(
     Ok(())
 }
 
-/// Writes the pointer row, even where no message hangs, and a row for each hanging message, the
-/// last label's first.
-fn write_pointer_and_hanging_rows_unconditionally<W: PutStyle, S: LineCharacters>(
-    w: &mut W,
-    rows: &LineRows<'_, '_, S>,
-) -> Result<(), W::Error>
-    ensures { Writes (W.sink w.old)
-        (unconditional_pointer_and_hanging_rows_stream rows.now.context rows.now.line
-        rows.now.messages)
-        result (W.sink w.new) }
-{
-    write_pointer_row(w, rows)?;
-    write_hanging_rows(w, rows, rows.messages.after)?;
-    write_hanging_rows(w, rows, rows.messages.before)
-}
-
 /// Writes the pointer row and a row for each hanging message, the last label's first, or nothing
 /// where no message hangs.
 ///
@@ -173,5 +154,7 @@ pub fn write_pointer_and_hanging_rows<W: PutStyle, S: LineCharacters>(
     if !has_any_message(rows.messages.before) && !has_any_message(rows.messages.after) {
         return Ok(());
     }
-    write_pointer_and_hanging_rows_unconditionally(w, rows)
+    write_pointer_row(w, rows)?;
+    write_hanging_rows(w, rows, rows.messages.after)?;
+    write_hanging_rows(w, rows, rows.messages.before)
 }

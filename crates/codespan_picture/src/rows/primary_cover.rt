@@ -42,17 +42,21 @@ impl PrimaryCover {
         ensures { (c : metrics.Metrics) → 1 ≤ c.bytes → covers_char result c
             ≡ (covers_char self c || multi_label_covers c (multi_label_view multi_label.entry)) }
     {
-        match multi_label {
-            MultiLabel::Top(start) => PrimaryCover {
-                from: Some(least(self.from, start)),
+        match (multi_label, self.from) {
+            (MultiLabel::Top(start), Some(from)) => PrimaryCover {
+                from: Some(from.min(start)),
                 to: self.to,
             },
-            MultiLabel::Left => PrimaryCover {
+            (MultiLabel::Top(start), None) => PrimaryCover {
+                from: Some(start),
+                to: self.to,
+            },
+            (MultiLabel::Left, _) => PrimaryCover {
                 from: Some(0),
                 to: self.to,
             },
-            MultiLabel::Bottom(end, _) => PrimaryCover {
-                from: self.from,
+            (MultiLabel::Bottom(end, _), from) => PrimaryCover {
+                from,
                 to: self.to.max(end),
             },
         }
@@ -88,16 +92,5 @@ impl PrimaryCover {
             Some(start) => start <= metrics.byte_index || before,
             None => before,
         }
-    }
-}
-
-/// Returns the lesser of two starts, or `start` where `from` is `None`.
-fn least(from: Option<usize>, start: usize) -> usize
-    ensures { (byte_index : ℕ) → nat_le result byte_index
-        ≡ (is_from from byte_index || nat_le start byte_index) }
-{
-    match from {
-        Some(other) => other.min(start),
-        None => start,
     }
 }

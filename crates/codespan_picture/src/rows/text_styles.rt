@@ -1,20 +1,18 @@
 //! Which characters of a line have a style in its source row, and which of its text is written
 //! unchanged.
 
-ghost use Rattle.std.specs.Prelude.{◌≡◌, ◌<◌, ◌≤◌, ◌==◌, None, drop, false, length, map, true};
+ghost use Rattle.std.specs.Prelude.{◌≡◌, ◌<◌, ◌≤◌, ◌==◌, None, drop, false, filter, length, map};
 ghost use Rattle.std.specs.List.{list_any};
-ghost use Rattle.codespan_core.specs.Labels.{LaneMark, is_primary, is_primary_style};
-ghost use Rattle.codespan_core.specs.Streams.{byte_stream};
+ghost use Rattle.codespan_core.specs.Labels.{is_primary};
 ghost use Rattle.codespan_picture.specs.declared.char_metrics.Metrics as metrics;
 ghost use Rattle.codespan_picture.specs.Arguments.{single_label_views, lane_mark_view};
 ghost use Rattle.codespan_picture.specs.Private.LineViews.{line_view};
 ghost use Rattle.codespan_picture.specs.Private.PrimaryCover.{CoversAsLaneMarks};
-ghost use Rattle.codespan_picture.specs.Rows.{RowContext};
-ghost use Rattle.codespan_picture.specs.RowParts.{colored_text, source_style};
+ghost use Rattle.codespan_picture.specs.Carets.{max_label_end};
+ghost use Rattle.codespan_picture.specs.RowParts.{source_style};
 
-use crate::arguments::{MultiLabel, SingleLabel};
+use crate::arguments::SingleLabel;
 use crate::char_metrics::Metrics;
-use crate::rows::carets::max_label_end;
 use crate::rows::char_cursor::CharCursor;
 use crate::rows::line::Line;
 use crate::rows::primary_cover::PrimaryCover;
@@ -42,56 +40,25 @@ pub fn source_style<C: CharCursor>(
     ensures labels { C.labels cursor.new ≡ C.labels cursor.old }
     ensures style { result ≡ source_style (line_view line.entry) metrics }
 {
-    if cursor.is_covered_by_primary(metrics) || primary.covers_char(metrics) {
+    if cursor.style_under(metrics) == Some(LabelStyle::Primary) || primary.covers_char(metrics) {
         Some(LabelStyle::Primary)
     } else {
         None
     }
 }
 
-/// Returns whether one of these labels is primary.
-fn has_primary_label(labels: &[SingleLabel<'_>]) -> bool
-    ensures { result ≡ list_any is_primary (single_label_views labels.now) }
+/// Returns the greatest end of the primary labels, in bytes from the line's start, or 0 where there
+/// is none.
+fn max_primary_end(labels: &[SingleLabel<'_>]) -> usize
+    ensures { result ≡ max_label_end (filter is_primary (single_label_views labels.now)) }
 {
+    let mut greatest = 0;
     for label in labels {
         if label.0 == LabelStyle::Primary {
-            return true;
+            greatest = label.1.end.max(greatest);
         }
     }
-    false
-}
-
-/// Returns whether one of these lane marks is primary.
-fn has_primary_lane_mark(lane_marks: &[(usize, LabelStyle, MultiLabel<'_>)]) -> bool
-    ensures { result
-        ≡ list_any (λ (m : LaneMark). is_primary_style m.style)
-        (map lane_mark_view lane_marks.now) }
-{
-    for lane_mark in lane_marks {
-        if lane_mark.1 == LabelStyle::Primary {
-            return true;
-        }
-    }
-    false
-}
-
-/// Returns whether the text has a tab.
-fn has_tab(text: &str) -> bool
-    ensures { result ≡ list_any (λ b. b == 9) text.now }
-{
-    text.as_bytes().contains(&b'\t')
-}
-
-/// Returns whether the text of a line is known to be written unchanged: it has no tab, and no label
-/// of the line and no lane mark is primary.
-#[inline(always)]
-pub fn is_plain(line: Line<'_, '_>) -> bool
-    ensures { result ≡ true → (context : RowContext)
-        → colored_text context (line_view line.entry) ≡ byte_stream line.entry.text.now }
-{
-    !has_primary_label(line.labels)
-        && !has_primary_lane_mark(line.lanes.lane_marks)
-        && !has_tab(line.text)
+    greatest
 }
 
 /// Returns a byte index from which on the text of a line is written unchanged: no primary label,
@@ -112,7 +79,7 @@ pub fn plain_from(line: Line<'_, '_>, primary: PrimaryCover) -> usize
     let text = line.text.as_bytes();
     let end = primary
         .end()
-        .max(max_label_end(line.labels))
+        .max(max_primary_end(line.labels))
         .min(text.len());
     if text[end..].contains(&b'\t') {
         text.len()

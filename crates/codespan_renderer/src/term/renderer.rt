@@ -12,6 +12,7 @@ mod write_style;
 
 use codespan_core::diagnostic::{LabelStyle, Severity};
 use codespan_core::files::Error;
+use codespan_core::term::config::writing::put_all;
 use codespan_core::term::{Config, WriteStyle};
 pub use codespan_picture::arguments::{Locus, MultiLabel, SingleLabel};
 use codespan_picture::rows::header::{write_header, write_snippet_start};
@@ -20,11 +21,11 @@ pub use codespan_picture::rows::line::{Lanes, Line};
 use codespan_picture::rows::line_rows::write_line;
 use codespan_picture::rows::messages::Messages;
 use codespan_picture::rows::notes::{write_break, write_note, write_snippet_empty};
-use codespan_picture::rows::parts::write_newline;
-use row_writer::{RowWriter, write_zero_error};
+use row_writer::RowWriter;
 use scanned_line::ScannedLine;
 use std::cell::Cell;
 use std::io;
+use std::io::ErrorKind;
 
 /// Returns whether the lanes ascend strictly and each is less than `num_multi_labels`: lanes are
 /// counted from 0. The calls with lanes require it.
@@ -85,7 +86,7 @@ impl<'writer, 'config, W: WriteStyle> Renderer<'writer, 'config, W> {
     {
         Renderer {
             writer,
-            saved: Cell::new(write_zero_error()),
+            saved: Cell::new(io::Error::from(ErrorKind::WriteZero)),
             config,
         }
     }
@@ -134,7 +135,7 @@ impl<'writer, 'config, W: WriteStyle> Renderer<'writer, 'config, W> {
         ensures { Renders W.sink newline self.old result self.new }
     {
         let mut rows = RowWriter::new(self.writer, &self.saved);
-        let written = write_newline(&mut rows);
+        let written = put_all(&mut rows, b"\n");
         rows.outcome(written)
     }
 

@@ -9,9 +9,8 @@ pub use codespan_picture::char_metrics::Metrics;
 use std::str::Chars;
 use unicode_width::UnicodeWidthChar;
 
-/// An iterator over the characters of a line, from left to right. One that
-/// [`CharMetrics::with_placeholder`] or [`CharMetrics::fork`] returns may also yield the
-/// placeholder after the last one, which counts as one more character of one byte and one cell.
+/// An iterator over the characters of a line, from left to right. It may also yield the placeholder
+/// after the last one, which counts as one more character of one byte and one cell.
 #[derive(Drop)]
 pub struct CharMetrics<'text> {
     text: &'text str,
@@ -28,7 +27,6 @@ pub struct CharMetrics<'text> {
 
 impl<'text> CharMetrics<'text> {
     ghost use Rattle.std.specs.Prelude.{true};
-    ghost use Rattle.codespan_picture.specs.CharMetrics.{char_metrics, char_metrics_to_end};
     ghost use Rattle.codespan_picture.specs.CharMetrics.{metrics_then, width_of};
     ghost use Rattle.codespan_picture.specs.RowParts.{metrics_up_to};
     ghost use Rattle.codespan_renderer.specs.Private.RemainingMetrics.{MetricsAfterEnd};
@@ -37,11 +35,12 @@ impl<'text> CharMetrics<'text> {
     ghost use Rattle.codespan_renderer.specs.Private.RemainingMetrics.{remaining_metrics, no_more};
     ghost use Rattle.std.specs.Str.{chars};
 
-    /// Returns an iterator over the characters of the line alone.
-    pub fn new(text: &'text str, tab_width: usize) -> CharMetrics<'text>
+    /// Returns an iterator over the characters of the line, and over the placeholder after the last
+    /// one where `has_placeholder` is set.
+    pub fn new(text: &'text str, tab_width: usize, has_placeholder: bool) -> CharMetrics<'text>
         ensures whole { (after : MetricsAfterEnd) → metrics_from after result
             ≡ metrics_then after tab_width 0 0 (chars text.now) }
-        ensures char_metrics { remaining_metrics result ≡ char_metrics tab_width text.now }
+        ensures placeholder { result.has_placeholder ≡ has_placeholder }
         ensures text { result.text.now ≡ text.now }
         ensures byte_index { result.byte_index ≡ 0 }
         ensures utf8 { ∥ IsUtf8 text.now ∥₁ }
@@ -52,22 +51,7 @@ impl<'text> CharMetrics<'text> {
             tab_width,
             byte_index: 0,
             column: 0,
-            has_placeholder: false,
-        }
-    }
-
-    /// Returns an iterator over the characters of the line and the placeholder after the last one.
-    pub fn with_placeholder(text: &'text str, tab_width: usize) -> CharMetrics<'text>
-        ensures char_metrics { remaining_metrics result ≡ char_metrics_to_end tab_width text.now }
-        ensures utf8 { ∥ IsUtf8 text.now ∥₁ }
-    {
-        CharMetrics {
-            text,
-            chars: text.chars(),
-            tab_width,
-            byte_index: 0,
-            column: 0,
-            has_placeholder: true,
+            has_placeholder,
         }
     }
 

@@ -37,7 +37,7 @@ impl<'row, W: WriteStyle> RowWriter<'row, W> {
     }
 
     /// Returns the result of a call that wrote rows to this writer, with the saved error where it
-    /// failed.
+    /// failed. It saves `WriteZero`, the error of a `put` that takes no bytes, in its place.
     ///
     /// # Errors
     ///
@@ -49,23 +49,12 @@ impl<'row, W: WriteStyle> RowWriter<'row, W> {
     {
         match written {
             Ok(()) => Ok(()),
-            Err(Failed) => Err(take_error(self.saved)),
+            Err(Failed) => {
+                let unused = io::Error::from(ErrorKind::WriteZero);
+                Err(Error::Io(self.saved.replace(unused)))
+            }
         }
     }
-}
-
-/// Returns the error of a `put` that takes no bytes: `WriteZero`. It is what is saved until a call
-/// fails with another.
-pub fn write_zero_error() -> io::Error {
-    io::Error::from(ErrorKind::WriteZero)
-}
-
-/// Takes the saved error, and saves `WriteZero` in its place.
-#[cold]
-fn take_error(saved: &Cell<io::Error>) -> Error
-    ensures { IsIo result }
-{
-    Error::Io(saved.replace(write_zero_error()))
 }
 
 /// Saves the error of a call that failed.

@@ -7,9 +7,7 @@ ghost use Rattle.codespan_picture.specs.RowParts.{max_label_start};
 
 use crate::term::renderer::SingleLabel;
 use crate::term::renderer::char_metrics::{CharMetrics, Metrics};
-use crate::term::renderer::label_styles::{
-    is_covered_by_primary, pointer_style_if_any, style_under,
-};
+use crate::term::renderer::label_styles::{prefer_primary, start_style};
 use codespan_core::diagnostic::LabelStyle;
 use codespan_picture::rows::char_cursor::CharCursor;
 use codespan_picture::rows::line_characters::LineCharacters;
@@ -41,12 +39,14 @@ impl<'row, 'd> CharCursor for ScanCursor<'row, 'd> {
 
     #[inline(always)]
     fn style_under(&mut self, metrics: Metrics) -> Option<LabelStyle> {
-        style_under(self.labels, metrics)
-    }
-
-    #[inline(always)]
-    fn is_covered_by_primary(&mut self, metrics: Metrics) -> bool {
-        is_covered_by_primary(self.labels, metrics)
+        let mut found = None;
+        for label in self.labels {
+            let first = label.1.start.max(metrics.byte_index);
+            if first < label.1.end && first - metrics.byte_index < metrics.bytes {
+                found = prefer_primary(found, label.0);
+            }
+        }
+        found
     }
 }
 
@@ -74,7 +74,8 @@ impl<'row, 'd> PointerCursor for PointerScan<'row, 'd> {
             if metrics.byte_index > self.greatest_start {
                 return None;
             }
-            if let Some(style) = pointer_style_if_any(self.messages, metrics) {
+            let early = start_style(None, self.messages.before, metrics);
+            if let Some(style) = start_style(early, self.messages.after, metrics) {
                 return Some(pointer_under(metrics, style));
             }
         }
@@ -105,7 +106,7 @@ impl<'row, 'd> LineCharacters for ScannedLine<'row, 'd> {
     #[inline(always)]
     fn characters(&self) -> ScanCursor<'row, 'd> {
         ScanCursor {
-            char_metrics: CharMetrics::new(self.text, self.tab_width),
+            char_metrics: CharMetrics::new(self.text, self.tab_width, false),
             labels: self.messages.labels,
         }
     }
@@ -113,7 +114,7 @@ impl<'row, 'd> LineCharacters for ScannedLine<'row, 'd> {
     #[inline(always)]
     fn characters_from_labels(&self, _end: usize) -> (u128, ScanCursor<'row, 'd>) {
         let cursor = ScanCursor {
-            char_metrics: CharMetrics::with_placeholder(self.text, self.tab_width),
+            char_metrics: CharMetrics::new(self.text, self.tab_width, true),
             labels: self.messages.labels,
         };
         (0, cursor)
@@ -122,7 +123,7 @@ impl<'row, 'd> LineCharacters for ScannedLine<'row, 'd> {
     #[inline(always)]
     fn pointers(&self) -> PointerScan<'row, 'd> {
         PointerScan {
-            char_metrics: CharMetrics::new(self.text, self.tab_width),
+            char_metrics: CharMetrics::new(self.text, self.tab_width, false),
             messages: self.messages,
             greatest_start: max_label_start(self.messages.labels),
         }
@@ -130,6 +131,6 @@ impl<'row, 'd> LineCharacters for ScannedLine<'row, 'd> {
 
     #[inline(always)]
     fn width_up_to(&self, byte_index: usize) -> u128 {
-        CharMetrics::new(self.text, self.tab_width).column_past(byte_index)
+        CharMetrics::new(self.text, self.tab_width, false).column_past(byte_index)
     }
 }

@@ -69,4 +69,4 @@ returns g c =
     (written-then _ _ _
     (written-then _ _ _ c.in_ok-write_row_start.ensures c.in_ok-write_carets.ensures)
     (rw trails at c.in_ok-write_trailing_message.ensures))
-    c.write_newline.ensures)
+    c.put_all.ensures)

@@ -3,7 +3,7 @@ use Rattle.std.proofs.lemmas.Iterator.Splits.{YieldsList-from_lines}
 use Rattle.std.proofs.lemmas.Result.{err_from_is_err_and}
 use Rattle.codespan_core.proofs.Loops.{StillToWrite-start, StillToWrite-more, StillToWrite-failed, StillToWrite-end}
 use Rattle.codespan_picture.specs.RenderedRows.{later_note_rows_stream, note_stream}
-use Rattle.codespan_picture.proofs.UnderlineRows.{lines-next, lines-none}
+use Rattle.codespan_picture.proofs.UnderlineRows.{first-note, later-note, lines-next, lines-none}
 use Rattle.codespan_picture.proofs.rows.notes.write_note.Goals as goal
 
 pub returns-in_default : goal.returns-in_default
@@ -14,8 +14,8 @@ returns-in_default g c =
     StillToWrite-end _ _ _ _ (StillToWrite-start _ _ _ refl)
     (ap (note_stream c.args.chars.now c.args.padding) none)
 
-pub returns-in_err-write_first_note_row : goal.returns-in_err-write_first_note_row
-returns-in_err-write_first_note_row g c =
+pub returns-in_err-write_note_row : goal.returns-in_err-write_note_row
+returns-in_err-write_note_row g c =
     let p = err_from_is_err_and c.from_residual.result c.from_residual.ensures.1 in
     let all = YieldsList-from_lines {s = c.lines-note_lines.result} c.args.message.now
     c.lines-note_lines.ensures.rest in
@@ -23,7 +23,7 @@ returns-in_err-write_first_note_row g c =
     c.in-Some.ensures.steps in
     rw p.1
     (StillToWrite-failed _ _ _ _ _ _ _ (StillToWrite-start _ _ _ refl)
-    c.in_err-write_first_note_row.ensures
+    (rw first-note at c.in_err-write_note_row.ensures)
     (ap (note_stream c.args.chars.now c.args.padding) next.is))
 
 pub loop-note_line-init : goal.loop-note_line-init
@@ -37,7 +37,7 @@ loop-note_line-init g c =
       yields = next.yields;
       written_so_far =
           StillToWrite-more _ _ _ _ _ _ _ (StillToWrite-start _ _ _ refl)
-          c.in_ok-write_first_note_row.ensures
+          (rw first-note at c.in_ok-write_note_row.ensures)
           (ap (note_stream c.args.chars.now c.args.padding) next.is);
     }
 
@@ -50,19 +50,21 @@ loop-note_line-preserved g c =
       note_lines = next.after;
       yields = next.yields;
       written_so_far =
-          StillToWrite-more _ _ _ _ _ _ _ i.written_so_far c.in_ok-write_later_note_row.ensures
+          StillToWrite-more _ _ _ _ _ _ _ i.written_so_far (rw later-note at
+          c.in_ok-write_note_row-2.ensures)
           (ap (later_note_rows_stream c.args.padding) next.is);
     }
 
-pub returns-in_err-write_later_note_row : goal.returns-in_err-write_later_note_row
-returns-in_err-write_later_note_row g c =
-    let p = err_from_is_err_and c.from_residual-in_err-write_later_note_row.result
-    c.from_residual-in_err-write_later_note_row.ensures.1 in
+pub returns-in_err-write_note_row-2 : goal.returns-in_err-write_note_row-2
+returns-in_err-write_note_row-2 g c =
+    let p = err_from_is_err_and c.from_residual-in_err-write_note_row-2.result
+    c.from_residual-in_err-write_note_row-2.ensures.1 in
     let i = c.loop-note_line.invariant in
     let next = lines-next c.loop-note_line.note_line-iterator c.in-Some-note_line.note_line
     c.next-in-loop-note_line.new.self _ i.yields c.in-Some-note_line.ensures.steps in
     rw p.1
-    (StillToWrite-failed _ _ _ _ _ _ _ i.written_so_far c.in_err-write_later_note_row.ensures
+    (StillToWrite-failed _ _ _ _ _ _ _ i.written_so_far (rw later-note at
+    c.in_err-write_note_row-2.ensures)
     (ap (later_note_rows_stream c.args.padding) next.is))
 
 pub returns : goal.returns

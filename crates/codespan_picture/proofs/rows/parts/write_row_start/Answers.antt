@@ -1,34 +1,31 @@
-use Rattle.codespan_picture.proofs.RowEquations.{below_lanes_are}
 use Rattle.codespan_core.proofs.Chains.{written-then, failed-then, failed-before, failed, writes-last}
+use Rattle.codespan_picture.proofs.RowEquations.{below_lanes_are}
 use Rattle.codespan_picture.specs.RowStreams.{row_start}
+use Rattle.codespan_picture.specs.RowParts.{border_left}
 use Rattle.codespan_picture.proofs.rows.parts.write_row_start.Goals as goal
 
 pub returns-in_err-outer_gutter : goal.returns-in_err-outer_gutter
-unfolding row_start
+unfolding row_start border_left
 returns-in_err-outer_gutter g c =
-    failed _ _ _ _ _ c.from_residual.ensures.1
-    (failed-before _ (failed-before _ (failed-before _ c.in_err-outer_gutter.ensures)))
+    failed _ _ _ _ _ c.from_residual.ensures.1 (failed-before _ (failed-before _
+    (failed-before _ c.in_err-outer_gutter.ensures)))
 
-pub returns-in_err-border_left : goal.returns-in_err-border_left
-unfolding row_start
-returns-in_err-border_left g c =
-    failed _ _ _ _ _ c.from_residual-in_err-border_left.ensures.1
-    (failed-before _
-    (failed-before _ (failed-then _ c.in_ok-outer_gutter.ensures c.in_err-border_left.ensures)))
+pub returns-in_err-write_glyph : goal.returns-in_err-write_glyph
+unfolding row_start border_left
+returns-in_err-write_glyph g c =
+    failed _ _ _ _ _ c.from_residual-in_err-write_glyph.ensures.1 (failed-before _ (failed-before _
+    (failed-then _ c.in_ok-outer_gutter.ensures c.in_err-write_glyph.ensures)))
 
 pub returns-in_err-inner_gutter : goal.returns-in_err-inner_gutter
-unfolding row_start
+unfolding row_start border_left
 returns-in_err-inner_gutter g c =
-    failed _ _ _ _ _ c.from_residual-in_err-inner_gutter.ensures.1
-    (failed-before _
-    (failed-then _ (written-then _ _ _ c.in_ok-outer_gutter.ensures c.in_ok-border_left.ensures)
-    (rw (below_lanes_are, c.args.line.measured) at c.in_err-inner_gutter.ensures)))
+    failed _ _ _ _ _ c.from_residual-in_err-inner_gutter.ensures.1 (failed-before _ (failed-then _
+    (written-then _ _ _ c.in_ok-outer_gutter.ensures c.in_ok-write_glyph.ensures) (rw
+    (below_lanes_are, c.args.line.measured) at c.in_err-inner_gutter.ensures)))
 
 pub returns : goal.returns
-unfolding row_start
+unfolding row_start border_left
 returns g c =
-    writes-last _ _ _ _ _
-    (written-then _ _ _
-    (written-then _ _ _ c.in_ok-outer_gutter.ensures c.in_ok-border_left.ensures)
-    (rw (below_lanes_are, c.args.line.measured) at c.in_ok-inner_gutter.ensures))
-    c.write_space.ensures
+    writes-last _ _ _ _ _ (written-then _ _ _ (written-then _ _ _ c.in_ok-outer_gutter.ensures
+    c.in_ok-write_glyph.ensures) (rw (below_lanes_are, c.args.line.measured) at
+    c.in_ok-inner_gutter.ensures)) c.put_all.ensures

@@ -4,6 +4,7 @@ use Rattle.codespan_core.specs.Streams.{spaces}
 use Rattle.codespan_core.proofs.Chains.{failed-before, failed-then, written-then}
 use Rattle.codespan_core.proofs.Loops.{StillToWrite-start, StillToWrite-more, StillToWrite-failed}
 use Rattle.codespan_core.proofs.Loops.{StillToWrite-last}
+use Rattle.codespan_picture.specs.Lanes.{label_glyph}
 use Rattle.codespan_picture.specs.Private.LineCharacters.{pointers_of}
 use Rattle.codespan_picture.specs.Private.LineViews.{context_view}
 use Rattle.codespan_picture.specs.Private.PointerLists.{pointers_before, spaced}
@@ -29,22 +30,24 @@ returns-in_err-write_spaces g c =
     (spaced-next (context_view c.args.rows.now.context) _ _ _ _ _ c.in-Some.pointer
     c.in-Some.ensures c.if-pointer-byte_index.false))
 
-pub returns-in_err-write_label_glyph : goal.returns-in_err-write_label_glyph
-returns-in_err-write_label_glyph g c =
-    let p = err_from_is_err_and c.from_residual-in_err-write_label_glyph.result
-    c.from_residual-in_err-write_label_glyph.ensures.1 in
+pub returns-in_err-write_glyph : goal.returns-in_err-write_glyph
+unfolding label_glyph
+returns-in_err-write_glyph g c =
+    let p = err_from_is_err_and c.from_residual-in_err-write_glyph.result
+    c.from_residual-in_err-write_glyph.ensures.1 in
     rw p.1
     (StillToWrite-failed _ _ _ _ _ _ _ c.loop-pointer.invariant
     (failed-then _ (rw c.saturating_sub.ensures at c.in_ok-write_spaces.ensures)
-    c.in_err-write_label_glyph.ensures)
+    c.in_err-write_glyph.ensures)
     (spaced-next (context_view c.args.rows.now.context) _ _ _ _ _ c.in-Some.pointer
     c.in-Some.ensures c.if-pointer-byte_index.false))
 
 pub loop-pointer-preserved : goal.loop-pointer-preserved
+unfolding label_glyph
 loop-pointer-preserved g c =
     StillToWrite-more _ _ _ _ _ _ _ c.loop-pointer.invariant
     (written-then _ _ _ (rw c.saturating_sub.ensures at c.in_ok-write_spaces.ensures)
-    c.in_ok-write_label_glyph.ensures)
+    c.in_ok-write_glyph.ensures)
     (spaced-next (context_view c.args.rows.now.context) _ _ _ _ _ c.in-Some.pointer
     c.in-Some.ensures c.if-pointer-byte_index.false)
 

@@ -66,4 +66,4 @@ returns g c =
     (written-then _ _ _ c.in_ok-write_row_start.ensures
     (rw drawn at c.in_ok-write_caret_pointers.ensures))
     c.in_ok-write_message.ensures)
-    c.write_newline.ensures
+    c.put_all.ensures

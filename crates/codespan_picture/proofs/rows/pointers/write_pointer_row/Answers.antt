@@ -53,4 +53,4 @@ returns g c =
     writes-last _ _ _ _ _
     (written-then _ _ _ c.in_ok-write_row_start.ensures
     (rw drawn at c.in_ok-write_caret_pointers.ensures))
-    c.write_newline.ensures
+    c.put_all.ensures

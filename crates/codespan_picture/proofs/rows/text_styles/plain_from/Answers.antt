@@ -10,7 +10,7 @@ returns-else-contains-clause-style c = λ x low high some.
     let past : c.max.result ≤ x.byte_index = omega (arith, c.min-end.ensures, size, low, high) in
     let marked = c.end.ensures x (omega (arith, past, c.max.ensures)) (omega (arith, high)) some in
     no-style-past (line_view c.args.line) c.args.primary x c.requires.primary marked
-    (omega (arith, past, c.max.ensures, c.max_label_end.ensures)) some
+    (omega (arith, past, c.max.ensures, c.max_primary_end.ensures)) some
 
 pub returns-else-contains-clause-tab : goal.returns-else-contains-clause-tab
 returns-else-contains-clause-tab c =

@@ -14,7 +14,7 @@ unfolding underline_by_width
 returns-in_ok-write_repeated-in-Top g c =
     rw c.in-Top.is
     (writes-last _ _ _ _ _ c.in_ok-write_repeated-in-Top.ensures
-    (rw c.start_caret.ensures at c.put_char.ensures))
+    (rw (c.underline_caret.ensures, c.in-Top.is) at c.put_char.ensures))
 
 pub returns-in_err-write_repeated-in-Bottom : goal.returns-in_err-write_repeated-in-Bottom
 unfolding underline_by_width
@@ -30,7 +30,8 @@ returns-in_err-put_char-in-Bottom g c =
     (failed _ _ _ _ _ c.from_residual-in_err-put_char-in-Bottom.ensures.1
     (failed-before _
     (failed-then _ c.in_ok-write_repeated-in-Bottom.ensures
-    (rw c.end_caret.ensures at c.in_err-put_char-in-Bottom.ensures))))
+    (rw (c.underline_caret-in-Bottom.ensures, c.in-Bottom.is) at
+    c.in_err-put_char-in-Bottom.ensures))))
 
 pub returns-in_ok-put_char-in-Bottom : goal.returns-in_ok-put_char-in-Bottom
 unfolding underline_by_width
@@ -38,5 +39,6 @@ returns-in_ok-put_char-in-Bottom g c =
     rw c.in-Bottom.is
     (writes-last _ _ _ _ _
     (written-then _ _ _ c.in_ok-write_repeated-in-Bottom.ensures
-    (rw c.end_caret.ensures at c.in_ok-put_char-in-Bottom.ensures))
+    (rw (c.underline_caret-in-Bottom.ensures, c.in-Bottom.is) at
+    c.in_ok-put_char-in-Bottom.ensures))
     c.write_underline_message.ensures)

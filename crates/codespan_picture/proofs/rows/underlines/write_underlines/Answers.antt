@@ -1,10 +1,10 @@
-use Rattle.std.proofs.Common.{◌≡◌, ◌∙◌, [], arith, refl, sym, drop}
+use Rattle.std.proofs.Common.{◌≡◌, [], arith, refl, sym, drop}
 use Rattle.std.proofs.lemmas.Grind.{common_steps}
 use Rattle.std.proofs.lemmas.Result.{err_from_is_err_and}
 use Rattle.codespan_core.proofs.Loops.{StillToWrite-start, StillToWrite-more, StillToWrite-same, StillToWrite-failed, StillToWrite-end}
-use Rattle.codespan_picture.proofs.UnderlineRows.{underlines-in, underlines-out}
+use Rattle.codespan_picture.proofs.UnderlineRows.{underlines-in, underlines-out, width-some, width-none}
+use Rattle.codespan_picture.proofs.rows.underlines.write_underlines.Goals.{in-Some+in_ok-write_underline_row, in_default}
 use Rattle.codespan_picture.proofs.rows.underlines.write_underlines.Goals as goal
-use Rattle.codespan_picture.proofs.rows.underlines.write_underlines.Goals.{then-has_underline+in_ok-write_underline_row, else-has_underline}
 
 pub loop-lane_mark-init : goal.loop-lane_mark-init
 loop-lane_mark-init g c = StillToWrite-start _ _ _ refl
@@ -17,20 +17,20 @@ returns-in_err-write_underline_row g c =
     c.in_err-write_underline_row.ensures
     (underlines-in _ _ c.args.rows.now.line.leading c.args.rows.now.line.lanes.lane_marks.now
     c.loop-lane_mark.lane_mark-index _ (omega arith) c.args.rows.now.line.measured
-    (sym c.has_underline.ensures ∙ c.if-has_underline.true)))
+    (width-some _ _ _ (sym c.in-Some.ensures)).0))
 
 pub loop-lane_mark-preserved : goal.loop-lane_mark-preserved
-loop-lane_mark-preserved g c = elim c.if-has_underline.branch [
-  | then-has_underline+in_ok-write_underline_row w ↦ rw w.w-is
+loop-lane_mark-preserved g c = elim c.match-underline_width.branch [
+  | in-Some+in_ok-write_underline_row w ↦ rw w.w-is
       (StillToWrite-more _ _ _ _ _ _ _ c.loop-lane_mark.invariant
       w.in_ok-write_underline_row.ensures
       (underlines-in _ _ c.args.rows.now.line.leading c.args.rows.now.line.lanes.lane_marks.now
       c.loop-lane_mark.lane_mark-index _ (omega arith) c.args.rows.now.line.measured
-      (sym c.has_underline.ensures ∙ w.if-has_underline.true)))
-  | else-has_underline w ↦ rw w.w-is (StillToWrite-same _ _ _ _ _
+      (width-some _ _ _ (sym w.in-Some.ensures)).0))
+  | in_default w ↦ rw w.w-is (StillToWrite-same _ _ _ _ _
       (underlines-out _ _ c.args.rows.now.line.leading c.args.rows.now.line.lanes.lane_marks.now
       c.loop-lane_mark.lane_mark-index _ (omega arith) c.args.rows.now.line.measured
-      (sym c.has_underline.ensures ∙ w.if-has_underline.false))
+      (width-none _ _ (sym w.in_default.ensures)))
       c.loop-lane_mark.invariant)
 ]
 
@@ -39,3 +39,7 @@ returns g c =
     StillToWrite-end _ _ _ _ c.loop-lane_mark.invariant
     (let e : drop c.loop-lane_mark.lane_mark-index c.args.rows.now.line.lanes.lane_marks.now ≡ [] =
     grind (arith, common_steps) in rw e refl)
+
+pub write_underline_row-requires : goal.write_underline_row-requires
+write_underline_row-requires g c =
+    rw c.args.rows.now.input at (width-some _ _ _ (sym c.in-Some.ensures)).1

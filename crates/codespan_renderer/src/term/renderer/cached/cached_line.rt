@@ -50,12 +50,14 @@ impl<'cache, 'row, 'd> CharCursor for CachedCursor<'cache, 'row, 'd> {
 
     #[inline(always)]
     fn style_under(&mut self, metrics: Metrics) -> Option<LabelStyle> {
-        self.label_cursor.style_under(metrics)
-    }
-
-    #[inline(always)]
-    fn is_covered_by_primary(&mut self, metrics: Metrics) -> bool {
-        self.label_cursor.is_covered_by_primary(metrics)
+        self.label_cursor.advance(metrics);
+        if metrics.byte_index < self.label_cursor.primary_end {
+            Some(LabelStyle::Primary)
+        } else if metrics.byte_index < self.label_cursor.end {
+            Some(LabelStyle::Secondary)
+        } else {
+            None
+        }
     }
 }
 
@@ -84,17 +86,6 @@ pub struct CachedLine<'cache, 'row, 'd> {
 }
 
 impl<'cache, 'row, 'd> CachedLine<'cache, 'row, 'd> {
-    /// Returns the least start of its labels, or `end` where all start past it or there is none.
-    #[inline(always)]
-    fn least_start(&self, end: usize) -> usize
-        ensures { result ≡ least_start end (single_label_views self.now.line.labels.now) }
-    {
-        match self.line.labels.first() {
-            Some(label) => label.1.start.min(end),
-            None => end,
-        }
-    }
-
     /// Returns the width in cells and the number of the characters before a byte index, where each
     /// of them has one byte and a cached character begins at the index, so that it is found without
     /// a search. Otherwise returns two zeros.
@@ -129,7 +120,12 @@ impl<'cache, 'row, 'd> CachedLine<'cache, 'row, 'd> {
                 cached: &self.cached[skipped..],
                 rest: self.rest.fork(has_placeholder),
             },
-            label_cursor: LabelCursor::new(self.line.labels),
+            label_cursor: LabelCursor {
+                labels: self.line.labels,
+                next: 0,
+                primary_end: 0,
+                end: 0,
+            },
         }
     }
 }
@@ -152,7 +148,11 @@ impl<'cache, 'row, 'd> LineCharacters for CachedLine<'cache, 'row, 'd> {
 
     #[inline(always)]
     fn characters_from_labels(&self, end: usize) -> (u128, CachedCursor<'cache, 'row, 'd>) {
-        let (column, skipped) = self.skipped_before(self.least_start(end));
+        let start = match self.line.labels.first() {
+            Some(label) => label.1.start.min(end),
+            None => end,
+        };
+        let (column, skipped) = self.skipped_before(start);
         (column, self.cursor(skipped, true))
     }
 

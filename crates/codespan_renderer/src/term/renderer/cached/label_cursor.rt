@@ -1,10 +1,8 @@
 //! Cursors over the labels of a line, in the order of their starts.
 
-ghost use Rattle.std.specs.Prelude.{◌≡◌, ◌+◌, ◌<◌, ◌≤◌, ◌&&◌, IsTrue, nat_lt, true, max, filter};
+ghost use Rattle.std.specs.Prelude.{◌≡◌, ◌+◌, ◌<◌, ◌≤◌, ◌&&◌, nat_lt, true, max, filter};
 ghost use Rattle.codespan_core.specs.Labels.{has_message, is_primary};
-ghost use Rattle.codespan_picture.specs.Carets.{style_under};
 ghost use Rattle.codespan_picture.specs.Arguments.{single_label_view, single_label_views};
-ghost use Rattle.codespan_picture.specs.Arguments.{starts_in_order};
 ghost use Rattle.codespan_picture.specs.RowParts.{starts_in};
 ghost use Rattle.codespan_renderer.specs.Private.PreferredStyles.{preferred_style};
 ghost use Rattle.codespan_picture.specs.Private.CharCursors.{is_covered};
@@ -21,34 +19,16 @@ use codespan_core::diagnostic::LabelStyle;
 #[derive(Clone, Copy)]
 pub struct LabelCursor<'row, 'd> {
     /// The labels of the line, in the order of their starts.
-    labels: &'row [SingleLabel<'d>],
+    pub labels: &'row [SingleLabel<'d>],
     /// How many of them it has passed.
-    next: usize,
+    pub next: usize,
     /// The greatest end of the primary ones that it has passed, 0 where there is none.
-    primary_end: usize,
+    pub primary_end: usize,
     /// The greatest end of all that it has passed, 0 where there is none.
-    end: usize,
+    pub end: usize,
 }
 
 impl<'row, 'd> LabelCursor<'row, 'd> {
-    /// Returns a cursor before the first label.
-    ///
-    /// # Requires
-    ///
-    /// The labels are in the order of their starts.
-    pub fn new(labels: &'row [SingleLabel<'d>]) -> LabelCursor<'row, 'd>
-        requires { IsTrue (starts_in_order (single_label_views labels.now)) }
-        ensures passed { HasPassedLabels 0 result }
-        ensures labels { result.labels.now ≡ labels.now }
-    {
-        LabelCursor {
-            labels,
-            next: 0,
-            primary_end: 0,
-            end: 0,
-        }
-    }
-
     /// Passes the labels that start before the character's end.
     ///
     /// # Requires
@@ -69,47 +49,6 @@ impl<'row, 'd> LabelCursor<'row, 'd> {
             self.raise_ends(&labels[self.next]);
             self.next += 1;
         }
-    }
-
-    /// Passes the labels that start before the character's end, and returns the style of the carets
-    /// under it: that of the labels that cover it; a primary one takes precedence.
-    ///
-    /// # Requires
-    ///
-    /// The character has a byte, and the cursor has passed the labels that start before it.
-    pub fn style_under(&mut self, metrics: Metrics) -> Option<LabelStyle>
-        requires has_byte { 1 ≤ metrics.bytes }
-        requires passed { HasPassedLabels metrics.byte_index self.old }
-        ensures passed { HasPassedLabels (metrics.byte_index + metrics.bytes) self.new }
-        ensures labels { self.new.labels.now ≡ self.old.labels.now }
-        ensures style { result ≡ style_under (single_label_views self.old.labels.now) metrics }
-    {
-        self.advance(metrics);
-        if metrics.byte_index < self.primary_end {
-            Some(LabelStyle::Primary)
-        } else if metrics.byte_index < self.end {
-            Some(LabelStyle::Secondary)
-        } else {
-            None
-        }
-    }
-
-    /// Passes the labels that start before the character's end, and returns whether a primary one
-    /// covers it.
-    ///
-    /// # Requires
-    ///
-    /// The character has a byte, and the cursor has passed the labels that start before it.
-    pub fn is_covered_by_primary(&mut self, metrics: Metrics) -> bool
-        requires has_byte { 1 ≤ metrics.bytes }
-        requires passed { HasPassedLabels metrics.byte_index self.old }
-        ensures passed { HasPassedLabels (metrics.byte_index + metrics.bytes) self.new }
-        ensures labels { self.new.labels.now ≡ self.old.labels.now }
-        ensures primary { result
-            ≡ is_covered is_primary (single_label_views self.old.labels.now) metrics }
-    {
-        self.advance(metrics);
-        metrics.byte_index < self.primary_end
     }
 
     /// Raises the greatest ends to that of a label, unless it covers no byte.
@@ -135,25 +74,12 @@ impl<'row, 'd> LabelCursor<'row, 'd> {
 #[derive(Clone, Copy)]
 pub struct StartCursor<'row, 'd> {
     /// The labels, in the order of their starts.
-    labels: &'row [SingleLabel<'d>],
+    pub labels: &'row [SingleLabel<'d>],
     /// How many of them it has passed.
-    next: usize,
+    pub next: usize,
 }
 
 impl<'row, 'd> StartCursor<'row, 'd> {
-    /// Returns a cursor before the first label.
-    ///
-    /// # Requires
-    ///
-    /// The labels are in the order of their starts.
-    pub fn new(labels: &'row [SingleLabel<'d>]) -> StartCursor<'row, 'd>
-        requires { IsTrue (starts_in_order (single_label_views labels.now)) }
-        ensures passed { HasPassedStarts 0 result }
-        ensures labels { result.labels.now ≡ labels.now }
-    {
-        StartCursor { labels, next: 0 }
-    }
-
     /// Passes the labels that start before the character's end, and returns which style takes
     /// precedence: of `found` and those of the labels with a message that start in it.
     ///

@@ -95,7 +95,7 @@ fn cache_metrics<'row>(
     ensures failed { OnErr result (IsErrOf result Error.OutOfMemory) }
 {
     cached.clear();
-    let mut rest = CharMetrics::new(text, tab_width);
+    let mut rest = CharMetrics::new(text, tab_width, false);
     if let Some(reach) = reach {
         // those that begin at 0 to `reach`, and one past it: each character has a byte
         cached.reserve(reach.saturating_add(2).min(text.len()))?;

@@ -63,8 +63,14 @@ pub fn find_pointers(
     if !has_any_message(messages.before) && !has_any_message(messages.after) {
         return Ok(());
     }
-    let mut before_trailing = StartCursor::new(messages.before);
-    let mut after_trailing = StartCursor::new(messages.after);
+    let mut before_trailing = StartCursor {
+        labels: messages.before,
+        next: 0,
+    };
+    let mut after_trailing = StartCursor {
+        labels: messages.after,
+        next: 0,
+    };
     let greatest_start = max_label_start(messages.labels);
     for metrics in characters {
         if metrics.byte_index > greatest_start {

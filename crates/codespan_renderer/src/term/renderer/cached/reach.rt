@@ -1,10 +1,8 @@
 //! How far the rows under a line reach into its text.
 
 ghost use Rattle.std.specs.Prelude.{◌≡◌, map};
-ghost use Rattle.codespan_picture.specs.Arguments.{lane_mark_view, multi_label_view};
-ghost use Rattle.codespan_picture.specs.Arguments.{single_label_views};
-ghost use Rattle.codespan_renderer.specs.Private.CachedMetrics.{farther, farther_multi_label};
-ghost use Rattle.codespan_renderer.specs.Private.CachedMetrics.{reach_of};
+ghost use Rattle.codespan_picture.specs.Arguments.{lane_mark_view, single_label_views};
+ghost use Rattle.codespan_renderer.specs.Private.CachedMetrics.{farther, reach_of};
 
 use crate::term::renderer::MultiLabel;
 use codespan_picture::rows::line::Line;
@@ -20,21 +18,13 @@ pub fn reach_of(line: Line<'_, '_>) -> Option<usize>
         reach = farther(farther(reach, label.1.start), label.1.end);
     }
     for lane_mark in line.lanes.lane_marks {
-        reach = farther_multi_label(reach, lane_mark.2);
+        reach = match lane_mark.2 {
+            MultiLabel::Top(start) => farther(reach, start),
+            MultiLabel::Left => reach,
+            MultiLabel::Bottom(end, _) => farther(reach, end),
+        };
     }
     reach
-}
-
-/// Returns the greater of a reach and the byte index of a multi-line label mark: the start of a
-/// `Top`, the end of a `Bottom`.
-fn farther_multi_label(reach: Option<usize>, multi_label: MultiLabel<'_>) -> Option<usize>
-    ensures { result ≡ farther_multi_label reach (multi_label_view multi_label.entry) }
-{
-    match multi_label {
-        MultiLabel::Top(start) => farther(reach, start),
-        MultiLabel::Left => reach,
-        MultiLabel::Bottom(end, _) => farther(reach, end),
-    }
 }
 
 /// Returns the greater of a reach and a byte index.

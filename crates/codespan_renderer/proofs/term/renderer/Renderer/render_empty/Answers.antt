@@ -4,6 +4,6 @@ use Rattle.codespan_renderer.proofs.term.renderer.Renderer.render_empty.Goals as
 
 pub returns : goal.returns
 returns g c =
-    renders _ _ _ _ _ c.new-rows.result c.write_newline-written.new.w _ _ _ refl
-    c.new-rows.ensures.reference c.new-rows.ensures.writer c.write_newline-written.ensures
+    renders _ _ _ _ _ c.new-rows.result c.put_all-written.new.w _ _ _ refl
+    c.new-rows.ensures.reference c.new-rows.ensures.writer c.put_all-written.ensures
     c.outcome.ensures.same c.outcome.ensures.io (search rules) (search rules)

@@ -11,19 +11,14 @@ use Rattle.codespan_renderer.proofs.PiecesInOrder.{before-ordered, after-ordered
 use Rattle.codespan_renderer.proofs.PointerCursors.{no-pointers, passing-start, passing-at, passing-more, found-style, found-some, found-none, pointers-past-at}
 use Rattle.codespan_renderer.proofs.term.renderer.cached.pointers.find_pointers.Goals as goal
 
-pub returns-then-not-has_any_message-2-clause-found : goal.returns-then-not-has_any_message-2-clause-found
+pub returns-then-not-has_any_message-2-clause-found :
+    goal.returns-then-not-has_any_message-2-clause-found
 returns-then-not-has_any_message-2-clause-found c =
     let early = sym c.has_any_message.ensures ∙ c.if-not-has_any_message.true in
     let late =
     sym c.has_any_message-then-not-has_any_message.ensures ∙ c.if-not-has_any_message-2.true in
     rw (c.clear.ensures.items, none_hangs _ _ _ c.args.messages.hanging_labels early late)
     (sym (no-pointers (char_metrics c.args.tab_width c.args.line.text.now)))
-
-pub new-before_trailing-requires : goal.new-before_trailing-requires
-new-before_trailing-requires c = before-ordered _ _ _ c.args.messages.slices c.requires.ordered
-
-pub new-after_trailing-requires : goal.new-after_trailing-requires
-new-after_trailing-requires c = after-ordered _ _ _ c.args.messages.slices c.requires.ordered
 
 pub loop-metrics-init : goal.loop-metrics-init
 loop-metrics-init c =
@@ -33,14 +28,25 @@ loop-metrics-init c =
     ∙ c.requires.characters in
     rw (all, c.clear.ensures.items) record {
       cursor =
-          passing-start _ _ _ _ _ c.new-before_trailing.ensures.passed c.new-after_trailing.ensures.passed
-          c.new-before_trailing.ensures.labels c.new-after_trailing.ensures.labels
+          passing-start _ _ _ _ _
+          (record {
+            is = λ x found low. refl;
+            ordered = before-ordered _ _ _ c.args.messages.slices
+                c.requires.ordered;
+          })
+          (record {
+            is = λ x found low. refl;
+            ordered = after-ordered _ _ _ c.args.messages.slices
+                c.requires.ordered;
+          })
+          refl refl
           (char_metrics-consecutive c.args.tab_width 0 0 (chars c.args.line.text.now));
       scan_state = scan_state-char_metrics _ _ (IsUtf8-had _ c.args.line.utf8);
       found = refl;
     }
 
-pub returns-then-metrics-greatest_start-clause-found : goal.returns-then-metrics-greatest_start-clause-found
+pub returns-then-metrics-greatest_start-clause-found :
+    goal.returns-then-metrics-greatest_start-clause-found
 returns-then-metrics-greatest_start-clause-found c =
     let i = c.loop-metrics.invariant in
     let none = pointers-past-at c.args.messages.labels.now _ _ _ _

@@ -1,4 +1,4 @@
-use Rattle.std.proofs.Common.{take}
+use Rattle.std.proofs.Common.{take, le-ltb, refl, arith}
 use Rattle.codespan_renderer.proofs.CachedScans.{cached-from}
 use Rattle.codespan_renderer.proofs.LabelCursorSteps.{cursor-start, follow-after}
 use Rattle.codespan_renderer.proofs.term.renderer.cached.cached_line.CachedLine.cursor.Goals as goal
@@ -11,7 +11,12 @@ invariant_of-result c =
     c.args.skipped s.are_cached c.fork.ensures.same c.fork.ensures.placeholder in
     record {
       state =
-          cursor-start _ (take c.args.skipped s.cached.now) _ c.new.ensures.passed
+          cursor-start _ (take c.args.skipped s.cached.now) _
+          (record {
+            primary = record { is = λ x low some. rw (le-ltb x.byte_index 0 (omega arith)) refl };
+            any = record { is = λ x low some. rw (le-ltb x.byte_index 0 (omega arith)) refl };
+            ordered = s.ordered;
+          })
           (rw all (follow-after c.args.has_placeholder s.tab_width s.line.text.now));
     }
 

@@ -5,19 +5,20 @@ use Rattle.std.proofs.lemmas.Str.{IsUtf8-had, length-encode, len_utf8_bounds}
 use Rattle.codespan_core.specs.Streams.{byte_stream}
 use Rattle.codespan_core.proofs.Chains.{failed-before, failed-then, written-then}
 use Rattle.codespan_core.proofs.Loops.{StillToWrite-start, StillToWrite-more, StillToWrite-failed, StillToWrite-last}
+use Rattle.codespan_picture.specs.Private.LineCharacters.{CharInput, metrics_of}
 use Rattle.codespan_picture.specs.Private.LineViews.{context_view, line_view}
 use Rattle.codespan_picture.specs.RowParts.{style_change}
 use Rattle.codespan_picture.proofs.TextRuns.{over-start, over-next, piece, piece-grows, text-start, text-turn, text-same, text-tab, text_rest}
-use Rattle.codespan_picture.proofs.PlainText.{tail-taken, text-over, text-past}
-use Rattle.codespan_picture.proofs.rows.source.write_colored_text.Given.{Over}
-use Rattle.codespan_picture.proofs.rows.source.write_colored_text.Goals.{After-end_text_run-2, in-Some+then-end-plain, in_default}
-use Rattle.codespan_picture.proofs.rows.source.write_colored_text.Goals as goal
+use Rattle.codespan_picture.proofs.PlainText.{tail-taken, text-over, text-past, text-plain}
+use Rattle.codespan_picture.proofs.rows.source.write_text.Given.{Over}
+use Rattle.codespan_picture.proofs.rows.source.write_text.Goals.{After-end_text_run-2, in-Some+then-end-plain, in_default}
+use Rattle.codespan_picture.proofs.rows.source.write_text.Goals as goal
 
 pub loop-metrics-init : goal.loop-metrics-init
-loop-metrics-init g c = rw c.requires.remaining record {
+loop-metrics-init g c = rw (c.characters-cursor.ensures.remaining ∙ ap metrics_of c.args.rows.now.input) record {
   written_so_far = StillToWrite-start _ _ _ (text-start _ _);
-  over = over-start _ _ (IsUtf8-had _ c.args.line.utf8);
-  same = c.requires.labels;
+  over = over-start _ _ (IsUtf8-had _ c.args.rows.now.line.utf8);
+  same = c.characters-cursor.ensures.labels ∙ ap (λ (x : CharInput). x.labels) c.args.rows.now.input;
   ordered = omega arith;
   within = omega arith;
 }
@@ -38,8 +39,8 @@ returns-in_err-end_text_run g c =
     rw p.1
     (StillToWrite-failed _ _ _ _ _ _ _ c.loop-metrics.invariant.written_so_far
     (failed-before _ c.in_err-end_text_run.ensures)
-    (text-tab (context_view c.args.context) (line_view c.args.line) _ _ _ c.in-Some.metrics _
-    (g.C.CharCursor.remaining c.next_metrics.new.self) c.in-Some.ensures.next
+    (text-tab (context_view c.args.rows.now.context) (line_view c.args.rows.now.line) _ _ _ c.in-Some.metrics _
+    (g.S.Cursor.CharCursor.remaining c.next_metrics.new.self) c.in-Some.ensures.next
     c.source_style-style.ensures.style c.if-metrics-eq9.true))
 
 pub returns-in_err-put_spaces : goal.returns-in_err-put_spaces
@@ -49,8 +50,8 @@ returns-in_err-put_spaces g c =
     rw p.1
     (StillToWrite-failed _ _ _ _ _ _ _ c.loop-metrics.invariant.written_so_far
     (failed-then _ c.in_ok-end_text_run.ensures c.in_err-put_spaces.ensures)
-    (text-tab (context_view c.args.context) (line_view c.args.line) _ _ _ c.in-Some.metrics _
-    (g.C.CharCursor.remaining c.next_metrics.new.self) c.in-Some.ensures.next
+    (text-tab (context_view c.args.rows.now.context) (line_view c.args.rows.now.line) _ _ _ c.in-Some.metrics _
+    (g.S.Cursor.CharCursor.remaining c.next_metrics.new.self) c.in-Some.ensures.next
     c.source_style-style.ensures.style c.if-metrics-eq9.true))
 
 pub returns-in_err-end_text_run-2 : goal.returns-in_err-end_text_run-2
@@ -60,8 +61,8 @@ returns-in_err-end_text_run-2 g c =
     rw p.1
     (StillToWrite-failed _ _ _ _ _ _ _ c.loop-metrics.invariant.written_so_far
     c.in_err-end_text_run-2.ensures
-    (text-turn (context_view c.args.context) (line_view c.args.line) _ _ _ c.in-Some.metrics _
-    (g.C.CharCursor.remaining c.next_metrics.new.self) c.in-Some.ensures.next
+    (text-turn (context_view c.args.rows.now.context) (line_view c.args.rows.now.line) _ _ _ c.in-Some.metrics _
+    (g.S.Cursor.CharCursor.remaining c.next_metrics.new.self) c.in-Some.ensures.next
     c.source_style-style.ensures.style c.if-metrics-eq9.false))
 
 pub loop-metrics-preserved-in_ok-put_spaces : goal.loop-metrics-preserved-in_ok-put_spaces
@@ -75,8 +76,8 @@ loop-metrics-preserved-in_ok-put_spaces g c =
           rw none
           (StillToWrite-more _ _ _ _ _ _ _ c.loop-metrics.invariant.written_so_far
           (written-then _ _ _ c.in_ok-end_text_run.ensures c.in_ok-put_spaces.ensures)
-          (text-tab (context_view c.args.context) (line_view c.args.line) _ _ _ c.in-Some.metrics _
-          (g.C.CharCursor.remaining c.next_metrics.new.self) c.in-Some.ensures.next
+          (text-tab (context_view c.args.rows.now.context) (line_view c.args.rows.now.line) _ _ _ c.in-Some.metrics _
+          (g.S.Cursor.CharCursor.remaining c.next_metrics.new.self) c.in-Some.ensures.next
           c.source_style-style.ensures.style c.if-metrics-eq9.true));
       over = n.over;
       same =
@@ -99,8 +100,8 @@ loop-metrics-preserved-in_ok-end_text_run-2 g c =
           rw (grows, none)
           (StillToWrite-more _ _ _ _ _ _ _ c.loop-metrics.invariant.written_so_far
           c.in_ok-end_text_run-2.ensures
-          (text-turn (context_view c.args.context) (line_view c.args.line) _ _ _ c.in-Some.metrics _
-          (g.C.CharCursor.remaining c.next_metrics.new.self) c.in-Some.ensures.next
+          (text-turn (context_view c.args.rows.now.context) (line_view c.args.rows.now.line) _ _ _ c.in-Some.metrics _
+          (g.S.Cursor.CharCursor.remaining c.next_metrics.new.self) c.in-Some.ensures.next
           c.source_style-style.ensures.style c.if-metrics-eq9.false));
       over = n.over;
       same =
@@ -119,10 +120,10 @@ loop-metrics-preserved g c =
     (rw c.as_bytes-text.ensures.value n.text_left)
     (n.bytes ∙ sym (length-encode c.in-Some.metrics.ch)) in
     let rest =
-    text-same (context_view c.args.context) (line_view c.args.line) c.loop-metrics.previous
+    text-same (context_view c.args.rows.now.context) (line_view c.args.rows.now.line) c.loop-metrics.previous
     c.source_style-style.result
     (piece c.as_bytes-text.result.now c.loop-metrics.start c.loop-metrics.end) c.in-Some.metrics
-    _ (g.C.CharCursor.remaining c.next_metrics.new.self) c.in-Some.ensures.next
+    _ (g.S.Cursor.CharCursor.remaining c.next_metrics.new.self) c.in-Some.ensures.next
     c.source_style-style.ensures.style c.if-metrics-eq9.false same in
     rw c.source_style-style.ensures.remaining record {
       written_so_far = rw (same, grows) (rw rest at c.loop-metrics.invariant.written_so_far);
@@ -137,15 +138,15 @@ loop-metrics-preserved g c =
 -- where the loop ends, the rest is written unchanged
 rest : (g : Over) (c : After-end_text_run-2 g)
     → let at = c.loop-metrics in
-    let context = context_view c.args.context in
-    let line = line_view c.args.line in
+    let context = context_view c.args.rows.now.context in
+    let line = line_view c.args.rows.now.line in
     let run = piece c.as_bytes-text.result.now at.start at.end in
     (byte_stream run ++ style_change context.severity at.previous None) ++ byte_stream (drop at.end line.text)
-    ≡ text_rest context line at.previous run (g.C.CharCursor.remaining at.cursor)
+    ≡ text_rest context line at.previous run (g.S.Cursor.CharCursor.remaining at.cursor)
 rest g c =
     let at = c.loop-metrics in
-    let context = context_view c.args.context in
-    let line = line_view c.args.line in
+    let context = context_view c.args.rows.now.context in
+    let line = line_view c.args.rows.now.line in
     let run = piece c.as_bytes-text.result.now at.start at.end in
     elim c.match-next_metrics.branch [
       | in_default w ↦ text-over context line at.previous run at.end _ at.invariant.over
@@ -158,10 +159,10 @@ rest g c =
 pub returns : goal.returns
 returns g c =
     let at = c.loop-metrics in
-    let context = context_view c.args.context in
+    let context = context_view c.args.rows.now.context in
     let run = piece c.as_bytes-text.result.now at.start at.end in
     let taken =
-    tail-taken at.end c.args.line.text.now c.as_bytes-text.result.now
+    tail-taken at.end c.args.rows.now.line.text.now c.as_bytes-text.result.now
     c.as_bytes-text.ensures.value in
     let last =
     ap (λ l. (byte_stream run ++ style_change context.severity at.previous None) ++ byte_stream l) taken
@@ -169,7 +170,7 @@ returns g c =
     StillToWrite-last _ _ _ _ _ _
     (StillToWrite-more _ _ _ _ _ _ _ at.invariant.written_so_far c.in_ok-end_text_run-3.ensures
     (sym last))
-    c.put_all.ensures
+    c.put_all-2.ensures
 
 pub returns-in_err-end_text_run-3 : goal.returns-in_err-end_text_run-3
 returns-in_err-end_text_run-3 g c =
@@ -179,3 +180,15 @@ returns-in_err-end_text_run-3 g c =
     (StillToWrite-failed _ _ _ _ _ _ _ c.loop-metrics.invariant.written_so_far
     c.in_err-end_text_run-3.ensures
     (sym (rest g (goal.at.returns-in_err-end_text_run-3 g c).After-end_text_run-2)))
+
+-- text of which no character has a style, and which has no tab
+pub returns-then-plain-eq0 : goal.returns-then-plain-eq0
+returns-then-plain-eq0 g c =
+    let line = c.args.rows.now.line in
+    let plain = c.plain_from-plain in
+    rw (
+      c.as_bytes-text.ensures.value,
+      text-plain (context_view c.args.rows.now.context) (line_view line) plain.result
+          (IsUtf8-had _ line.utf8) c.if-plain-eq0.true plain.ensures.style plain.ensures.tab,
+    )
+    at c.put_all.ensures

@@ -1,0 +1,13 @@
+use Rattle.std.proofs.Common.{◌≡◌, drop, max, fold}
+use Rattle.std.specs.Prelude.{filter}
+use Rattle.codespan_core.specs.Labels.{LabelModel, is_primary}
+use Rattle.codespan_picture.specs.Carets.{max_label_end}
+use Rattle.codespan_picture.specs.Arguments.{single_label_views}
+use Rattle.codespan_picture.proofs.rows.text_styles.max_primary_end.Given as goal
+
+-- the remaining labels decide
+abbrev pub invariant-loop-label : goal.invariant-loop-label
+invariant-loop-label l =
+    fold (λ m (x : LabelModel). max m x.end) l.greatest
+    (filter is_primary (single_label_views (drop l.label-index l.labels)))
+    ≡ max_label_end (filter is_primary (single_label_views l.labels))
