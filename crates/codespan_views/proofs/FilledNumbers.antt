@@ -16,8 +16,8 @@ use Rattle.codespan_picture.specs.Lookups.{filled_line_lookups}
 use Rattle.codespan_views.specs.Private.Annotations.{Annotation}
 use Rattle.codespan_views.specs.Private.EarlyLookups.{known_numbers}
 use Rattle.codespan_views.specs.Private.FilledLines.{AreNumbersOf, gap_lines, lookups_with}
-use Rattle.codespan_views.specs.Private.SnippetLines.{Break, Filled, SnippetLine}
-use Rattle.codespan_views.specs.Private.SnippetLines.{filled_line_of, filled_lines_of}
+use Rattle.codespan_views.specs.Private.SnippetLines.{Break, Filled, SnippetLine, filled_line_of}
+use Rattle.codespan_views.specs.Private.SnippetLines.{filled_lines_of}
 use Rattle.codespan_views.specs.Private.SourceFiles.{lookups_of_filled}
 
 -- ---- what is between two shown lines
@@ -147,13 +147,3 @@ module _ (s t : Iter ℕ) (r : Option (Bor ℕ)) (steps : iter_steps s r t) wher
       by_result None none =
           ap (λ (ns : List ℕ). slice_get ns 0) (sym (nil_from_length (iter_rest s) none.0))
       by_result (Some x) first = ap (λ (ns : List ℕ). slice_get ns 0) (sym first)
-
-  -- and the others are left
-  pub next-left : iter_rest t ≡ drop 1 (iter_rest s)
-  next-left = by_result r steps
-    where
-      by_result : (o : Option (Bor ℕ)) → iter_steps s o t → iter_rest t ≡ drop 1 (iter_rest s)
-      by_result None none =
-          ap iter_rest none.1 ∙ nil_from_length (iter_rest s) none.0
-          ∙ ap (drop 1) (sym (nil_from_length (iter_rest s) none.0))
-      by_result (Some x) first = ap (drop 1) (sym first)

@@ -29,30 +29,28 @@ pub or_failure-succeeded : (o p : Option Error) → o ≡ None → or_failure o 
 or_failure-succeeded o p h = ap (λ (x : Option Error). or_failure x p) h
 
 module _ {Id : Type 0} (failure : Failures Id) where
+  -- the first error of some lookups and of others after them
+  pub first_error-append : (ls ms : List (Id × Lookup))
+      → first_error failure (ls ++ ms) ≡ or_failure (first_error failure ls)
+      (first_error failure ms)
+  first_error-append [] ms = refl
+  first_error-append (l ∷ ls) ms =
+      ap (or_failure (failure l.0 l.1)) (first_error-append ls ms)
+      ∙ sym (or_failure_assoc (failure l.0 l.1) (first_error failure ls) (first_error failure ms))
+
   -- an error of some lookups is also that of these with more after them
   pub first_error-some : (ls ms : List (Id × Lookup)) (e : Error) → first_error failure ls ≡ Some e
       → first_error failure (ls ++ ms) ≡ Some e
-  first_error-some [] ms e h = cc
-  first_error-some (l ∷ ls) ms e h = by_first (failure l.0 l.1) h (first_error-some ls ms e)
-    where
-      by_first : (o : Option Error) → or_failure o (first_error failure ls) ≡ Some e
-          → (first_error failure ls ≡ Some e → first_error failure (ls ++ ms) ≡ Some e)
-          → or_failure o (first_error failure (ls ++ ms)) ≡ Some e
-      by_first None h later = later h
-      by_first (Some x) h later = h
+  first_error-some ls ms e h =
+      first_error-append ls ms
+      ∙ or_failure-some (first_error failure ls) (first_error failure ms) e h
 
   -- where some lookups succeed, those after them decide what all fail with
   pub first_error-none : (ls ms : List (Id × Lookup)) → first_error failure ls ≡ None
       → first_error failure (ls ++ ms) ≡ first_error failure ms
-  first_error-none [] ms h = refl
-  first_error-none (l ∷ ls) ms h = by_first (failure l.0 l.1) h (first_error-none ls ms)
-    where
-      by_first : (o : Option Error) → or_failure o (first_error failure ls) ≡ None
-          → (first_error failure ls ≡ None
-          → first_error failure (ls ++ ms) ≡ first_error failure ms)
-          → or_failure o (first_error failure (ls ++ ms)) ≡ first_error failure ms
-      by_first None h later = later h
-      by_first (Some x) h later = cc
+  first_error-none ls ms h =
+      first_error-append ls ms
+      ∙ or_failure-succeeded (first_error failure ls) (first_error failure ms) h
 
   first_succeeded : (o p : Option Error) → or_failure o p ≡ None → (o ≡ None) × (p ≡ None)
   first_succeeded None p h = (refl, h)
@@ -66,15 +64,6 @@ module _ {Id : Type 0} (failure : Failures Id) where
       ap (λ (m : Id × Lookup). failure m.0 m.1) (sym same) ∙ (first_succeeded _ _ h).0
   all_succeed (l ∷ ls) h id lookup (suc k, low, same) =
       all_succeed ls (first_succeeded _ _ h).1 id lookup (k, omega arith, same)
-
-  -- the first error of some lookups and of others after them
-  pub first_error-append : (ls ms : List (Id × Lookup))
-      → first_error failure (ls ++ ms) ≡ or_failure (first_error failure ls)
-      (first_error failure ms)
-  first_error-append [] ms = refl
-  first_error-append (l ∷ ls) ms =
-      ap (or_failure (failure l.0 l.1)) (first_error-append ls ms)
-      ∙ sym (or_failure_assoc (failure l.0 l.1) (first_error failure ls) (first_error failure ms))
 
   -- the same of lookups of one file
   pub first_error-lookups : (id : Id) (ls ms : List Lookup)

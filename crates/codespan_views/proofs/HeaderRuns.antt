@@ -1,294 +1,354 @@
--- Headers of labels, one after another, for the clauses `renders` of `render_headers` and
--- `render_medium`.
-use Rattle.std.proofs.Common.{◌≡◌, ◌≢◌, ◌<◌, true, false, List, [], ◌∷◌, ◌++◌, length, map}
-use Rattle.std.proofs.Common.{flat_map, take, None, Some, Result, Ok, Err, ⊎_elim, inl, inr, sym}
-use Rattle.std.proofs.Common.{subst, ap, ◌∙◌, append-nil, arith}
+-- Headers of labels, one after another, each after the lookups of its locus, for the clauses
+-- `renders` of `render_headers` and `ShortDiagnostic::render`.
+use Rattle.std.proofs.Common.{◌≡◌, ◌≢◌, ◌<◌, ◌≤◌, ℕ, ◌+◌, Bool, true, false, List, [], ◌∷◌, ◌++◌}
+use Rattle.std.proofs.Common.{length, map, flat_map, take, None, Some, Result, Ok, Err, inl, inr}
+use Rattle.std.proofs.Common.{refl, sym, subst, ap, ◌∙◌, append-nil, arith}
 use Rattle.std.specs.Prelude.{IfErr}
 use Rattle.std.specs.List.{AllZip}
 use Rattle.std.proofs.lemmas.Grind.{flat_map-append}
-use Rattle.std.proofs.lemmas.List.{length-append}
+use Rattle.std.proofs.lemmas.List.{length-append, take_all}
+use Rattle.std.proofs.Math.Seq.{take-append_seam}
 use Rattle.codespan_core.specs.declared.diagnostic.Diagnostic.{Diagnostic}
+use Rattle.codespan_core.specs.declared.diagnostic.Label.{Label}
 use Rattle.codespan_core.specs.declared.files.Error.{Error}
 use Rattle.codespan_core.specs.declared.files.Error.TheVariants.{FormatError, OutOfMemory}
 use Rattle.codespan_core.specs.declared.term.config.Config.{Config}
-use Rattle.codespan_core.specs.declared.term.config.DisplayStyle.TheVariants.{Short, Medium}
+use Rattle.codespan_core.specs.declared.term.config.DisplayStyle.{DisplayStyle}
+use Rattle.codespan_core.specs.declared.term.config.DisplayStyle.TheVariants.{Medium, Rich, Short}
 use Rattle.codespan_core.specs.Errors.{IsIo}
 use Rattle.codespan_core.specs.FileModel.{FileDatabase, Lookup}
+use Rattle.codespan_core.specs.Labels.{is_primary}
 use Rattle.codespan_core.specs.Streams.{Stream}
-use Rattle.codespan_core.specs.WriterLaw.{Sink, with_written, is_known, PrefixWritten, Writes}
-use Rattle.codespan_core.specs.WriterLaw.{failed_frame}
-use Rattle.codespan_core.proofs.Writes.{is_known-with_written, with_written-append}
-use Rattle.codespan_core.proofs.Writes.{with_written-nil, PrefixWritten-first, PrefixWritten-last}
+use Rattle.codespan_core.specs.WriterLaw.{PrefixWritten, Sink, with_written, Writes}
+use Rattle.codespan_core.proofs.Chains.{WroteStream, WrotePrefix, failed-before, failed-then}
+use Rattle.codespan_core.proofs.Chains.{writes-last, written-then}
+use Rattle.codespan_core.proofs.Writes.{PrefixWritten-first, PrefixWritten-last, with_written-nil}
 use Rattle.codespan_picture.specs.Lookups.{first_error, header_lookups_of}
 use Rattle.codespan_picture.specs.OutputStreams.{AreLoci, IsLocus, header_text_of, label_locus_byte}
-use Rattle.codespan_picture.specs.OutputStreams.{notes_of}
-use Rattle.codespan_views.specs.Private.Utf8Loci.{IsLocusOfLabel}
+use Rattle.codespan_picture.specs.OutputStreams.{label_of, output}
+use Rattle.codespan_picture.specs.Picture.{headers_at, stated_locus}
 use Rattle.codespan_picture.specs.Rows.{Locus, Row}
 use Rattle.codespan_picture.specs.RowStreams.{stream_of_rows}
-use Rattle.codespan_picture.specs.Snippets.{LabelInFile, has_any, header_rows, note_rows}
-use Rattle.codespan_views.specs.Output.{Succeeds}
-use Rattle.codespan_views.specs.WriteCalls.{WritesOutput}
-use Rattle.codespan_views.proofs.OutputLoci.{label_loci, label_texts}
-use Rattle.std.proofs.Math.Seq.{take-append_seam}
-use Rattle.codespan_views.specs.Private.Headers.{HeaderLookupFailed, HeadersWritten, HeadersFailed}
-use Rattle.codespan_views.specs.Private.Headers.{HeaderWriteFailed}
+use Rattle.codespan_picture.specs.Snippets.{LabelInFile, has_any, header_rows, primary_of}
 use Rattle.codespan_picture.proofs.Loci.{locus_there, zip_append, zip_each, zip_length, zip_map}
 use Rattle.codespan_picture.proofs.Loci.{zip_weaker}
-use Rattle.codespan_views.proofs.Renderings.{PrefixWritten-none}
+use Rattle.codespan_views.specs.Output.{Succeeds}
+use Rattle.codespan_views.specs.Views.{style_with_notes}
+use Rattle.codespan_views.specs.WriteCalls.{WritesOutput}
+use Rattle.codespan_views.specs.Private.Utf8Loci.{IsLocusOfLabel}
+use Rattle.codespan_views.specs.Private.ViewRendering.{header_row_with_newline}
 use Rattle.codespan_views.proofs.FirstErrors.{all_succeed, first_error-none, first_error-some}
-use Rattle.codespan_views.proofs.HeaderStreams.{none_of_empty, no_loci, some_headers, stated_of}
-use Rattle.codespan_views.proofs.HeaderStreams.{primary_labels, context, headers_stream}
-use Rattle.codespan_views.proofs.HeaderStreams.{headers_stream-append, header, short, short-some}
-use Rattle.codespan_views.proofs.HeaderStreams.{noted, noted-after}
+use Rattle.codespan_views.proofs.HeaderStreams.{context, has_any-last, headers-last, no_loci, noted}
+use Rattle.codespan_views.proofs.HeaderStreams.{noted-after, primary_before, primary_from}
+use Rattle.codespan_views.proofs.HeaderStreams.{primary_labels, primary_next, primary_whole}
+use Rattle.codespan_views.proofs.HeaderStreams.{secondary_next, short, short-some, some_headers}
+use Rattle.codespan_views.proofs.IndexedElements.{IsElementAt}
+use Rattle.codespan_views.proofs.OutputLoci.{label_loci, label_texts}
+use Rattle.codespan_views.proofs.Renderings.{PrefixWritten-none}
+
+-- the headers of these labels have been written, with the loci of the labels, no lookup for them
+-- failed, and whether there is one is known
+pub record HeadersWritten {Id : Type 0} (config : Config) (files : FileDatabase Id)
+    (d : Diagnostic Id) (xs : List (LabelInFile Id)) (has_header : Bool) (old new : Sink)
+    : Type 0 where
+  pub loci : List Locus
+  pub are : AllZip (IsLocusOfLabel files.file) xs loci
+  pub wrote : WroteStream old (headers_at config d loci) new
+  pub succeeded : first_error files.failure (flat_map header_lookups_of xs) ≡ None
+  pub some : has_header ≡ has_any xs
+
+-- no header yet
+pub none_yet : {Id : Type 0} {config : Config} {files : FileDatabase Id} {d : Diagnostic Id}
+    {s : Sink} → HeadersWritten config files d [] false s s
+none_yet {s = s} = record {
+  loci = [];
+  are = tt;
+  wrote = (refl, λ known. sym (with_written-nil s));
+  succeeded = refl;
+  some = refl;
+}
+
+-- ---- the label at an index, where the headers of those before it have been written
+
+module _ {Id : Type 0} {config : Config} {files : FileDatabase Id} {d : Diagnostic Id} {i : ℕ}
+    {label : Label Id} {has_header : Bool} {old mid : Sink}
+    (at : IsElementAt d.labels.items i label)
+    (before : HeadersWritten config files d (primary_before d i) has_header old mid) where
+  -- a secondary label has no header
+  pub after_secondary : is_primary (label_of label).label ≡ false
+      → HeadersWritten config files d (primary_before d (i + 1)) has_header old mid
+  after_secondary secondary =
+      subst
+      (λ (xs : List (LabelInFile Id)). HeadersWritten config files d xs has_header old mid)
+      (sym (secondary_next d at secondary)) before
+
+  module _ (primary : is_primary (label_of label).label ≡ true) where
+    -- the label
+    abbrev here : LabelInFile Id
+    here = label_of label
+
+    -- its header has been written too
+    pub after_primary : {locus : Locus} {new : Sink} → IsLocusOfLabel files.file here locus
+        → first_error files.failure (header_lookups_of here) ≡ None
+        → WroteStream mid (header_row_with_newline d (Some locus)) new
+        → HeadersWritten config files d (primary_before d (i + 1)) true old new
+    after_primary {locus} {new} there succeeded wrote =
+        subst (λ (xs : List (LabelInFile Id)). HeadersWritten config files d xs true old new)
+        (sym (primary_next d at primary)) (record {
+          loci = before.loci ++ locus ∷ [];
+          are = zip_append (IsLocusOfLabel files.file) (primary_before d i) (here ∷ [])
+              before.loci (locus ∷ []) before.are (there, tt);
+          wrote = subst (λ (s : Stream). WroteStream old s new)
+              (sym (headers-last config d before.loci locus))
+              (written-then old (headers_at config d before.loci)
+              (header_row_with_newline d (Some locus)) before.wrote wrote);
+          succeeded = ap (first_error files.failure)
+              (flat_map-append header_lookups_of (primary_before d i) (here ∷ []))
+              ∙ first_error-none files.failure (flat_map header_lookups_of (primary_before d i))
+              (header_lookups_of here ++ []) before.succeeded
+              ∙ ap (first_error files.failure) (append-nil (header_lookups_of here)) ∙ succeeded;
+          some = sym (has_any-last (primary_before d i) here);
+        })
+
+    -- the locus that the file of a label states
+    abbrev stated_of : LabelInFile Id → Locus
+    stated_of x = stated_locus (label_locus_byte files.file x)
+
+    -- the loci of the labels before it, its own, and those that are stated for later ones
+    abbrev loci_with : Locus → List Locus
+    loci_with locus = before.loci ++ locus ∷ map stated_of (primary_from d (i + 1))
+
+    -- they are loci
+    abbrev IsLocusOf : LabelInFile Id → Locus → Type 0
+    IsLocusOf x p = IsLocus (label_locus_byte files.file x) p
+
+    loci_with-are : (locus : Locus) → IsLocusOf here locus
+        → AreLoci files d Short (loci_with locus)
+    loci_with-are locus is =
+        zip_map IsLocus (label_locus_byte files.file) (primary_labels d) (loci_with locus)
+        (subst (λ (xs : List (LabelInFile Id)). AllZip IsLocusOf xs (loci_with locus))
+        (primary_whole d at primary)
+        (zip_append IsLocusOf (primary_before d i) (here ∷ primary_from d (i + 1)) before.loci
+        (locus ∷ map stated_of (primary_from d (i + 1)))
+        (zip_weaker (IsLocusOfLabel files.file) IsLocusOf (λ x p h. h.is_locus)
+        (primary_before d i) before.loci before.are) (
+          is,
+          zip_each IsLocusOf stated_of (λ x. locus_there (label_locus_byte files.file x))
+              (primary_from d (i + 1)),
+        )))
+
+    -- the writer failed within its header
+    pub header_cut : {locus : Locus} {new : Sink} {e : Error}
+        → IsLocusOfLabel files.file here locus → IsIo e
+        → WrotePrefix mid (header_row_with_newline d (Some locus)) new
+        → WritesOutput Short config config files d old (Err e) new
+    header_cut {locus} {new} there io wrote =
+        let cut = subst (λ (s : Stream). WrotePrefix old s new)
+        (sym (short-some config d before.loci locus _))
+        (failed-before _ (failed-then (headers_at config d before.loci) before.wrote wrote)) in
+        record {
+          loci = loci_with locus;
+          are_loci = loci_with-are locus there.is_locus;
+          received = cut.1;
+          on_end = record { error_is = inl (io, cut.0); early = λ rich. cc };
+        }
+
+    -- the lookups of the headers before it
+    abbrev made : List (Id × Lookup)
+    made = flat_map header_lookups_of (primary_before d i)
+
+    -- those of its own, and of the later ones
+    abbrev left : List (Id × Lookup)
+    left = header_lookups_of here ++ flat_map header_lookups_of (primary_from d (i + 1))
+
+    -- a lookup for it failed, or an allocation, or the `Display` of its file's name
+    pub lookup_failed : {e : Error}
+        → (e ≢ OutOfMemory → e ≢ FormatError
+        → first_error files.failure (header_lookups_of here) ≡ Some e)
+        → WritesOutput Short config config files d old (Err e) mid
+    lookup_failed {e} known =
+        let locus : Locus = stated_of here in
+        record {
+          loci = loci_with locus;
+          are_loci = loci_with-are locus (locus_there (label_locus_byte files.file here));
+          received = λ is_known.
+              subst (λ (s : Stream). PrefixWritten old s mid)
+              (sym (short-some config d before.loci locus _))
+              (PrefixWritten-first old _ mid _
+              (PrefixWritten-last old (headers_at config d before.loci)
+              (header_row_with_newline d (Some locus)) mid
+              (subst
+              (λ (s : Sink). PrefixWritten s (header_row_with_newline d (Some locus)) mid)
+              (before.wrote.1 is_known) (PrefixWritten-none mid _ mid refl))));
+          on_end = record {
+            error_is = inr (
+              before.wrote.0,
+              (some_lookups, error_of_all),
+              record {
+                before = primary_before d i;
+                here = here;
+                after = primary_from d (i + 1);
+                whole = primary_whole d at primary;
+                succeed = all_succeed files.failure
+                    (flat_map header_lookups_of (primary_before d i)) before.succeeded;
+                fails = (omega arith, known);
+                wrote = λ is_known.
+                    before.wrote.1 is_known
+                    ∙ ap (λ (ps : List Locus). with_written old (headers_at config d ps))
+                    (sym (taken locus));
+              },
+            );
+            early = λ rich. cc;
+          };
+        }
+      where
+        both : flat_map header_lookups_of (primary_labels d) ≡ made ++ left
+        both =
+            ap (flat_map header_lookups_of) (sym (primary_whole d at primary))
+            ∙ flat_map-append header_lookups_of (primary_before d i)
+            (here ∷ primary_from d (i + 1))
+
+        -- the first loci are those of the labels before it
+        taken : (locus : Locus) → take (length (primary_before d i)) (loci_with locus) ≡ before.loci
+        taken locus =
+            ap (λ n. take n (loci_with locus))
+            (zip_length (IsLocusOfLabel files.file) (primary_before d i) before.loci before.are)
+            ∙ take-append_seam before.loci _
+
+        some_lookups : 0 < length (flat_map header_lookups_of (primary_labels d))
+        some_lookups = omega (
+          arith,
+          ap length both,
+          length-append made left,
+          length-append (header_lookups_of here)
+              (flat_map header_lookups_of (primary_from d (i + 1))),
+        )
+
+        error_of_all : e ≢ OutOfMemory → e ≢ FormatError
+            → first_error files.failure (flat_map header_lookups_of (primary_labels d)) ≡ Some e
+        error_of_all p q =
+            ap (first_error files.failure) both
+            ∙ first_error-none files.failure made left before.succeeded
+            ∙ first_error-some files.failure (header_lookups_of here)
+            (flat_map header_lookups_of (primary_from d (i + 1))) e (known p q)
 
 -- ---- all of them
 
--- rendering ended at one of the labels
-module _ {Id : Type 0} {config : Config} (files : FileDatabase Id) {d : Diagnostic Id}
-    {old new : Sink} {e : Error} (w : HeadersFailed config files.file files.failure d old
-    (primary_labels d) e new) where
-  -- the lookups of the headers
-  abbrev header_lookups : List (Id × Lookup)
-  header_lookups = flat_map header_lookups_of (primary_labels d)
+-- those before an index past the end
+pub all_written : {Id : Type 0} {config : Config} {files : FileDatabase Id} {d : Diagnostic Id}
+    {i : ℕ} {has_header : Bool} {old mid : Sink} → length d.labels.items ≤ i
+    → HeadersWritten config files d (primary_before d i) has_header old mid
+    → HeadersWritten config files d (primary_labels d) has_header old mid
+all_written {config = config} {files} {d} {i} {has_header} {old} {mid} past written =
+    subst
+    (λ (ls : List (Label _)). HeadersWritten config files d (primary_of (map label_of ls))
+    has_header old mid)
+    (take_all i d.labels.items past) written
 
-  -- those of the labels before that one, of that one, and of the others
-  header_lookups-split : header_lookups ≡ flat_map header_lookups_of
-      w.before ++ (header_lookups_of w.here ++ flat_map header_lookups_of w.after)
-  header_lookups-split = ap (flat_map header_lookups_of) (sym w.whole) ∙ flat_map-append header_lookups_of w.before (w.here ∷ w.after)
+-- a whole output was written or cut short by its writer, after lookups that succeeded, in a style
+-- that is not rich
+written_whole : {Id : Type 0} {style : DisplayStyle} {config : Config} {files : FileDatabase Id}
+    {d : Diagnostic Id} {old new : Sink} {loci : List Locus} (r : Result (Unit {0}) Error)
+    → (style ≡ Rich → ⊥) → AreLoci files d style loci → Succeeds config files d style loci
+    → Writes old (output style config config files d loci) r new → IfErr r IsIo
+    → WritesOutput style config config files d old r new
+written_whole {loci = loci} (Ok x) other are succeeds writes io = record {
+  loci = loci;
+  are_loci = are;
+  received = writes.1;
+  on_end = (writes.0, succeeds);
+}
+written_whole {loci = loci} (Err e) other are succeeds writes io = record {
+  loci = loci;
+  are_loci = are;
+  received = writes.1;
+  on_end = record { error_is = inl (io, writes.0); early = λ rich. absurd (other rich) };
+}
 
-  -- the loci of those before it, its own, and those of labels that are not looked up
-  abbrev others : List Locus
-  others = map (stated_of files.file) w.after
-
-  abbrev loci_with : Locus → List Locus
-  loci_with here = w.written.loci ++ here ∷ others
-
-  -- they are loci
-  abbrev IsLocusOf : LabelInFile Id → Locus → Type 0
-  IsLocusOf x p = IsLocus (label_locus_byte files.file x) p
-
-  loci_with-are : (here : Locus) → IsLocusOf w.here here → AreLoci files d Short (loci_with here)
-  loci_with-are here is =
-      subst (λ (xs : List (LabelInFile Id)). AllZip IsLocus (map (label_locus_byte files.file) xs) (loci_with here)) w.whole
-      (zip_map IsLocus (label_locus_byte files.file) (w.before ++ w.here ∷ w.after) (loci_with here)
-      (zip_append IsLocusOf w.before (w.here ∷ w.after) w.written.loci (here ∷ others)
-      (zip_weaker (IsLocusOfLabel files.file) IsLocusOf (λ x p h. h.is_locus) w.before w.written.loci w.written.are)
-      (is, zip_each IsLocusOf (stated_of files.file) (λ x. locus_there (label_locus_byte files.file x)) w.after)))
-
-  -- the headers of the labels before it have been written
-  abbrev first : Stream
-  first = headers_stream config d w.written.loci
-
-  -- a prefix of the rest is one of the output, after what has been written
-  prefix_whole : (here : Locus) → is_known old ≡ true
-      → (is_known w.mid ≡ true → PrefixWritten w.mid (headers_stream config d (here ∷ others)) new)
-      → PrefixWritten old (short config d (loci_with here)) new
-  prefix_whole here known prefix =
-      let is = w.written.written known in
-      let rest = headers_stream config d (here ∷ others) in
-      subst (λ (s : Stream). PrefixWritten old s new)
-      (sym
-      (short-some config d w.written.loci here others
-      ∙ headers_stream-append config d w.written.loci (here ∷ others)))
-      (PrefixWritten-last old first rest new
-      (subst (λ (x : Sink). PrefixWritten x rest new) is
-      (prefix (ap is_known is ∙ is_known-with_written old first ∙ known))))
-
-  -- the call ends so
-  abbrev FailsInShort : Type 0
-  FailsInShort = WritesOutput Short config config files d old (Err e) new
-
-  -- the writer failed within a header
-  write_failed_at : HeaderWriteFailed config files.file files.failure d w.mid w.here e new
-      → FailsInShort
-  write_failed_at stop = record {
-    loci = loci_with stop.locus;
-    are_loci = loci_with-are stop.locus stop.at.is_locus;
-    received = λ known. prefix_whole stop.locus known (λ there.
-        subst (λ (s : Stream). PrefixWritten w.mid s new) (sym (headers_stream-append config d (stop.locus ∷ []) others))
-        (PrefixWritten-first w.mid (headers_stream config d (stop.locus ∷ [])) new (headers_stream config d others) (stop.prefix there)));
-    on_end = record { error_is = inl (stop.io, stop.frame ∙ ap failed_frame w.written.frame); early = λ rich. cc };
-  }
-
-  -- a lookup for a header failed, or an allocation, or a `Display`
-  lookup_failed_at : HeaderLookupFailed config files.file files.failure d w.mid w.here e new
-      → FailsInShort
-  lookup_failed_at stop =
-      let here = stated_of files.file w.here in
-      record {
-        loci = loci_with here;
-        are_loci = loci_with-are here (locus_there (label_locus_byte files.file w.here));
-        received = λ known. prefix_whole here known (λ there. PrefixWritten-none w.mid (headers_stream config d (here ∷ others)) new stop.same);
-        on_end = record {
-          error_is = inr (
-            ap (λ (x : Sink). x.frame) stop.same ∙ w.written.frame,
-            (some, error_of_all),
-            record {
-              before = w.before;
-              here = w.here;
-              after = w.after;
-              whole = w.whole;
-              succeed = all_succeed files.failure (flat_map header_lookups_of w.before) w.written.succeeded;
-              fails = (omega arith, stop.error_is);
-              wrote =
-                  λ known. stop.same ∙ w.written.written known
-                  ∙ ap (λ (ps : List Locus). with_written old (headers_stream config d ps))
-                  (sym (taken here));
-            },
-          );
-          early = λ rich. cc;
-        };
-      }
-    where
-      -- the first of them are those of the labels before it
-      taken : (here : Locus) → take (length w.before) (loci_with here) ≡ w.written.loci
-      taken here =
-          ap (λ n. take n (loci_with here)) (zip_length (IsLocusOfLabel files.file) w.before w.written.loci w.written.are)
-          ∙ take-append_seam w.written.loci (here ∷ others)
-
-      some : 0 < length header_lookups
-      some = omega (
-        arith,
-        ap length header_lookups-split,
-        length-append (flat_map header_lookups_of w.before) (header_lookups_of w.here ++ flat_map header_lookups_of w.after),
-        length-append (header_lookups_of w.here) (flat_map header_lookups_of w.after),
-      )
-
-      error_of_all : e ≢ OutOfMemory → e ≢ FormatError
-          → first_error files.failure header_lookups ≡ Some e
-      error_of_all p q =
-          ap (first_error files.failure) header_lookups-split
-          ∙ first_error-none files.failure (flat_map header_lookups_of w.before)
-          (header_lookups_of w.here ++ flat_map header_lookups_of w.after) w.written.succeeded
-          ∙ first_error-some files.failure (header_lookups_of w.here) (flat_map header_lookups_of w.after) e (stop.error_is p q)
-
-  -- either way
-  pub headers_failed : FailsInShort
-  headers_failed =
-      ⊎_elim (λ (stop : HeaderWriteFailed config files.file files.failure d w.mid w.here e new). write_failed_at stop)
-      (λ (stop : HeaderLookupFailed config files.file files.failure d w.mid w.here e new). lookup_failed_at stop)
-      w.ended
-
--- the headers of all of them have been written
-module _ {Id : Type 0} {config : Config} (files : FileDatabase Id) {d : Diagnostic Id}
-    {old mid : Sink}
-    (written : HeadersWritten config files.file files.failure d old (primary_labels d) mid) where
-  -- no lookup failed
-  all_lookups_succeed : Succeeds config files d Short written.loci
-  all_lookups_succeed = record {
-    lookups_succeed = all_succeed files.failure (flat_map header_lookups_of (primary_labels d)) written.succeeded;
-    names_are_utf8 = label_texts files d written.loci written.are;
-  }
+module _ {Id : Type 0} {config : Config} {files : FileDatabase Id} {d : Diagnostic Id}
+    {has_header : Bool} {old mid : Sink}
+    (written : HeadersWritten config files d (primary_labels d) has_header old mid) where
+  -- no lookup failed, so what is written is an output where it has these headers
+  whole : {new : Sink} (r : Result (Unit {0}) Error)
+      → Writes old (short config d written.loci) r new → IfErr r IsIo
+      → WritesOutput Short config config files d old r new
+  whole r writes io =
+      written_whole r (λ rich. cc) (label_loci files d written.loci written.are)
+      (record {
+        lookups_succeed = all_succeed files.failure
+            (flat_map header_lookups_of (primary_labels d)) written.succeeded;
+        names_are_utf8 = label_texts files d written.loci written.are;
+      })
+      writes io
 
   -- there are some
-  pub headers_written : has_any (primary_labels d) ≡ true
+  pub headers_written : has_header ≡ true
       → WritesOutput Short config config files d old (Ok tt) mid
-  headers_written some = record {
-    loci = written.loci;
-    are_loci = label_loci files d written.loci written.are;
-    received = λ known. written.written known
-        ∙ ap (λ (rows : List Row). with_written old (stream_of_rows (context config d) rows))
-        (sym (some_headers (IsLocusOfLabel files.file) (header_text_of d) (primary_labels d)
-        written.loci some written.are));
-    on_end = (written.frame, all_lookups_succeed);
-  }
+  headers_written some =
+      whole (Ok tt)
+      (subst
+      (λ (rows : List Row). WroteStream old (stream_of_rows (context config d) rows) mid)
+      (sym (some_headers (IsLocusOfLabel files.file) (header_text_of d) (primary_labels d)
+      written.loci (sym written.some ∙ some) written.are))
+      written.wrote) tt
 
-  -- there are none, so nothing has been written
-  nowhere : has_any (primary_labels d) ≡ false → written.loci ≡ []
-  nowhere none = no_loci (IsLocusOfLabel files.file) (primary_labels d) written.loci (none_of_empty (primary_labels d) none) written.are
-
-  none_written : has_any (primary_labels d) ≡ false → is_known old ≡ true → mid ≡ old
-  none_written none known =
-      written.written known
-      ∙ ap (λ (ps : List Locus). with_written old (headers_stream config d ps)) (nowhere none)
-      ∙ with_written-nil old
-
-  -- the output is one header
-  bare : has_any (primary_labels d) ≡ false → short config d written.loci ≡ header config d None
-  bare none = ap (short config d) (nowhere none) ∙ append-nil _
-
-  -- then a header without a locus was written
-  pub bare_header : {new : Sink} (r : Result (Unit {0}) Error) → has_any (primary_labels d) ≡ false
-      → Writes mid (header config d None) r new → IfErr r IsIo
+  -- there are none, and then a header without a locus was written
+  pub bare_header : {new : Sink} (r : Result (Unit {0}) Error) → has_header ≡ false
+      → Writes mid (header_row_with_newline d None) r new → IfErr r IsIo
       → WritesOutput Short config config files d old r new
-  bare_header {new} (Ok x) none writes io = record {
-    loci = written.loci;
-    are_loci = label_loci files d written.loci written.are;
-    received = λ known.
-        let is = none_written none known in
-        writes.1 (ap is_known is ∙ known)
-        ∙ ap (λ (y : Sink). with_written y (header config d None)) is
-        ∙ ap (with_written old) (sym (bare none));
-    on_end = (writes.0 ∙ written.frame, all_lookups_succeed);
-  }
-  bare_header {new} (Err e) none writes io = record {
-    loci = written.loci;
-    are_loci = label_loci files d written.loci written.are;
-    received = λ known.
-        let is = none_written none known in
-        subst (λ (s : Stream). PrefixWritten old s new) (sym (bare none))
-        (subst (λ (x : Sink). PrefixWritten x (header config d None) new) is (writes.1 (ap is_known is ∙ known)));
-    on_end = record { error_is = inl (io, writes.0 ∙ ap failed_frame written.frame); early = λ rich. cc };
-  }
+  bare_header {new} r none writes io =
+      let nowhere : written.loci ≡ [] =
+      no_loci (IsLocusOfLabel files.file) (primary_labels d) written.loci
+      (sym written.some ∙ none) written.are in
+      whole r
+      (subst (λ (s : Stream). Writes old s r new)
+      (ap (λ ps. headers_at config d ps ++ header_row_with_newline d None) nowhere
+      ∙ sym (ap (short config d) nowhere ∙ append-nil (header_row_with_newline d None)))
+      (writes-last old (headers_at config d written.loci) (header_row_with_newline d None) new r
+      written.wrote writes))
+      io
 
 -- ---- the notes after them
 
--- the headers were cut short
-pub medium_failed : {Id : Type 0} {config : Config} {files : FileDatabase Id} {d : Diagnostic Id}
-    {old new : Sink} {e : Error}
+-- neither style is the rich one
+pub not_rich : (show_notes : Bool) → style_with_notes show_notes ≡ Rich → ⊥
+not_rich true rich = cc
+not_rich false rich = cc
+
+-- the headers were cut short, with the notes after them or not
+pub cut_before_notes : {Id : Type 0} {config : Config} {files : FileDatabase Id}
+    {d : Diagnostic Id} {old new : Sink} {e : Error} (show_notes : Bool)
     → WritesOutput Short config config files d old (Err e) new
-    → WritesOutput Medium config config files d old (Err e) new
-medium_failed {config = config} {d = d} {old = old} {new = new} rendered = record {
+    → WritesOutput (style_with_notes show_notes) config config files d old (Err e) new
+cut_before_notes false rendered = rendered
+cut_before_notes {config = config} {d = d} {old = old} {new = new} true rendered = record {
   loci = rendered.loci;
   are_loci = rendered.are_loci;
   received = λ known.
-      subst (λ (s : Stream). PrefixWritten old s new) (sym (noted-after config d (header_rows (header_text_of d) rendered.loci)))
-      (PrefixWritten-first old (short config d rendered.loci) new (noted config d) (rendered.received known));
+      subst (λ (s : Stream). PrefixWritten old s new)
+      (sym (noted-after config d (header_rows (header_text_of d) rendered.loci)))
+      (PrefixWritten-first old (short config d rendered.loci) new (noted config d)
+      (rendered.received known));
   on_end = record { error_is = rendered.on_end.error_is; early = λ rich. cc };
 }
 
--- the headers have been written
-module _ {Id : Type 0} {config : Config} {files : FileDatabase Id} {d : Diagnostic Id}
-    {old mid : Sink} (rendered : WritesOutput Short config config files d old (Ok tt) mid) where
-  -- the notes
-  abbrev notes : Stream
-  notes = noted config d
-
-  -- the headers
-  abbrev before : Stream
-  before = short config d rendered.loci
-
-  -- the notes were written after them, by an equal configuration
-  pub medium_written : {now : Config} {new : Sink} (r : Result (Unit {0}) Error) → now ≡ config
-      → Writes mid (noted now d) r new → IfErr r IsIo
-      → WritesOutput Medium config config files d old r new
-  medium_written {now} {new} r equal writes io =
-      by r (subst (λ (k : Config). Writes mid (noted k d) r new) equal writes) io
-    where
-      rows : stream_of_rows (context config d)
-          (header_rows (header_text_of d) rendered.loci ++ note_rows (notes_of d)) ≡ before ++ notes
-      rows = noted-after config d (header_rows (header_text_of d) rendered.loci)
-
-      by : (r : Result (Unit {0}) Error) → Writes mid notes r new → IfErr r IsIo
-          → WritesOutput Medium config config files d old r new
-      by (Ok x) writes io = record {
-        loci = rendered.loci;
-        are_loci = rendered.are_loci;
-        received = λ known.
-            let is = rendered.received known in
-            writes.1 (ap is_known is ∙ is_known-with_written old before ∙ known)
-            ∙ ap (λ (y : Sink). with_written y notes) is
-            ∙ sym (with_written-append old before notes) ∙ ap (with_written old) (sym rows);
-        on_end = (writes.0 ∙ rendered.on_end.0, record { lookups_succeed = rendered.on_end.1.lookups_succeed; names_are_utf8 = rendered.on_end.1.names_are_utf8 });
-      }
-      by (Err e) writes io = record {
-        loci = rendered.loci;
-        are_loci = rendered.are_loci;
-        received = λ known.
-            let is = rendered.received known in
-            subst (λ (s : Stream). PrefixWritten old s new) (sym rows)
-            (PrefixWritten-last old before notes new
-            (subst (λ (y : Sink). PrefixWritten y notes new) is
-            (writes.1 (ap is_known is ∙ is_known-with_written old before ∙ known))));
-        on_end = record { error_is = inl (io, writes.0 ∙ ap failed_frame rendered.on_end.0); early = λ rich. cc };
-      }
+-- the headers have been written, and then the notes were, by an equal configuration
+pub medium_written : {Id : Type 0} {config now : Config} {files : FileDatabase Id}
+    {d : Diagnostic Id} {old mid new : Sink} (r : Result (Unit {0}) Error)
+    → WritesOutput Short config config files d old (Ok tt) mid → now ≡ config
+    → Writes mid (noted now d) r new → IfErr r IsIo
+    → WritesOutput Medium config config files d old r new
+medium_written {config = config} {d = d} {old = old} {mid = mid} {new = new} r rendered equal writes
+    io =
+    let succeeds = rendered.on_end.1 in
+    written_whole r (λ rich. cc) rendered.are_loci
+    (record {
+      lookups_succeed = succeeds.lookups_succeed;
+      names_are_utf8 = succeeds.names_are_utf8;
+    })
+    (subst (λ (s : Stream). Writes old s r new)
+    (sym (noted-after config d (header_rows (header_text_of d) rendered.loci)))
+    (writes-last old (short config d rendered.loci) (noted config d) new r
+    (rendered.on_end.0, rendered.received)
+    (subst (λ (k : Config). Writes mid (noted k d) r new) equal writes)))
+    io

@@ -1,19 +1,16 @@
 -- The order of the lane marks on a line, for the clauses `in_order` of `render_line` and
 -- `render_break`, and those of `render_snippets` and `RichDiagnostic::render`.
 use Rattle.std.proofs.Common.{◌≡◌, ℕ, ◌+◌, ◌≤◌, Bool, true, false, ◌&&◌, List, [], ◌∷◌, length, map}
-use Rattle.std.proofs.Common.{Option, Some, None, refl, sym, ap, ◌∙◌, arith, nat_le, nat_lt}
-use Rattle.std.proofs.Common.{true≢false}
+use Rattle.std.proofs.Common.{Option, Some, None, refl, sym, arith, nat_le, nat_lt, true≢false}
 use Rattle.std.specs.List.{AllByRecursion, enumerate_from, filter_map, cons_option}
 use Rattle.std.proofs.lemmas.Bool.{leb-true}
 use Rattle.std.proofs.lemmas.Bool.Decides.{nat_tests}
 use Rattle.codespan_core.specs.FileModel.{FileModel}
 use Rattle.codespan_core.specs.Labels.{LabelModel, LaneMark, MultiLabel, lane_mark_of}
 use Rattle.codespan_core.specs.Labels.{lane_marks_on, multi_line_labels, multi_label_on}
-use Rattle.codespan_picture.specs.Arguments.{LaneMarkTuple, lane_mark_view, lanes_in_order}
 use Rattle.codespan_picture.specs.Arguments.{ascend_from}
 use Rattle.codespan_picture.specs.Snippets.{LabeledFileModel, num_multi_labels}
-use Rattle.codespan_views.specs.Private.Annotations.{Annotation, is_before}
-use Rattle.codespan_views.specs.Private.SnippetLines.{are_lane_marks_in_order, lane_marks_in}
+use Rattle.codespan_views.specs.Private.Annotations.{is_before}
 use Rattle.codespan_views.proofs.AnnotationOrder.{lane_below, lane_mark_annotation}
 use Rattle.codespan_picture.proofs.ListElements.{all-weaker}
 use Rattle.codespan_picture.proofs.SortedLists.{Climbs}
@@ -92,9 +89,3 @@ ascend-climbs f l count least (m ∷ ms) up =
         (map (lane_mark_annotation f l) ks)
     later [] h = tt
     later (k ∷ ks) h = (lane_below f l m k (let low = h.0 in omega arith), later ks h.1)
-
--- a renderer takes lane marks that ascend
-pub lanes_fit : (count : ℕ) (es : List Annotation) (ms : List LaneMarkTuple)
-    → map lane_mark_view ms ≡ lane_marks_in es → are_lane_marks_in_order count es ≡ true
-    → lanes_in_order count ms ≡ true
-lanes_fit count es ms same fits = ap (ascend_from count 0) same ∙ fits

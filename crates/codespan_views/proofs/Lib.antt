@@ -48,13 +48,10 @@ pub mod OutputLoci
 pub mod Renderings
 pub mod EmittedOutputs
 pub mod LookupRuns
-pub mod StyleCalls
-pub mod SnippetParts
 pub mod FilesInOrder
 pub mod SnippetsRendered
 pub mod LinesRendered
 pub mod NoteRows
 pub mod RichParts
-pub mod LabelHeaders
 pub mod HeaderStreams
 pub mod HeaderRuns

@@ -1,10 +1,10 @@
--- The rows of notes, one note after another, for the clauses of `render_notes`, `render_closing`
--- and `render_without_labels`.
-use Rattle.std.proofs.Common.{◌≡◌, ℕ, ◌+◌, ◌<◌, ◌≤◌, List, [], ◌∷◌, ◌++◌, length, take, drop}
-use Rattle.std.proofs.Common.{get_or, map, refl, sym, ap, ◌∙◌}
+-- The rows of notes, one note after another, for the clauses of `render_notes` and
+-- `render_closing`.
+use Rattle.std.proofs.Common.{◌≡◌, ℕ, ◌+◌, ◌<◌, List, [], ◌∷◌, ◌++◌, length, take, drop, get_or}
+use Rattle.std.proofs.Common.{map, refl, sym, ap, ◌∙◌}
 use Rattle.std.specs.Str.Lines.{lines}
 use Rattle.std.proofs.lemmas.Grind.{flat_map-append}
-use Rattle.std.proofs.lemmas.List.{append-nil, map-append, take-append-drop, take_all, take_more}
+use Rattle.std.proofs.lemmas.List.{append-nil, map-append, take-append-drop, take_more}
 use Rattle.codespan_core.specs.Streams.{Stream, newline}
 use Rattle.codespan_picture.specs.Rows.{RowContext, Row, FinalRow, LaterNoteRow}
 use Rattle.codespan_picture.specs.RowStreams.{first_note_row, later_note_row, stream_of}
@@ -31,10 +31,6 @@ module _ (context : RowContext) where
   note-rows (p ∷ ps) =
       ap (λ (s : Stream). (first_note_row context.chars context.padding p ++ newline) ++ s)
       (later-rows ps)
-
--- all that is written of these notes
-abbrev pub whole_of_notes : RowContext → List (List ℕ) → Stream
-whole_of_notes context notes = stream_of_rows context (note_rows notes ++ FinalRow ∷ [])
 
 module _ {N : Type 0} (text : N → List ℕ) (context : RowContext) where
   -- the stream of the rows of notes
@@ -70,11 +66,6 @@ module _ {N : Type 0} (text : N → List ℕ) (context : RowContext) where
   notes-cut notes i =
       ap (λ (ns : List N). stream_of_notes ns) (sym (take-append-drop i notes))
       ∙ notes-both (take i notes) (drop i notes)
-
-  -- all notes
-  pub notes-all : (notes : List N) (i : ℕ) → length notes ≤ i
-      → stream_of_notes (take i notes) ≡ stream_of_notes notes
-  notes-all notes i past = ap (λ (ns : List N). stream_of_notes ns) (take_all i notes past)
 
   -- the rows of the notes, and the empty line
   pub notes-empty : (notes : List N)

@@ -1,14 +1,14 @@
 -- Calls that render by a renderer, one after another: for the clauses of `render_snippets`,
 -- `render_notes` and `render_closing`.
-use Rattle.std.proofs.Common.{◌≡◌, List, [], ◌++◌, Option, Result, Ok, Err, inl, inr, ⊎_elim}
-use Rattle.std.proofs.Common.{refl, sym, subst, ◌∙◌}
+use Rattle.std.proofs.Common.{◌≡◌, List, [], ◌++◌, Option, Result, Ok, Err, inl, inr, ⊎_elim, refl}
+use Rattle.std.proofs.Common.{sym, subst, ◌∙◌}
 use Rattle.std.specs.Borrow.{GName}
 use Rattle.codespan_core.specs.declared.files.Error.{Error}
 use Rattle.codespan_core.specs.Errors.{IsIo}
 use Rattle.codespan_core.specs.declared.term.config.Config.{Config}
 use Rattle.codespan_core.specs.Streams.{Stream}
 use Rattle.codespan_core.specs.WriterLaw.{Sink, is_known, with_written}
-use Rattle.codespan_core.proofs.Chains.{failed-before, writes-last}
+use Rattle.codespan_core.proofs.Chains.{WrotePrefix, failed-before, writes-last}
 use Rattle.codespan_core.proofs.Writes.{with_written-nil}
 use Rattle.codespan_picture.specs.Rows.{Row, RowContext}
 use Rattle.codespan_picture.specs.RowStreams.{stream_of_rows}
@@ -20,9 +20,7 @@ use Rattle.codespan_renderer.specs.Renderers.{writer_of}
 use Rattle.codespan_renderer.specs.declared.term.renderer.row_writer.RowWriter.{RowWriter}
 use Rattle.codespan_renderer.proofs.RowWriters.{same_frame, same_head, same_reference}
 use Rattle.codespan_renderer.proofs.RowWriters.{writes_before}
-use Rattle.codespan_views.specs.Private.LookupsWhileRendering.{FailedWithLookups, WrotePrefix}
-use Rattle.codespan_views.specs.Private.LookupsWhileRendering.{WritesWithLookups}
-use Rattle.codespan_views.specs.Private.Rendering.{RendersWithLookups}
+use Rattle.codespan_views.specs.Private.LookupsWhileRendering.{FailedWithLookups, WritesWithLookups}
 
 module _ {W : Type 0} where
   -- a renderer is the same as itself
@@ -84,42 +82,40 @@ through-run : (o : Option Error) (n m : GName) (s : Sink) (items : Stream)
     → (m ≡ n) × WritesWithLookups o s items r t
 unfolding with_written is_known
 through-run o n m s items (Ok tt) t p = (
-  same_reference {E = Error} n m s items (Ok tt) t p.1,
-  (p.0, writes_before {E = Error} n m s items (Ok tt) t p.1),
+  same_reference {E = Error} n m s items (Ok tt) t p.ends.1,
+  record { ends = (p.ends.0, writes_before {E = Error} n m s items (Ok tt) t p.ends.1) },
 )
 through-run o n m s items (Err e) t p =
     ⊎_elim
     (λ (w : IsIo e × WrotePrefix (sink_through n s) items (sink_through m t)). (
       same_reference n m s items (Err e) t w.1,
-      inl (w.0, writes_before n m s items (Err e) t w.1),
+      record { ends = inl (w.0, writes_before n m s items (Err e) t w.1) },
     ))
     (λ (w : FailedWithLookups o (sink_through n s) items e (sink_through m t)). (
       same_head n m s t w.frame,
-      inr (record {
-        frame = same_frame n m s t w.frame;
-        prefix = λ known. let q = w.prefix known in
-            record { prefix = q.prefix; rest = q.rest; whole = q.whole; contents = q.contents };
-        error_is = w.error_is;
-      }),
+      record {
+        ends = inr (record {
+          frame = same_frame n m s t w.frame;
+          prefix = λ known. let q = w.prefix known in
+              record { prefix = q.prefix; rest = q.rest; whole = q.whole; contents = q.contents };
+          error_is = w.error_is;
+        });
+      },
     ))
-    p
+    p.ends
 
 -- the writer comes back from the row writer that has written rows, with lookups on the way, and has
 -- received them
-pub rows-rendered : {W : Type 0} (sink : W → Sink) (o : Option Error) (context other : RowContext)
-    (rows : List Row) (old new : Renderer W) (before after : RowWriter W) (name : GName)
-    (r : Result (Unit {0}) Error)
-    → context ≡ other → inner_reference before ≡ name → inner_writer before ≡ writer_of old
+pub rows-rendered : {W : Type 0} (sink : W → Sink) {o : Option Error} {context other : RowContext}
+    (rows : List Row) (before after : RowWriter W) {name : GName} {old new : W}
+    {r : Result (Unit {0}) Error}
+    → context ≡ other → inner_reference before ≡ name → inner_writer before ≡ old
     → WritesWithLookups o (row_writer_sink sink before) (stream_of_rows context rows) r
     (row_writer_sink sink after)
-    → (name ≡ inner_reference after → writer_of new ≡ inner_writer after) → SameRenderer old new
-    → RendersWithLookups sink o (stream_of_rows other rows) old r new
-rows-rendered sink o context other rows old new before after name r equal called previous writes
-    back same =
+    → (name ≡ inner_reference after → new ≡ inner_writer after)
+    → WritesWithLookups o (sink old) (stream_of_rows other rows) r (sink new)
+rows-rendered sink {o} {context} rows before after {r = r} equal called previous writes back =
     let run = through-run o (inner_reference before) (inner_reference after)
     (sink (inner_writer before)) (stream_of_rows context rows) r (sink (inner_writer after))
     writes in
-    record {
-      same = same;
-      renders = rw (back (sym (run.0 ∙ called)), sym previous, sym equal) run.1;
-    }
+    rw (back (sym (run.0 ∙ called)), sym previous, sym equal) run.1

@@ -22,9 +22,7 @@ pub mod SnippetLines
 pub mod FilledLines
 pub mod EarlyLookups
 -- what is rendered
-pub mod Headers
 pub mod LookupsWhileRendering
 pub mod Rendering
-pub mod SnippetRows
 pub mod LineRendering
 pub mod ViewRendering

@@ -8,9 +8,8 @@ ghost use Rattle.codespan_picture.specs.Snippets.{note_rows};
 ghost use Rattle.codespan_renderer.specs.Renderers.{Renders, SameRenderer, config_of, writer_of};
 ghost use Rattle.codespan_views.specs.Private.EarlyLookups.{IsLookedUp};
 ghost use Rattle.codespan_views.specs.Private.Rendering.{RendersRows};
-ghost use Rattle.codespan_views.specs.Private.ViewRendering.{RendersSnippets, RendersView};
-ghost use Rattle.codespan_views.specs.Private.ViewRendering.{closing_rows, header_row_with_newline};
-ghost use Rattle.codespan_views.specs.Private.ViewRendering.{output_without_labels};
+ghost use Rattle.codespan_views.specs.Private.ViewRendering.{RendersSnippets, closing_rows};
+ghost use Rattle.codespan_views.specs.Private.ViewRendering.{header_row_with_newline};
 ghost use Rattle.codespan_views.specs.WriteCalls.{WritesStyled};
 ghost use Rattle.std.specs.Option.{option_map};
 ghost use Rattle.std.specs.Prelude.{length, ◌<◌, ◌≡◌};
@@ -105,7 +104,8 @@ impl<'diagnostic, 'config, FileId: Copy + Eq> RichDiagnostic<'diagnostic, 'confi
     {
         let diagnostic = self.diagnostic;
         if diagnostic.labels.is_empty() {
-            return render_without_labels(diagnostic, renderer);
+            render_diagnostic_header(diagnostic, renderer, None)?;
+            return render_closing(diagnostic, renderer, 0);
         }
         let alloc = *diagnostic.labels.allocator();
         let labels = diagnostic.labels.as_slice();
@@ -144,8 +144,10 @@ impl<'diagnostic, 'config, FileId: Copy + Eq> RichDiagnostic<'diagnostic, 'confi
         FileId: 'files,
         requires { IsLookedUp (F.database files.now) (view_config_of self.now)
             (labels_of (diagnostic_of self.now)) numbers.now collected.now }
-        ensures { RendersSnippets W.sink (F.database files.now)
-            self.now collected.now renderer.old result renderer.new }
+        ensures same { SameRenderer renderer.old renderer.new }
+        ensures renders { RendersSnippets (view_config_of self.now) (F.database files.now)
+            (diagnostic_of self.now) collected.now (config_of renderer.old)
+            (W.sink (writer_of renderer.old)) result (W.sink (writer_of renderer.new)) }
     {
         let diagnostic = self.diagnostic;
         let context = renderer.context(diagnostic.severity, collected.padding.digit_count);
@@ -170,7 +172,9 @@ impl<'diagnostic, 'config, FileId: Copy + Eq> RichDiagnostic<'diagnostic, 'confi
             snippet.render_first_rows(&mut rows, &labeled.locus)?;
             snippet.render_lines(&mut rows, &mut buffers, own_annotations)?;
             let is_followed = notes_follow || index + 1 < collected.files.len();
-            snippet.render_empty_row_after(&mut rows, is_followed)?;
+            if is_followed {
+                snippet.render_empty_row(&mut rows)?;
+            }
         }
         Ok(())
     }
@@ -192,22 +196,6 @@ fn render_closing<FileId, W: WriteStyle>(
 {
     render_notes(diagnostic, renderer, padding)?;
     renderer.render_empty()
-}
-
-/// Renders a diagnostic without labels: its header and its notes. Nothing is looked up.
-///
-/// # Errors
-///
-/// `Io` alone: the writer fails or takes no bytes.
-fn render_without_labels<FileId, W: WriteStyle>(
-    diagnostic: &Diagnostic<FileId>,
-    renderer: &mut Renderer<'_, '_, W>,
-) -> Result<(), Error>
-    ensures { Renders W.sink (output_without_labels diagnostic.now (config_of renderer.old))
-        renderer.old result renderer.new }
-{
-    render_diagnostic_header(diagnostic, renderer, None)?;
-    render_closing(diagnostic, renderer, 0)
 }
 
 /// Renders the header, with this locus, if any.

@@ -1,23 +1,17 @@
 //! Short and medium style: a header for each primary label, and in medium style the notes.
 
-ghost use Rattle.std.specs.Prelude.{◌≡◌, ◌∷◌, [], IfOk};
-ghost use Rattle.codespan_views.specs.Private.FileLookups.{FailsByOrFormatError};
-ghost use Rattle.codespan_views.specs.Private.Utf8Loci.{IsLocusOfLabel};
-ghost use Rattle.codespan_core.specs.declared.term.config.DisplayStyle.TheVariants.{Short, Medium};
-ghost use Rattle.codespan_picture.specs.Arguments.{locus_view};
-ghost use Rattle.codespan_picture.specs.Lookups.{first_error, header_lookups_of};
-ghost use Rattle.codespan_picture.specs.OutputStreams.{label_of, labels_of};
-ghost use Rattle.codespan_renderer.specs.Renderers.{writer_of, config_of, SameRenderer};
-ghost use Rattle.codespan_views.specs.WriteCalls.{WritesStyled};
-ghost use Rattle.codespan_views.specs.Private.ViewRendering.{RendersPrimaryHeaders, RendersInStyle};
+ghost use Rattle.codespan_core.specs.declared.term.config.DisplayStyle.TheVariants.{Short};
+ghost use Rattle.codespan_renderer.specs.Renderers.{SameRenderer, config_of, writer_of};
+ghost use Rattle.codespan_views.specs.WriteCalls.{WritesOutput, WritesStyled};
+ghost use Rattle.std.specs.Prelude.{◌≡◌};
 
 use crate::labeled_files::is_primary;
 use crate::rich::{render_diagnostic_header, render_notes};
 use crate::source_file::SourceFile;
-use codespan_core::diagnostic::{Diagnostic, Label};
+use codespan_core::diagnostic::Diagnostic;
 use codespan_core::files::{Error, Files};
 use codespan_core::term::WriteStyle;
-use codespan_renderer::term::renderer::{Locus, Renderer};
+use codespan_renderer::term::renderer::Renderer;
 
 /// Renders a header for each primary label of a diagnostic, with the locus of the label's start, or
 /// one header without a locus where no label is primary; in medium style the notes follow. This is
@@ -91,33 +85,18 @@ impl<'diagnostic, FileId: Copy + Eq> ShortDiagnostic<'diagnostic, FileId> {
             (F.database files.now) (short_diagnostic_of self.now)
             (W.sink (writer_of renderer.old)) result (W.sink (writer_of renderer.new)) }
     {
+        let diagnostic = self.diagnostic;
+        render_headers(files, diagnostic, renderer)?;
         if self.show_notes {
-            render_medium(files, self.diagnostic, renderer)
+            render_notes(diagnostic, renderer, 0)
         } else {
-            render_headers(files, self.diagnostic, renderer)
+            Ok(())
         }
     }
 }
 
-/// Renders the headers, and then the notes.
-///
-/// # Errors
-///
-/// As [`ShortDiagnostic::render`].
-fn render_medium<'files, F: Files<'files>, W: WriteStyle>(
-    files: &'files F,
-    diagnostic: &Diagnostic<F::FileId>,
-    renderer: &mut Renderer<'_, '_, W>,
-) -> Result<(), Error>
-    ensures same { SameRenderer renderer.old renderer.new }
-    ensures renders { RendersInStyle W.sink (F.database files.now)
-        Medium diagnostic.now renderer.old result renderer.new }
-{
-    render_headers(files, diagnostic, renderer)?;
-    render_notes(diagnostic, renderer, 0)
-}
-
-/// Renders a header for each primary label, or one without a locus.
+/// Renders a header for each primary label, in their order, or one without a locus where no label
+/// is primary.
 ///
 /// # Errors
 ///
@@ -128,81 +107,25 @@ fn render_headers<'files, F: Files<'files>, W: WriteStyle>(
     renderer: &mut Renderer<'_, '_, W>,
 ) -> Result<(), Error>
     ensures same { SameRenderer renderer.old renderer.new }
-    ensures renders { RendersInStyle W.sink (F.database files.now)
-        Short diagnostic.now renderer.old result renderer.new }
-{
-    if render_located_headers(files, diagnostic, renderer)? {
-        Ok(())
-    } else {
-        render_diagnostic_header(diagnostic, renderer, None)
-    }
-}
-
-/// Renders a header for each primary label, in their order, and returns whether there is one.
-///
-/// # Errors
-///
-/// As [`ShortDiagnostic::render`].
-fn render_located_headers<'files, F: Files<'files>, W: WriteStyle>(
-    files: &'files F,
-    diagnostic: &Diagnostic<F::FileId>,
-    renderer: &mut Renderer<'_, '_, W>,
-) -> Result<bool, Error>
-    ensures same { SameRenderer renderer.old renderer.new }
-    ensures renders { RendersPrimaryHeaders W.sink (F.database files.now)
-        diagnostic.now (labels_of diagnostic.now) renderer.old result renderer.new }
-{
-    let mut has_primary = false;
-    for label in &diagnostic.labels {
-        has_primary |= render_header_if_primary(files, diagnostic, renderer, label)?;
-    }
-    Ok(has_primary)
-}
-
-/// Renders the header of a label, where it is a primary one, and returns whether it is.
-///
-/// # Errors
-///
-/// As [`ShortDiagnostic::render`]. Nothing has been written where a lookup fails.
-fn render_header_if_primary<'files, F: Files<'files>, W: WriteStyle>(
-    files: &'files F,
-    diagnostic: &Diagnostic<F::FileId>,
-    renderer: &mut Renderer<'_, '_, W>,
-    label: &Label<F::FileId>,
-) -> Result<bool, Error>
-    ensures same { SameRenderer renderer.old renderer.new }
-    ensures renders { RendersPrimaryHeaders W.sink (F.database files.now)
-        diagnostic.now (label_of label.now ∷ []) renderer.old result renderer.new }
-{
-    if !is_primary(label) {
-        return Ok(false);
-    }
-    let locus = label_locus(files, diagnostic, label)?;
-    render_diagnostic_header(diagnostic, renderer, Some(&locus))?;
-    Ok(true)
-}
-
-/// Looks up the locus of a label's header: the name of its file, and the location of its start.
-///
-/// # Errors
-///
-/// As [`SourceFile::locus`].
-#[inline(always)]
-fn label_locus<'files, F: Files<'files>>(
-    files: &'files F,
-    diagnostic: &Diagnostic<F::FileId>,
-    label: &Label<F::FileId>,
-) -> Result<Locus, Error>
-    ensures locus { IfOk result (λ locus. IsLocusOfLabel
-        (F.database files.now).file (label_of label.now) (locus_view locus)) }
-    ensures failed { FailsByOrFormatError
-        (first_error (F.database files.now).failure (header_lookups_of (label_of label.now)))
-        result }
+    ensures renders { WritesOutput Short (config_of renderer.old) (config_of renderer.old)
+        (F.database files.now) diagnostic.now
+        (W.sink (writer_of renderer.old)) result (W.sink (writer_of renderer.new)) }
 {
     let alloc = *diagnostic.labels.allocator();
-    let file = SourceFile {
-        files,
-        file_id: label.file_id,
-    };
-    file.locus(alloc, label.range.start)
+    let mut has_primary = false;
+    for label in &diagnostic.labels {
+        if is_primary(label) {
+            has_primary = true;
+            let file = SourceFile {
+                files,
+                file_id: label.file_id,
+            };
+            let locus = file.locus(alloc, label.range.start)?;
+            render_diagnostic_header(diagnostic, renderer, Some(&locus))?;
+        }
+    }
+    if has_primary {
+        return Ok(());
+    }
+    render_diagnostic_header(diagnostic, renderer, None)
 }

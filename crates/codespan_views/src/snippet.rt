@@ -4,16 +4,14 @@ ghost use Rattle.std.specs.Prelude.{◌≡◌, [], ◌∷◌, All, IfSome, IsTru
 ghost use Rattle.std.specs.Prelude.{slice_get};
 ghost use Rattle.std.specs.Slice.Iter.{iter_rest};
 ghost use Rattle.codespan_views.specs.Private.AnnotationViews.{IsLineOf, annotation_view};
-ghost use Rattle.codespan_views.specs.Private.FilledLines.{TakesNumbers};
-ghost use Rattle.codespan_views.specs.Private.LineRendering.{HasLines, RendersFileRows};
-ghost use Rattle.codespan_views.specs.Private.LineRendering.{RendersLine, RendersLines};
-ghost use Rattle.codespan_views.specs.Private.Rendering.{WritesRows};
+ghost use Rattle.codespan_renderer.specs.Private.RowWriters.{row_writer_sink};
+ghost use Rattle.codespan_views.specs.Private.LineRendering.{HasLines, RendersLines};
+ghost use Rattle.codespan_views.specs.Private.Rendering.{WritesRows, first_rows, snippet_empty_row};
 ghost use Rattle.codespan_views.specs.Private.SnippetLines.{Break, Filled, Labeled};
 ghost use Rattle.codespan_views.specs.Private.SnippetLines.{are_annotations_in_order};
-ghost use Rattle.codespan_views.specs.Private.SnippetLines.{are_lane_marks_in_order, lines_of};
-ghost use Rattle.codespan_views.specs.Private.SnippetRows.{empty_row_after_snippet, first_rows};
-ghost use Rattle.codespan_views.specs.Private.SnippetRows.{snippet_empty_row};
-ghost use Rattle.codespan_views.specs.Private.SourceFiles.{lookups_of_filled, model_of};
+ghost use Rattle.codespan_views.specs.Private.SnippetLines.{are_lane_marks_in_order};
+ghost use Rattle.codespan_views.specs.Private.SnippetLines.{filled_lines_of, lines_of};
+ghost use Rattle.codespan_views.specs.Private.SourceFiles.{model_of};
 
 use crate::annotation::{Annotation, LineInfo, count_on_line, lines_between, skip_hidden};
 use crate::snippet::line_buffers::{LineBuffers, fill_lane_marks};
@@ -62,33 +60,12 @@ impl<'snippet, 'files, F: Files<'files>> Snippet<'snippet, 'files, F> {
         self.render_empty_row(rows)
     }
 
-    /// Renders an empty row after the snippet, where something follows.
-    ///
-    /// # Errors
-    ///
-    /// `Io` alone: the writer fails or takes no bytes.
-    pub fn render_empty_row_after<W: WriteStyle>(
-        &self,
-        rows: &mut RowWriter<'_, W>,
-        is_followed: bool,
-    ) -> Result<(), Error>
-        ensures { WritesRows W.sink self.now.context
-            (empty_row_after_snippet self.now.num_multi_labels is_followed)
-            rows.old result rows.new }
-    {
-        if is_followed {
-            self.render_empty_row(rows)
-        } else {
-            Ok(())
-        }
-    }
-
     /// Renders an empty row.
     ///
     /// # Errors
     ///
     /// `Io` alone: the writer fails or takes no bytes.
-    fn render_empty_row<W: WriteStyle>(&self, rows: &mut RowWriter<'_, W>) -> Result<(), Error>
+    pub fn render_empty_row<W: WriteStyle>(&self, rows: &mut RowWriter<'_, W>) -> Result<(), Error>
         ensures { WritesRows W.sink self.now.context
             (snippet_empty_row self.now.num_multi_labels ∷ []) rows.old result rows.new }
     {
@@ -129,11 +106,12 @@ impl<'snippet, 'files, F: Files<'files>> Snippet<'snippet, 'files, F> {
             annotation.line) annotations.now }
         requires drawn { HasLines F.database self.now (iter_rest buffers.old.numbers)
             (lines_of (map annotation_view annotations.now)) }
-        ensures renders { RendersLines W.sink F.database self.now (iter_rest buffers.old.numbers)
-            (lines_of (map annotation_view annotations.now)) rows.old result rows.new }
-        ensures numbers { OnOk result (TakesNumbers
+        ensures renders { RendersLines F.database self.now (iter_rest buffers.old.numbers)
             (lines_of (map annotation_view annotations.now))
-            buffers.old.numbers buffers.new.numbers) }
+            (row_writer_sink W.sink rows.old) result (row_writer_sink W.sink rows.new) }
+        ensures numbers { OnOk result (iter_rest buffers.new.numbers
+            ≡ drop (length (filled_lines_of (lines_of (map annotation_view annotations.now))))
+            (iter_rest buffers.old.numbers)) }
     {
         let none = &annotations[..0];
         let mut previous = None;
@@ -180,9 +158,9 @@ impl<'snippet, 'files, F: Files<'files>> Snippet<'snippet, 'files, F> {
             (λ known. known ≡ (model_of F.database self.now.file).line_number index) }
         requires in_order { IsTrue (are_annotations_in_order self.now.num_multi_labels
             (map annotation_view annotations.now)) }
-        ensures renders { RendersLine W.sink F.database self.now
-            (lookups_of_filled (slice_get (iter_rest buffers.old.numbers) 0) index)
-            (Filled index (map annotation_view annotations.now)) rows.old result rows.new }
+        ensures renders { RendersLines F.database self.now (iter_rest buffers.old.numbers)
+            (Filled index (map annotation_view annotations.now) ∷ [])
+            (row_writer_sink W.sink rows.old) result (row_writer_sink W.sink rows.new) }
         ensures numbers { iter_rest buffers.new.numbers
             ≡ drop 1 (iter_rest buffers.old.numbers) }
     {
@@ -215,8 +193,9 @@ impl<'snippet, 'files, F: Files<'files>> Snippet<'snippet, 'files, F> {
         requires line { IsLineOf (model_of F.database self.now.file) line }
         requires in_order { IsTrue (are_annotations_in_order self.now.num_multi_labels
             (map annotation_view annotations.now)) }
-        ensures renders { RendersLine W.sink F.database self.now []
-            (Labeled line.index (map annotation_view annotations.now)) rows.old result rows.new }
+        ensures renders { RendersLines F.database self.now (iter_rest buffers.old.numbers)
+            (Labeled line.index (map annotation_view annotations.now) ∷ [])
+            (row_writer_sink W.sink rows.old) result (row_writer_sink W.sink rows.new) }
         ensures numbers { buffers.new.numbers ≡ buffers.old.numbers }
     {
         buffers.refill(annotations)?;
@@ -250,9 +229,9 @@ impl<'snippet, 'files, F: Files<'files>> Snippet<'snippet, 'files, F> {
     ) -> Result<(), Error>
         requires in_order { IsTrue (are_lane_marks_in_order self.now.num_multi_labels
             (map annotation_view next_annotations.now)) }
-        ensures renders { RendersLine W.sink F.database self.now []
-            (Break (map annotation_view next_annotations.now))
-            rows.old result rows.new }
+        ensures renders { RendersLines F.database self.now (iter_rest buffers.old.numbers)
+            (Break (map annotation_view next_annotations.now) ∷ [])
+            (row_writer_sink W.sink rows.old) result (row_writer_sink W.sink rows.new) }
         ensures numbers { buffers.new.numbers ≡ buffers.old.numbers }
     {
         fill_lane_marks(&mut buffers.lane_marks, next_annotations)?;

@@ -1,14 +1,12 @@
 -- What is between two shown lines, and the lookups and the known numbers of filled lines.
-use Rattle.std.specs.Prelude.{◌≡◌, ℕ, zero, suc, ◌-◌, List, [], ◌∷◌, ◌++◌, Option, IfSome}
-use Rattle.std.specs.Prelude.{drop, length, map, slice_get}
-use Rattle.std.specs.Slice.Iter.{iter_rest}
-use Rattle.std.specs.declared.slice.Iter.{Iter}
+use Rattle.std.specs.Prelude.{◌≡◌, ℕ, zero, suc, ◌-◌, List, [], ◌∷◌, ◌++◌, Option, IfSome, drop}
+use Rattle.std.specs.Prelude.{map, slice_get}
 use Rattle.codespan_core.specs.FileModel.{FileModel, Lookup}
 use Rattle.codespan_core.specs.FileModel.Lookup.{LineNumber}
 use Rattle.codespan_picture.specs.Sequences.{before_line}
 use Rattle.codespan_views.specs.Private.Annotations.{Annotation}
-use Rattle.codespan_views.specs.Private.SnippetLines.{SnippetLine, Filled, Break, filled_lines_of}
-use Rattle.codespan_views.specs.Private.SnippetLines.{groups, lines_between, lines_from}
+use Rattle.codespan_views.specs.Private.SnippetLines.{SnippetLine, Filled, Break, groups}
+use Rattle.codespan_views.specs.Private.SnippetLines.{lines_between, lines_from}
 use Rattle.codespan_views.specs.Private.SourceFiles.{lookups_of_filled}
 
 -- what is before shown line `d`, which has the annotations `next`, where so many lines are between
@@ -48,8 +46,3 @@ AreNumbersOf f numbers [] = Unit {0}
 AreNumbersOf f numbers (l ∷ ls) =
     IfSome (slice_get numbers 0) (λ known. known ≡ f.line_number l)
     × AreNumbersOf f (drop 1 numbers) ls
-
--- the known numbers of the filled lines of a snippet were taken
-abbrev pub TakesNumbers : List SnippetLine → Iter ℕ → Iter ℕ → Type 0
-TakesNumbers snippet_lines old new =
-    iter_rest new ≡ drop (length (filled_lines_of snippet_lines)) (iter_rest old)

@@ -3,17 +3,7 @@ use Rattle.std.specs.Prelude.{◌≡◌, ◌≢◌, ◌⊎◌, true, Option, Som
 use Rattle.codespan_picture.specs.Types.{Error, OutOfMemory}
 use Rattle.codespan_core.specs.Errors.{IsIo}
 use Rattle.codespan_core.specs.Streams.{Stream}
-use Rattle.codespan_core.specs.WriterLaw.{Sink, with_written, is_known, PrefixWritten, failed_frame}
-
--- the stream has been written, where the writer's bytes are known, and nothing failed
-abbrev pub WroteStream : Sink → Stream → Sink → Type 0
-WroteStream old items new =
-    (new.frame ≡ old.frame) × (is_known old ≡ true → new ≡ with_written old items)
-
--- the writer failed, and a prefix of the stream has been written
-abbrev pub WrotePrefix : Sink → Stream → Sink → Type 0
-WrotePrefix old items new =
-    (new.frame ≡ failed_frame old.frame) × (is_known old ≡ true → PrefixWritten old items new)
+use Rattle.codespan_core.specs.WriterLaw.{Sink, Writes, is_known, PrefixWritten}
 
 -- a lookup or an allocation failed after a prefix of the stream
 pub record FailedWithLookups (failure : Option Error) (old : Sink) (items : Stream) (error : Error)
@@ -22,10 +12,9 @@ pub record FailedWithLookups (failure : Option Error) (old : Sink) (items : Stre
   pub prefix : is_known old ≡ true → PrefixWritten old items new
   pub error_is : error ≢ OutOfMemory → failure ≡ Some error
 
--- the call writes the stream and makes lookups on the way, the first error of which is `failure`
-abbrev pub WritesWithLookups : Option Error → Sink → Stream → Result (Unit {0}) Error → Sink
-    → Type 0
-WritesWithLookups failure old items r new =
-    MatchResult r
-    (λ _. (failure ≡ None) × WroteStream old items new)
-    (λ e. (IsIo e × WrotePrefix old items new) ⊎ FailedWithLookups failure old items e new)
+-- the call writes the stream and makes lookups on the way, the first error of which is `failure`:
+-- it succeeds where none fails, and otherwise the writer, a lookup or an allocation failed
+pub record WritesWithLookups (failure : Option Error) (old : Sink) (items : Stream)
+    (r : Result (Unit {0}) Error) (new : Sink) : Type 0 where
+  pub ends : MatchResult r (λ _. (failure ≡ None) × Writes old items r new)
+      (λ e. (IsIo e × Writes old items r new) ⊎ FailedWithLookups failure old items e new)

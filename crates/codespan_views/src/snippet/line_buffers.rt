@@ -2,15 +2,13 @@
 
 ghost use Rattle.std.specs.Prelude.{◌≡◌, [], IfOk, OnErr, IsErrOf, map};
 ghost use Rattle.std.specs.Slice.Iter.{iter_rest};
-ghost use Rattle.codespan_core.specs.Labels.{from_line_start};
-ghost use Rattle.codespan_picture.specs.Arguments.{single_label_views, single_label_view};
+ghost use Rattle.codespan_picture.specs.Arguments.{single_label_views};
 ghost use Rattle.codespan_picture.specs.Arguments.{lane_mark_view};
-ghost use Rattle.codespan_picture.specs.OutputStreams.{label_of};
 ghost use Rattle.codespan_views.specs.Private.AnnotationViews.{annotation_view};
 ghost use Rattle.codespan_views.specs.Private.SnippetLines.{lane_marks_in, single_labels_in};
 
 use crate::annotation::{Annotation, AnnotationKind, drawn_range, multi_label};
-use codespan_core::diagnostic::{Label, LabelStyle};
+use codespan_core::diagnostic::LabelStyle;
 use codespan_core::files::Error;
 use codespan_renderer::term::renderer::cached::LineCache;
 use codespan_renderer::term::renderer::{MultiLabel, SingleLabel};
@@ -64,7 +62,15 @@ impl<'numbers, 'd> LineBuffers<'numbers, 'd> {
         ensures failed { OnErr result (IsErrOf result Error.OutOfMemory) }
     {
         fill_lane_marks(&mut self.lane_marks, annotations)?;
-        fill_single_labels(&mut self.single_labels, annotations)
+        self.single_labels.clear();
+        for annotation in annotations {
+            if let AnnotationKind::Single { label, .. } = annotation.kind {
+                let range = drawn_range(label, annotation.line.start);
+                let message = label.message.as_str();
+                self.single_labels.push((label.style, range, message))?;
+            }
+        }
+        Ok(())
     }
 }
 
@@ -89,38 +95,4 @@ pub fn fill_lane_marks<'d, FileId>(
         }
     }
     Ok(())
-}
-
-/// Replaces the single-line labels with those of these annotations, in their order.
-///
-/// # Errors
-///
-/// `OutOfMemory`: an allocation fails.
-fn fill_single_labels<'d, FileId>(
-    single_labels: &mut Vec<SingleLabel<'d>>,
-    annotations: &[Annotation<'d, FileId>],
-) -> Result<(), Error>
-    ensures single_labels { IfOk result (λ _. single_label_views single_labels.new.items
-        ≡ single_labels_in (map annotation_view annotations.now)) }
-    ensures failed { OnErr result (IsErrOf result Error.OutOfMemory) }
-{
-    single_labels.clear();
-    for annotation in annotations {
-        if let AnnotationKind::Single { label, .. } = annotation.kind {
-            single_labels.push(single_label(label, annotation.line.start))?;
-        }
-    }
-    Ok(())
-}
-
-/// Returns a single-line label for the renderer. `line_start` is the byte index at which the line
-/// starts.
-fn single_label<FileId>(label: &Label<FileId>, line_start: usize) -> SingleLabel<'_>
-    ensures { single_label_view result ≡ from_line_start line_start (label_of label.now).label }
-{
-    (
-        label.style,
-        drawn_range(label, line_start),
-        label.message.as_str(),
-    )
 }

@@ -1,5 +1,5 @@
-use Rattle.std.proofs.Common.{◌≡◌, ℕ, List, ◌<◌, ◌≤◌, ◌+◌, Err, Result, length, drop, take, get_or}
-use Rattle.std.proofs.Common.{sym, ap, ◌∙◌, arith}
+use Rattle.std.proofs.Common.{◌≡◌, ℕ, List, ◌<◌, ◌+◌, Err, Result, length, drop, take, get_or, sym}
+use Rattle.std.proofs.Common.{ap, ◌∙◌, arith}
 use Rattle.std.specs.Prelude.{string_bytes}
 use Rattle.std.specs.Str.Lines.{lines}
 use Rattle.std.proofs.lemmas.Result.{err_from_is_err_and}
@@ -9,7 +9,7 @@ use Rattle.codespan_picture.specs.OutputStreams.{context_of}
 use Rattle.codespan_renderer.specs.declared.term.renderer.Renderer.{Renderer}
 use Rattle.codespan_renderer.specs.Renderers.{Renders, config_of}
 use Rattle.codespan_picture.specs.RenderedRows.{note_stream, rendered_note}
-use Rattle.codespan_views.proofs.NoteRows.{notes-all, notes-cut, notes-next, stream_of_notes}
+use Rattle.codespan_views.proofs.NoteRows.{notes-cut, notes-next, stream_of_notes}
 use Rattle.codespan_views.proofs.RendererRuns.{renders_as, renders_cut, renders_nothing}
 use Rattle.codespan_views.proofs.RendererRuns.{renders_then}
 use Rattle.codespan_views.proofs.rich.render_notes.Given.{Over}
@@ -66,12 +66,3 @@ pub loop-note-preserved : goal.loop-note-preserved
 loop-note-preserved g c =
     one_more g (goal.at.loop-note-preserved g c).After-render_snippet_note
     c.in_ok-render_snippet_note.ensures
-
-pub returns : goal.returns
-returns g c =
-    let d = c.args.diagnostic.now in
-    let context = context_of (config_of c.args.renderer.now) d.severity c.args.padding in
-    let past : length d.notes.items ≤ c.loop-note.note-index =
-    omega (arith, c.loop-note-test.false, ap length c.deref-note-items.ensures.value) in
-    renders_as (notes-all string_bytes context d.notes.items c.loop-note.note-index past)
-    c.loop-note.invariant

@@ -1,4 +1,4 @@
-use Rattle.std.proofs.Common.{◌≡◌, ◌<◌, ◌∙◌, false, true, rules, ap, subst, subst₂, sym, [], Bool, ℕ}
+use Rattle.std.proofs.Common.{◌≡◌, ◌<◌, ◌∙◌, false, true, rules, ap, subst, subst₂, sym, [], Bool}
 use Rattle.std.specs.Prelude.{if◌then◌else◌}
 use Rattle.codespan_core.specs.FileModel.{line_count}
 use Rattle.codespan_views.specs.Private.LabelAnnotations.{line_annotations}
@@ -6,7 +6,6 @@ use Rattle.codespan_views.specs.Private.AnnotationViews.{IsLineAt}
 use Rattle.codespan_views.specs.Private.LabelsToCollect.{AppendsLineAnnotations, label_of_collector}
 use Rattle.codespan_views.specs.Private.LabelSpans.{spans_line}
 use Rattle.codespan_picture.specs.Lookups.{is_looked_up}
-use Rattle.codespan_picture.specs.declared.padding.PaddingWidth.{PaddingWidth}
 use Rattle.codespan_picture.specs.OutputStreams.{label_of}
 use Rattle.codespan_views.specs.Private.SourceFiles.{model_of}
 use Rattle.codespan_views.proofs.Collecting.{AppendsAnnotations-none, AppendsAnnotations-as}

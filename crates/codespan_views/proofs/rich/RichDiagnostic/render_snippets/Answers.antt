@@ -1,11 +1,10 @@
 use Rattle.std.proofs.Common.{◌≡◌, ◌==◌, ◌+◌, ◌<◌, ◌||◌, not, rules, List, [], ◌∷◌, length, map}
 use Rattle.std.proofs.Common.{get_or, Ok, Err, refl, sym, ap, subst, ◌∙◌, arith}
-use Rattle.std.specs.Prelude.{nat_lt, string_bytes}
+use Rattle.std.specs.Prelude.{nat_lt, string_bytes, true, false, Bool}
 use Rattle.std.proofs.lemmas.Bool.{ne_eqb}
 use Rattle.std.proofs.lemmas.Result.{err_from_is_err_and}
 use Rattle.codespan_picture.specs.OutputStreams.{labels_of, notes_of}
 use Rattle.codespan_picture.specs.Snippets.{has_any, labeled_file_model}
-use Rattle.codespan_renderer.specs.Private.RowWriters.{row_writer_sink}
 use Rattle.codespan_views.specs.Private.AnnotationViews.{annotation_view}
 use Rattle.codespan_views.specs.Private.EarlyLookups.{known_numbers_of_labels}
 use Rattle.codespan_views.specs.Private.SnippetLines.{lines_of}
@@ -16,51 +15,24 @@ use Rattle.codespan_views.proofs.FileSlices.{from_file-first, next_slice}
 use Rattle.codespan_views.proofs.FileTurns.{IsAtFile, next_inside, next_left, own_lines}
 use Rattle.codespan_views.proofs.FileTurns.{own_snippet_lines}
 use Rattle.codespan_views.proofs.LabelIndexing.{are-files}
+use Rattle.codespan_views.proofs.LookupRuns.{left_after, left_cut, run_failed, run_of_writes}
 use Rattle.codespan_views.proofs.RendererRuns.{rows-rendered}
-use Rattle.codespan_views.proofs.SnippetsRendered.{cut-after_snippet, cut-at_source}
-use Rattle.codespan_views.proofs.SnippetsRendered.{cut-in_first_rows, cut-in_snippet, left-end}
-use Rattle.codespan_views.proofs.SnippetsRendered.{left-start, next-file, own-numbers, own-taken}
-use Rattle.codespan_views.proofs.SnippetsRendered.{snippet-rendered}
+use Rattle.codespan_views.proofs.SnippetsRendered.{left-end, left-lines, left-parts, left-row}
+use Rattle.codespan_views.proofs.SnippetsRendered.{left-source, left-start, own-numbers, own-taken}
 use Rattle.codespan_views.proofs.rich.RichDiagnostic.render_snippets.Given.{Over}
 use Rattle.codespan_views.proofs.rich.RichDiagnostic.render_snippets.Goals.{After-count_in_file-len}
 use Rattle.codespan_views.proofs.rich.RichDiagnostic.render_snippets.Goals.{After-deref-in-loop-index}
-use Rattle.codespan_views.proofs.rich.RichDiagnostic.render_snippets.Goals.{After-render_empty_row_after}
-use Rattle.codespan_views.proofs.rich.RichDiagnostic.render_snippets.Goals.{then-notes_follow}
+use Rattle.codespan_views.proofs.rich.RichDiagnostic.render_snippets.Goals.{Joined-notes_follow}
+use Rattle.codespan_views.proofs.rich.RichDiagnostic.render_snippets.Goals.{else-is_followed}
 use Rattle.codespan_views.proofs.rich.RichDiagnostic.render_snippets.Goals.{else-notes_follow}
+use Rattle.codespan_views.proofs.rich.RichDiagnostic.render_snippets.Goals.{then-is_followed+in_ok-render_empty_row}
+use Rattle.codespan_views.proofs.rich.RichDiagnostic.render_snippets.Goals.{then-notes_follow}
 use Rattle.codespan_views.proofs.rich.RichDiagnostic.render_snippets.Goals as goal
 
 -- there is an element where there is one that is mapped
 any-mapped : {X Y : Type 0} (h : X → Y) (xs : List X) → not (length xs == 0) ≡ has_any (map h xs)
 any-mapped h [] = refl
 any-mapped h (x ∷ xs) = ap not (ne_eqb (length (x ∷ xs)) 0 (λ e. absurd (omega (arith, e))))
-
--- the notes follow where there are any
-notes_known : (g : Over) (c : After-render_empty_row_after g)
-    → not c.is_empty-notes_follow.result ≡ has_any (notes_of (diagnostic_of c.args.self.now))
-notes_known g c =
-    let notes = (diagnostic_of c.args.self.now).notes in
-    ap not (c.is_empty-notes_follow.ensures ∙ ap (λ n. n == 0) notes.ok.0)
-    ∙ any-mapped string_bytes notes.items
-
--- notes or another file follow the snippet
-followed : (g : Over) (c : After-render_empty_row_after g)
-    → c.if-notes_follow.is_followed
-    ≡ (has_any (notes_of (diagnostic_of c.args.self.now))
-    || nat_lt (c.loop-index.index + 1) (length c.args.collected.now.files.items))
-followed g c =
-    let files = c.args.collected.now.files in
-    let next = nat_lt (c.loop-index.index + 1) (length files.items) in
-    elim c.if-notes_follow.branch [
-      | then-notes_follow w ↦ w.is_followed-is ∙ ap not w.if-notes_follow.true
-          ∙ sym
-          (ap (λ notes. notes || next)
-          (sym (notes_known g c) ∙ ap not w.if-notes_follow.true))
-      | else-notes_follow w ↦ w.is_followed-is
-          ∙ ap (nat_lt (c.loop-index.index + 1)) (w.len.ensures ∙ files.ok.0)
-          ∙ sym
-          (ap (λ notes. notes || next)
-          (sym (notes_known g c) ∙ ap not w.if-notes_follow.false))
-    ]
 
 pub loop-index-init : goal.loop-index-init
 loop-index-init g c = record {
@@ -72,7 +44,7 @@ loop-index-init g c = record {
       (known_numbers_of_labels (view_config_of c.args.self.now)
       (g.F.Files.database c.args.files.now) (labels_of (diagnostic_of c.args.self.now)))
       (sym c.requires.collected_is.files.ids_are);
-  rendered = left-start;
+  rendered = left-start c.requires;
 }
 
 pub count_in_file-len-requires : goal.count_in_file-len-requires
@@ -120,19 +92,18 @@ own-file g c at =
     (laws.lawful files))
     c.requires.collected_is at.here (own_snippet_lines at c.deref-in-loop-index.ensures.value)
 
-pub returns-in_err-source : goal.returns-in_err-source
-returns-in_err-source g c =
-    let places = goal.at.returns-in_err-source g c in
+pub returns-in_err-source-clause-renders : goal.returns-in_err-source-clause-renders
+returns-in_err-source-clause-renders g c =
+    let places = goal.at.returns-in_err-source-clause-renders g c in
     let at = turn g places.After-count_in_file-len in
     let own = own-file g places.After-deref-in-loop-index at in
     let was = c.loop-index.invariant in
     let p = err_from_is_err_and c.from_residual.result c.from_residual.ensures.1 in
     rw (p.1 ∙ ap Err p.2)
-    (rows-rendered _ _ _ _ _ _ _ c.new-rows.result c.loop-index.rows _ _
-    c.context-context.ensures
-    c.new-rows.ensures.reference c.new-rows.ensures.writer
-    (cut-at_source c.args.numbers.now c.requires was.rendered at.here own was.numbers
-    c.in_err-source.ensures.failed) (search rules) (search rules))
+    (rows-rendered g.W.WriteStyle.sink _ c.new-rows.result c.loop-index.rows
+    c.context-context.ensures c.new-rows.ensures.reference c.new-rows.ensures.writer
+    (left_cut _ _ (run_failed {a = []} c.in_err-source.ensures.failed)
+    (left-parts was.rendered at.here own was.numbers)) (search rules))
 
 pub render_lines-requires : goal.render_lines-requires
 render_lines-requires g c κs =
@@ -147,15 +118,15 @@ render_lines-requires g c κs =
         record {
           source = search rules;
           in_order = rw own.lanes_are own.lines_are.in_order;
-          numbers_are = own-numbers c.args.numbers.now c.requires was.rendered at.here own
-              was.numbers;
+          numbers_are = own-numbers was.rendered at.here own was.numbers;
         },
       ),
     )
 
-pub returns-in_err-render_first_rows : goal.returns-in_err-render_first_rows
-returns-in_err-render_first_rows g c =
-    let places = goal.at.returns-in_err-render_first_rows g c in
+pub returns-in_err-render_first_rows-clause-renders :
+    goal.returns-in_err-render_first_rows-clause-renders
+returns-in_err-render_first_rows-clause-renders g c =
+    let places = goal.at.returns-in_err-render_first_rows-clause-renders g c in
     let at = turn g places.After-count_in_file-len in
     let own = own-file g places.After-deref-in-loop-index at in
     let was = c.loop-index.invariant in
@@ -163,54 +134,64 @@ returns-in_err-render_first_rows g c =
     c.from_residual-in_err-render_first_rows.ensures.1 in
     let first = c.in_err-render_first_rows.ensures in
     rw (p.1 ∙ ap Err p.2)
-    (rows-rendered _ _ _ _ _ _ _ c.new-rows.result c.render_first_rows.new.rows _ _
-    c.context-context.ensures
-    c.new-rows.ensures.reference c.new-rows.ensures.writer
-    (cut-in_first_rows c.args.numbers.now c.requires was.rendered at.here own was.numbers
-    c.in_ok-source.ensures.failed first.writes first.io)
-    (search rules) (search rules))
+    (rows-rendered g.W.WriteStyle.sink _ c.new-rows.result c.render_first_rows.new.rows
+    c.context-context.ensures c.new-rows.ensures.reference c.new-rows.ensures.writer
+    (left_cut _ _ (run_of_writes (Err _) first.writes first.io)
+    (left-source was.rendered at.here own was.numbers
+    c.in_ok-source.ensures.failed)) (search rules))
 
-pub returns-in_err-render_lines : goal.returns-in_err-render_lines
-returns-in_err-render_lines g c =
-    let places = goal.at.returns-in_err-render_lines g c in
+pub returns-in_err-render_lines-clause-renders : goal.returns-in_err-render_lines-clause-renders
+returns-in_err-render_lines-clause-renders g c =
+    let places = goal.at.returns-in_err-render_lines-clause-renders g c in
     let at = turn g places.After-count_in_file-len in
     let own = own-file g places.After-deref-in-loop-index at in
     let was = c.loop-index.invariant in
     let p = err_from_is_err_and c.from_residual-in_err-render_lines.result
     c.from_residual-in_err-render_lines.ensures.1 in
     rw (p.1 ∙ ap Err p.2)
-    (rows-rendered _ _ _ _ _ _ _ c.new-rows.result c.render_lines.new.rows _ _
-    c.context-context.ensures
-    c.new-rows.ensures.reference c.new-rows.ensures.writer
-    (cut-in_snippet c.args.numbers.now c.requires was.rendered at.here own was.numbers
-    c.in_ok-source.ensures.failed
-    (snippet-rendered c.args.numbers.now c.requires was.rendered at.here own was.numbers
-    c.in_ok-source.ensures.failed (Err _) (row_writer_sink g.W.WriteStyle.sink
-    c.render_lines.new.rows)
-    c.in_ok-render_first_rows.ensures.writes c.in_err-render_lines.ensures.renders))
-    (search rules) (search rules))
+    (rows-rendered g.W.WriteStyle.sink _ c.new-rows.result c.render_lines.new.rows
+    c.context-context.ensures c.new-rows.ensures.reference c.new-rows.ensures.writer
+    (left_cut _ _ c.in_err-render_lines.ensures.renders.rendered
+    (left-lines was.rendered at.here own was.numbers
+    c.in_ok-source.ensures.failed c.in_ok-render_first_rows.ensures.writes)) (search rules))
 
-pub returns-in_err-render_empty_row_after : goal.returns-in_err-render_empty_row_after
-returns-in_err-render_empty_row_after g c =
-    let places = goal.at.returns-in_err-render_empty_row_after g c in
+-- notes or another file follow the snippet
+followed : (g : Over) (c : Joined-notes_follow g)
+    → c.if-notes_follow.is_followed
+    ≡ (has_any (notes_of (diagnostic_of c.args.self.now))
+    || nat_lt (c.loop-index.index + 1) (length c.args.collected.now.files.items))
+followed g c =
+    let notes = (diagnostic_of c.args.self.now).notes in
+    let files = c.args.collected.now.files in
+    let next = nat_lt (c.loop-index.index + 1) (length files.items) in
+    let known = ap not (c.is_empty-notes_follow.ensures ∙ ap (λ n. n == 0) notes.ok.0)
+    ∙ any-mapped string_bytes notes.items in
+    elim c.if-notes_follow.branch [
+      | then-notes_follow w ↦ w.is_followed-is ∙ ap not w.if-notes_follow.true
+          ∙ sym (ap (λ notes. notes || next) (sym known ∙ ap not w.if-notes_follow.true))
+      | else-notes_follow w ↦ w.is_followed-is
+          ∙ ap (nat_lt (c.loop-index.index + 1)) (w.len.ensures ∙ files.ok.0)
+          ∙ sym (ap (λ notes. notes || next) (sym known ∙ ap not w.if-notes_follow.false))
+    ]
+
+pub returns-in_err-render_empty_row-clause-renders :
+    goal.returns-in_err-render_empty_row-clause-renders
+returns-in_err-render_empty_row-clause-renders g c =
+    let places = goal.at.returns-in_err-render_empty_row-clause-renders g c in
     let at = turn g places.After-count_in_file-len in
     let own = own-file g places.After-deref-in-loop-index at in
     let was = c.loop-index.invariant in
-    let p = err_from_is_err_and c.from_residual-in_err-render_empty_row_after.result
-    c.from_residual-in_err-render_empty_row_after.ensures.1 in
-    let second = c.in_err-render_empty_row_after.ensures in
+    let p = err_from_is_err_and c.from_residual-in_err-render_empty_row.result
+    c.from_residual-in_err-render_empty_row.ensures.1 in
+    let row = c.in_err-render_empty_row.ensures in
     rw (p.1 ∙ ap Err p.2)
-    (rows-rendered _ _ _ _ _ _ _ c.new-rows.result c.render_empty_row_after.new.rows _ _
-    c.context-context.ensures
-    c.new-rows.ensures.reference c.new-rows.ensures.writer
-    (cut-after_snippet c.args.numbers.now c.requires was.rendered at.here own was.numbers
-    c.in_ok-source.ensures.failed
-    (snippet-rendered c.args.numbers.now c.requires was.rendered at.here own was.numbers
-    c.in_ok-source.ensures.failed (Ok tt) (row_writer_sink g.W.WriteStyle.sink
-    c.render_lines.new.rows)
-    c.in_ok-render_first_rows.ensures.writes c.in_ok-render_lines.ensures.renders)
-    (followed g places.After-render_empty_row_after) second.writes second.io) (search rules)
-    (search rules))
+    (rows-rendered g.W.WriteStyle.sink _ c.new-rows.result c.render_empty_row.new.rows
+    c.context-context.ensures c.new-rows.ensures.reference c.new-rows.ensures.writer
+    (left_cut _ _ (run_of_writes (Err _) row.writes row.io)
+    (left-row was.rendered at.here own was.numbers c.in_ok-source.ensures.failed
+    c.in_ok-render_first_rows.ensures.writes true
+    (sym c.if-is_followed.true ∙ followed g places.Joined-notes_follow)
+    c.in_ok-render_lines.ensures.renders.rendered)) (search rules))
 
 pub loop-index-preserved : goal.loop-index-preserved
 loop-index-preserved g c =
@@ -219,26 +200,27 @@ loop-index-preserved g c =
     let own = own-file g places.After-deref-in-loop-index at in
     let was = c.loop-index.invariant in
     let lines = c.in_ok-render_lines.ensures in
-    let second = c.in_ok-render_empty_row_after.ensures in
+    let rest = λ (b : Bool) (is : c.if-notes_follow.is_followed ≡ b).
+    left-row was.rendered at.here own was.numbers c.in_ok-source.ensures.failed
+    c.in_ok-render_first_rows.ensures.writes b
+    (sym is ∙ followed g places.Joined-notes_follow) lines.renders.rendered in
     record {
       inside = next_inside at;
       left = next_left at;
-      numbers = own-taken c.args.numbers.now c.requires was.rendered at.here own was.numbers
-          lines.numbers;
-      rendered = next-file c.args.numbers.now c.requires was.rendered at.here own was.numbers
-          c.in_ok-source.ensures.failed
-          (snippet-rendered c.args.numbers.now c.requires was.rendered at.here own was.numbers
-          c.in_ok-source.ensures.failed (Ok tt)
-          (row_writer_sink g.W.WriteStyle.sink c.render_lines.new.rows)
-          c.in_ok-render_first_rows.ensures.writes lines.renders)
-          (followed g places.After-render_empty_row_after) second.writes;
+      numbers = own-taken was.rendered at.here own was.numbers lines.numbers;
+      rendered = record {
+        left = elim c.if-is_followed.branch [
+          | then-is_followed+in_ok-render_empty_row w ↦ rw w.rows-is
+              (left_after _ _ (run_of_writes (Ok tt) w.in_ok-render_empty_row.ensures.writes tt)
+              (rest true w.if-is_followed.true))
+          | else-is_followed w ↦ rw w.rows-is (rest false w.if-is_followed.false)
+        ];
+      };
     }
 
-pub returns : goal.returns
-returns g c =
-    let was = c.loop-index.invariant in
-    rows-rendered _ _ _ _ _ _ _ c.new-rows.result c.loop-index.rows _ _
-    c.context-context.ensures
-    c.new-rows.ensures.reference c.new-rows.ensures.writer
-    (left-end c.args.numbers.now c.requires was.rendered c.deref-labeled-items.ensures.value
-    c.loop-index-test.false) (search rules) (search rules)
+pub returns-clause-renders : goal.returns-clause-renders
+returns-clause-renders g c =
+    rows-rendered g.W.WriteStyle.sink _ c.new-rows.result c.loop-index.rows
+    c.context-context.ensures c.new-rows.ensures.reference c.new-rows.ensures.writer
+    (left-end c.loop-index.invariant.rendered c.deref-labeled-items.ensures.value
+    c.loop-index-test.false) (search rules)

@@ -21,8 +21,8 @@ invariant-loop-index g l = record {
   numbers : iter_rest l.buffers.numbers
       ≡ known_numbers_of_labels (view_config_of l.self) (g.F.Files.database l.files)
       (labels_of (diagnostic_of l.self)) (drop l.index (ids_view l.collected.files.items));
-  rendered : SnippetsLeft (g.F.Files.database l.files) l.self l.collected
-      (context_view l.context) l.index
+  rendered : SnippetsLeft (g.F.Files.database l.files) (view_config_of l.self)
+      (diagnostic_of l.self) l.collected (context_view l.context) l.index
       (row_writer_sink g.W.WriteStyle.sink l.initial.rows)
       (row_writer_sink g.W.WriteStyle.sink l.rows);
 }

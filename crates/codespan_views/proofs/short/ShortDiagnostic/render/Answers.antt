@@ -1,11 +1,23 @@
+use Rattle.std.proofs.Common.{Err, ap, ◌∙◌}
+use Rattle.std.proofs.lemmas.Result.{err_from_is_err_and}
+use Rattle.codespan_views.proofs.HeaderRuns.{cut_before_notes, medium_written, not_rich}
 use Rattle.codespan_views.proofs.short.ShortDiagnostic.render.Goals as goal
+
+pub returns-in_err-render_headers-clause-renders :
+    goal.returns-in_err-render_headers-clause-renders
+returns-in_err-render_headers-clause-renders g c =
+    let p = err_from_is_err_and c.from_residual.result c.from_residual.ensures.1 in
+    rw (p.1 ∙ ap Err p.2) (record {
+      writes = cut_before_notes c.args.self.now.show_notes c.in_err-render_headers.ensures.renders;
+      means = λ rich. absurd (not_rich c.args.self.now.show_notes rich);
+    })
 
 -- medium style is the headers with the notes, and not rich style
 pub returns-then-self-clause-renders : goal.returns-then-self-clause-renders
 returns-then-self-clause-renders g c =
-    rw c.if-self.true (record { writes = c.render_medium.ensures.renders; means = λ e. absurd cc })
-
--- short style is the headers alone, and not rich style
-pub returns-else-self-clause-renders : goal.returns-else-self-clause-renders
-returns-else-self-clause-renders g c =
-    rw c.if-self.false (record { writes = assumption; means = λ e. absurd cc })
+    rw c.if-self.true (record {
+      writes = medium_written c.render_notes.result c.in_ok-render_headers.ensures.renders
+          c.in_ok-render_headers.ensures.same.config c.render_notes.ensures.writes
+          c.render_notes.ensures.io;
+      means = λ rich. absurd cc;
+    })

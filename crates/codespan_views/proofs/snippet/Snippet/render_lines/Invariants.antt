@@ -16,10 +16,11 @@ invariant-loop-first g l = record {
   within : length l.rest ≤ length l.annotations;
   lines : All (λ e. IsLineOf (model_of g.F.Files.database l.self.file) e.line) l.rest;
   shown : IfSome (slice_get l.rest 0) (λ first. IsTrue (shows_line (annotation_view first)));
-  left : LinesLeft g.F.Files.database l.self
-      (iter_rest l.fn.buffers.numbers) (lines_of (map annotation_view l.annotations))
-      (lines_left l.hidden_annotations l.rest l.previous) (iter_rest l.buffers.numbers)
-      (row_writer_sink g.W.WriteStyle.sink l.fn.rows) (row_writer_sink g.W.WriteStyle.sink l.rows);
+  left : LinesLeft g.F.Files.database l.self (iter_rest l.fn.buffers.numbers)
+      (lines_of (map annotation_view l.annotations))
+      (row_writer_sink g.W.WriteStyle.sink l.fn.rows) (iter_rest l.buffers.numbers)
+      (lines_left l.hidden_annotations l.rest l.previous)
+      (row_writer_sink g.W.WriteStyle.sink l.rows);
 }
 
 abbrev pub decreases-loop-first : goal.decreases-loop-first
