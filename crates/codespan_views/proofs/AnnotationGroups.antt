@@ -1,5 +1,6 @@
 -- `lines_from` makes of annotations in order the snippet lines of the lines that have annotations,
 -- from the first on: for the clauses of `render_lines` and `render_snippets`.
+use Rattle.std.proofs.lemmas.Grind.{common_steps}
 use Rattle.std.proofs.Common.{◌≡◌, ℕ, zero, suc, ◌+◌, ◌<◌, ◌≤◌, Bool, true, false, cond, ◌==◌}
 use Rattle.std.proofs.Common.{nat_lt, if◌then◌else◌, List, [], ◌∷◌, ◌++◌, take, drop, filter}
 use Rattle.std.proofs.Common.{Option, Some, None, ⊎_elim, refl, sym, ◌∙◌, ap, subst, arith}
@@ -8,7 +9,7 @@ use Rattle.std.proofs.lemmas.Bool.{cases_Bool, eqb-true, eqb-false, eq-eqb, ltb-
 use Rattle.std.proofs.lemmas.Bool.{lt-ltb, le-ltb}
 use Rattle.codespan_picture.specs.Snippets.{has_any}
 use Rattle.codespan_views.specs.Private.Annotations.{Annotation, is_on_line, shows_line}
-use Rattle.codespan_picture.specs.Sequences.{before_line, break_between, gap_between, in_sequence}
+use Rattle.codespan_picture.specs.Sequences.{before_line, gap_between, in_sequence}
 use Rattle.codespan_views.specs.Private.SnippetLines.{SnippetLine, Labeled, Filled, Break, Group}
 use Rattle.codespan_views.specs.Private.SnippetLines.{are_shown, group_of, join_group, groups}
 use Rattle.codespan_views.specs.Private.SnippetLines.{lines_between, lines_to, lines_from, lines_of}
@@ -26,11 +27,7 @@ groups-apart : (x y : Annotation) (ys : List Annotation)
     → groups (y ∷ ys) ≡ group_of y (take (prefix_len (is_on_line y.line) ys) ys) ∷ groups
     (drop (prefix_len (is_on_line y.line) ys) ys)
     → (y.line == x.line) ≡ false → groups (x ∷ y ∷ ys) ≡ group_of x [] ∷ groups (y ∷ ys)
-groups-apart x y ys first f =
-    let g : List Group = group_of y (take (prefix_len (is_on_line y.line) ys) ys)
-    ∷ groups (drop (prefix_len (is_on_line y.line) ys) ys) in
-    let apart : join_group x g ≡ group_of x [] ∷ g = rw f refl in
-    ap (join_group x) first ∙ apart ∙ ap (λ (h : List Group). group_of x [] ∷ h) (sym first)
+groups-apart x y ys first f = grind (arith, common_steps)
 
 -- the first group is the first annotation with what follows it on its line
 pub groups-cons : (x : Annotation) (xs : List Annotation)
@@ -60,17 +57,11 @@ IsRising n (x ∷ xs) = AllByRecursion (λ y. n x ≤ n y) xs × IsRising n xs
 pub rising-filter : {X : Type 0} (n : X → ℕ) (p : X → Bool) (xs : List X) → IsRising n xs
     → IsRising n (filter p xs)
 rising-filter n p [] h = tt
-rising-filter n p (x ∷ xs) h =
-    ⊎_elim
-    (λ t. rw t (all-filter (λ y. n x ≤ n y) p xs h.0, rising-filter n p xs h.1))
-    (λ f. rw f (rising-filter n p xs h.1))
-    (cases_Bool (p x))
+rising-filter n p (x ∷ xs) h = grind (arith, common_steps, all-filter, rising-filter n p xs)
 
 -- a number is not one below it
 not_equal : (a b : ℕ) → a < b → (b == a) ≡ false
-not_equal a b h =
-    ⊎_elim (λ t. absurd (let e : b ≡ a = eqb-true b a t in omega arith)) (λ f. f)
-    (cases_Bool (b == a))
+not_equal a b h = grind (arith, common_steps, eqb-true)
 
 -- what is at the least number is in front of what is above it
 pub split_at : {X : Type 0} (n : X → ℕ) (k : ℕ) (xs : List X) → IsRising n xs
@@ -100,16 +91,7 @@ split_at {X} n k (x ∷ xs) h low =
 filter-above : {X : Type 0} (n : X → ℕ) (k l : ℕ) → k < l → (xs : List X)
     → filter (λ x. n x == l) (filter (λ x. nat_lt k (n x)) xs) ≡ filter (λ x. n x == l) xs
 filter-above n k l h [] = refl
-filter-above {X} n k l h (x ∷ xs) =
-    let r = filter-above n k l h xs in
-    ⊎_elim
-    (λ t. rw t (ap (λ (q : List X). cond (n x == l) (x ∷ q) q) r))
-    (λ f. let b : n x ≤ k = ltb-false k (n x) f in
-    let no : (n x == l) ≡ false =
-    ⊎_elim (λ t. absurd (let e : n x ≡ l = eqb-true (n x) l t in omega arith)) (λ o. o)
-    (cases_Bool (n x == l)) in
-    rw (f, no) r)
-    (cases_Bool (nat_lt k (n x)))
+filter-above {X} n k l h (x ∷ xs) = grind (arith, common_steps, ltb-false, eqb-true, nat_lt, filter-above n k l h xs)
 
 -- ---- groups by lines
 
@@ -127,10 +109,7 @@ groups-append : (k : ℕ) (g ys : List Annotation) → AllByRecursion (λ e. e.l
     → AllByRecursion (λ e. k < e.line) ys → groups (g ++ ys) ≡ some_group k g (groups ys)
 groups-append k [] ys h up = refl
 groups-append k (x ∷ []) [] h up = λ i. group_at (h.0 i) (x ∷ []) ∷ []
-groups-append k (x ∷ []) (y ∷ ys) h up =
-    let f : (y.line == x.line) ≡ false = let e : x.line ≡ k = h.0 in
-    let u : k < y.line = up.0 in not_equal x.line y.line (omega arith) in
-    groups-apart x y ys (groups-cons y ys) f ∙ (λ i. group_at (h.0 i) (x ∷ []) ∷ groups (y ∷ ys))
+groups-append k (x ∷ []) (y ∷ ys) h up = grind (arith, common_steps, not_equal, groups-apart, groups-cons)
 groups-append k (x ∷ y ∷ g) ys h up =
     let t : (k == x.line) ≡ true = let e : x.line ≡ k = h.0 in eq-eqb k x.line (sym e) in
     let same : join_group x (group_at k (y ∷ g) ∷ groups ys) ≡ group_of x (y ∷ g) ∷ groups ys =
@@ -143,26 +122,19 @@ groups_on-same : (annotations_at other : ℕ → List Annotation) (n a : ℕ)
     → ((l : ℕ) → a ≤ l → annotations_at l ≡ other l)
     → groups_on annotations_at (range_with_len a n) ≡ groups_on other (range_with_len a n)
 groups_on-same annotations_at other zero a h = refl
-groups_on-same annotations_at other (suc n) a h =
-    let r = groups_on-same annotations_at other n (a + 1) (λ l q. h l (omega arith)) in
-    let e = h a (omega arith) in
-    λ i. some_group a (e i) (r i)
+groups_on-same annotations_at other (suc n) a h = grind (arith, common_steps, groups_on-same annotations_at other n)
 
 -- what is kept for its line is of that line
 pub all-on_line : (a : ℕ) (xs : List Annotation)
     → AllByRecursion (λ e. e.line ≡ a) (filter (is_on_line a) xs)
 all-on_line a [] = tt
-all-on_line a (x ∷ xs) =
-    ⊎_elim (λ t. rw t (eqb-true x.line a t, all-on_line a xs)) (λ f. rw f (all-on_line a xs))
-    (cases_Bool (x.line == a))
+all-on_line a (x ∷ xs) = grind (arith, common_steps, eqb-true, all-on_line a xs)
 
 -- what is kept for its being above a line is above it
 all-above_line : (a : ℕ) (xs : List Annotation)
     → AllByRecursion (λ e. a < e.line) (filter (λ (e : Annotation). nat_lt a e.line) xs)
 all-above_line a [] = tt
-all-above_line a (x ∷ xs) =
-    ⊎_elim (λ t. rw t (ltb-true a x.line t, all-above_line a xs)) (λ f. rw f (all-above_line a xs))
-    (cases_Bool (nat_lt a x.line))
+all-above_line a (x ∷ xs) = grind (arith, common_steps, ltb-true, nat_lt, all-above_line a xs)
 
 -- the groups of annotations whose lines do not decrease are those of the lines
 groups-by_line : (n a : ℕ) (xs : List Annotation) → IsRising (λ e. e.line) xs
@@ -208,26 +180,13 @@ before-shown : (m : ℕ → List Annotation) (previous : Option ℕ) (a : ℕ) (
     → IsHidden m previous a hidden
     → before_line (lines_between hidden (m a)) previous a ≡ before_line
     (gap_between (λ l. Filled l (m l) ∷ []) (λ d. Break (m d) ∷ [])) previous a
-before-shown m None a hidden h = refl
-before-shown m (Some c) a hidden h = by_test (a == c + 2) (λ t. h.2 (sym (eqb-true a (c + 2) t)))
-  where
-    by_test : (b : Bool) → (b ≡ true → hidden ≡ m (c + 1))
-        → cond b (Filled (c + 1) hidden ∷ []) (break_between (λ d. Break (m a) ∷ []) c a) ≡ cond b
-        (Filled (c + 1) (m (c + 1)) ∷ []) (break_between (λ d. Break (m d) ∷ []) c a)
-    by_test true same = ap (λ (es : List Annotation). Filled (c + 1) es ∷ []) (same refl)
-    by_test false same = refl
+before-shown m previous a hidden h = grind (arith, common_steps, eqb-true)
 
 -- the next line's are these, where they are its own if the one before has none
 hidden-next : (m : ℕ → List Annotation) (previous : Option ℕ) (a : ℕ)
     (hidden next : List Annotation)
     → IsHidden m previous a hidden → (hidden ≡ [] → next ≡ m a) → IsHidden m previous (a + 1) next
-hidden-next m None a hidden next h own = tt
-hidden-next m (Some c) a hidden next h own =
-    let low : c < a = h.0 in (
-      omega arith,
-      λ q. absurd (omega (arith, q)),
-      λ q. let e : c + 1 ≡ a = omega (arith, q) in own (h.1 e) ∙ ap m (sym e),
-    )
+hidden-next m previous a hidden next h own = grind (arith, common_steps)
 
 -- nothing is hidden after a shown line
 hidden-none : (m : ℕ → List Annotation) (a : ℕ) → IsHidden m (Some a) (a + 1) []
@@ -260,12 +219,7 @@ module _ (m : ℕ → List Annotation) where
           by_test : (b : Bool)
               → cond b (lines_to previous hidden a (x ∷ xs) ++ lines_from (Some a) [] gs)
               (lines_from previous (x ∷ xs) gs) ≡ lines_after m previous (cond b (a ∷ ds) ds)
-          by_test true =
-              ap (λ (es : List Annotation). lines_to previous hidden a es ++ lines_from (Some a) [] gs) (sym e)
-              ∙ (λ i. (before-shown m previous a hidden h i ++ Labeled a (m a) ∷ [])
-              ++ rest (Some a) [] (hidden-none m a) i)
-          by_test false =
-              rest previous (x ∷ xs) (hidden-next m previous a hidden (x ∷ xs) h (λ none. sym e))
+          by_test b = grind (arith, common_steps, gs, before-shown, hidden-none, hidden-next)
 
 -- the snippet lines of annotations whose lines do not decrease, and are all below n, are those of
 -- the lines that are shown

@@ -1,9 +1,9 @@
 -- The annotations of all labels on one line of one file, for the clauses of `render_snippets` and
 -- `RichDiagnostic::render`.
-use Rattle.std.proofs.Common.{◌≡◌, ℕ, ◌+◌, ◌<◌, ◌≤◌, Bool, true, false, not, cond, if◌then◌else◌}
-use Rattle.std.proofs.Common.{◌==◌, nat_lt, ◌&&◌, ◌||◌, List, [], ◌∷◌, ◌++◌, length, map, filter}
-use Rattle.std.proofs.Common.{Option, Some, None, ⊎_elim, refl, sym, ◌∙◌, ap, subst, arith}
-use Rattle.std.proofs.Common.{length-append}
+use Rattle.std.proofs.lemmas.Grind.{common_steps}
+use Rattle.std.proofs.Common.{◌≡◌, ℕ, ◌+◌, ◌<◌, Bool, true, false, cond, if◌then◌else◌, ◌==◌}
+use Rattle.std.proofs.Common.{nat_lt, ◌&&◌, ◌||◌, List, [], ◌∷◌, ◌++◌, length, map, filter, Option}
+use Rattle.std.proofs.Common.{None, ⊎_elim, refl, sym, ◌∙◌, ap, subst, arith, length-append}
 use Rattle.std.specs.Option.{option_map}
 use Rattle.std.specs.List.{cons_option, list_any, AllByRecursion}
 use Rattle.std.proofs.lemmas.Bool.{cases_Bool, eqb-true, eq-eqb, ltb-false}
@@ -117,18 +117,12 @@ module _ {Id : Type 0} {same : Id → Id → Bool} {file : Id → FileModel} {id
         es = annotations_of_next same file config ids before x
 
         of : AllByRecursion (λ e. e.file_index ≡ index_of_file same ids x.file_id) es
-        of = all-of_file config (file x.file_id) (index_of_file same ids x.file_id) (length before) (num_multi_labels_of same file before x.file_id) x.label
+        of = grind (arith, common_steps, all-of_file, nat_tests)
 
     -- all annotations of the line of the file
     pub all-line_annotations : (xs before : List (LabelInFile Id)) → filter (is_on_line l) (filter (is_of_file f) (annotations_after same file config ids before xs)) ≡ line_annotations_after before xs
     all-line_annotations [] before = refl
-    all-line_annotations (x ∷ xs) before =
-        let es = annotations_of_next same file config ids before x in
-        let rest = annotations_after same file config ids (before ++ x ∷ []) xs in
-        ap (filter (is_on_line l)) (filter-append (is_of_file f) es rest)
-        ∙ filter-append (is_on_line l) (filter (is_of_file f) es) (filter (is_of_file f) rest)
-        ∙ ap (λ (r : List Annotation). r ++ filter (is_on_line l) (filter (is_of_file f) rest)) (one-line_annotations before x)
-        ∙ ap (λ (r : List Annotation). line_annotations_of before x ++ r) (all-line_annotations xs (before ++ x ∷ []))
+    all-line_annotations (x ∷ xs) before = grind (arith, common_steps, filter-append, one-line_annotations, all-line_annotations xs, nat_tests)
 
     -- ---- labels inside the line
 
@@ -138,12 +132,7 @@ module _ {Id : Type 0} {same : Id → Id → Bool} {file : Id → FileModel} {id
 
     -- no label is on a line past the last
     on-outside : (x : LabelModel) → nat_lt l (line_count own_file) ≡ false → on x ≡ false
-    on-outside x h =
-        let e = ends-below x in
-        let low : first_line own_file x < line_count own_file = e.0 in
-        let high : line_count own_file ≤ l = ltb-false l (line_count own_file) h in
-        let no : (first_line own_file x == l) ≡ false = grind (arith, nat_tests) in
-        ap (λ b. is_single own_file x && b) no ∙ and-false (is_single own_file x)
+    on-outside x h = grind (arith, common_steps, ends-below, ltb-false, nat_tests, and-false)
 
     -- the annotation of a label at this index
     abbrev single_label_at : ℕ → LabelModel → Annotation
@@ -156,23 +145,12 @@ module _ {Id : Type 0} {same : Id → Id → Bool} {file : Id → FileModel} {id
 
     -- the annotation of one of them
     one-single : (before : List (LabelInFile Id)) (x : LabelInFile Id) → filter (is_kind 1) (line_annotations_of before x) ≡ cond (same id x.file_id && on x.label) (single_label_at (length before) x.label ∷ []) []
-    one-single before x = by_tests (same id x.file_id) (nat_lt l (line_count own_file)) refl
-      where
-        by_tests : (s t : Bool) → nat_lt l (line_count own_file) ≡ t
-            → filter (is_kind 1) (cond (s && t) (own_annotations before x.label) []) ≡ cond (s && on x.label) (single_label_at (length before) x.label ∷ []) []
-        by_tests false t h = refl
-        by_tests true true h = single_labels-on_line config own_file f (length before) (lane_after before) x.label l
-        by_tests true false h = sym (ap (λ b. cond b (single_label_at (length before) x.label ∷ []) []) (on-outside x.label h))
+    one-single before x = grind (arith, common_steps, nat_lt, single_labels-on_line, on-outside)
 
     -- the annotations of all of them
     pub all-single_labels : (xs before : List (LabelInFile Id)) (k : ℕ) → length before ≡ k → filter (is_kind 1) (line_annotations_after before xs) ≡ single_labels_from k xs
     all-single_labels [] before k e = refl
-    all-single_labels (x ∷ xs) before k e =
-        let one = length-append before (x ∷ []) in
-        let more : length (before ++ x ∷ []) ≡ k + 1 = omega (arith, one, e) in
-        filter-append (is_kind 1) (line_annotations_of before x) (line_annotations_after (before ++ x ∷ []) xs)
-        ∙ ap (λ (r : List Annotation). r ++ filter (is_kind 1) (line_annotations_after (before ++ x ∷ []) xs)) (one-single before x ∙ ap (λ n. cond (same id x.file_id && on x.label) (single_label_at n x.label ∷ []) []) e)
-        ∙ ap (λ (r : List Annotation). cond (same id x.file_id && on x.label) (single_label_at k x.label ∷ []) [] ++ r) (all-single_labels xs (before ++ x ∷ []) (k + 1) more)
+    all-single_labels (x ∷ xs) before k e = grind (arith, common_steps, length-append, filter-append, one-single, all-single_labels xs, nat_tests)
 
     -- the labels of those annotations
     pub single_labels-labels : (k : ℕ) (xs : List (LabelInFile Id)) → single_labels_in (single_labels_from k xs) ≡ map (drawn_label own_file) (filter on (labels_in xs))
@@ -187,8 +165,7 @@ module _ {Id : Type 0} {same : Id → Id → Bool} {file : Id → FileModel} {id
           where
             by_test : (b : Bool) → single_labels_in (cond b (single_label_at k x.label ∷ []) [] ++ single_labels_from (k + 1) xs)
                 ≡ map (drawn_label own_file) (cond b (x.label ∷ filter on (labels_in xs)) (filter on (labels_in xs)))
-            by_test true = ap (λ (r : List LabelModel). drawn_label own_file x.label ∷ r) rest
-            by_test false = rest
+            by_test b = grind (arith, common_steps)
 
     -- of the labels of one range the later ones come first
     single_labels-below : (start end k j : ℕ) (a : LabelModel) → k < j → has_range start end (drawn_label own_file a) ≡ true → (xs : List (LabelInFile Id))
@@ -201,18 +178,11 @@ module _ {Id : Type 0} {same : Id → Id → Bool} {file : Id → FileModel} {id
 
         by_range : (b : Bool) → has_range start end (drawn_label own_file x.label) ≡ b → AllByRecursion IsLower (filter (is_of_range start end) (single_labels_from (j + 1) xs))
             → AllByRecursion IsLower (cond b (single_label_at j x.label ∷ filter (is_of_range start end) (single_labels_from (j + 1) xs)) (filter (is_of_range start end) (single_labels_from (j + 1) xs)))
-        by_range true u rest =
-            let c = drawn_label own_file a in
-            let d = drawn_label own_file x.label in
-            let same_start : c.start ≡ d.start = grind (arith, nat_tests) in
-            let same_end : c.end ≡ d.end = grind (arith, nat_tests) in
-            (index_below f l c d same_start same_end h, rest)
-        by_range false u rest = rest
+        by_range b u rest = grind (arith, common_steps, nat_tests, index_below)
 
         by_test : (b : Bool) → AllByRecursion IsLower (filter (is_of_range start end) (single_labels_from (j + 1) xs))
             → AllByRecursion IsLower (filter (is_of_range start end) (cond b (single_label_at j x.label ∷ []) [] ++ single_labels_from (j + 1) xs))
-        by_test true rest = by_range (has_range start end (drawn_label own_file x.label)) refl rest
-        by_test false rest = rest
+        by_test b rest = grind (arith, common_steps, by_range, has_range)
 
     -- the annotations of the labels of one range are in descending order
     pub single_labels-fall : (start end k : ℕ) (xs : List (LabelInFile Id)) → Falls is_before (filter (is_of_range start end) (single_labels_from k xs))
@@ -226,22 +196,13 @@ module _ {Id : Type 0} {same : Id → Id → Bool} {file : Id → FileModel} {id
 
         by_test : (b : Bool) → Falls is_before (filter (is_of_range start end) (single_labels_from (k + 1) xs))
             → Falls is_before (filter (is_of_range start end) (cond b (single_label_at k x.label ∷ []) [] ++ single_labels_from (k + 1) xs))
-        by_test true rest = by_range (has_range start end (drawn_label own_file x.label)) refl rest
-        by_test false rest = rest
+        by_test b rest = grind (arith, common_steps, by_range, has_range)
 
     -- ---- lane marks
 
     -- the label has no lane mark on a line past the last
     multi_label-outside : (x : LabelModel) → nat_lt l (line_count own_file) ≡ false → multi_label_on own_file l x ≡ None
-    multi_label-outside x h =
-        let e = ends-below x in
-        let low : first_line own_file x < line_count own_file = e.0 in
-        let end : last_line own_file x < line_count own_file = e.1 in
-        let high : line_count own_file ≤ l = ltb-false l (line_count own_file) h in
-        let a : (first_line own_file x == l) ≡ false = grind (arith, nat_tests) in
-        let b : (last_line own_file x == l) ≡ false = grind (arith, nat_tests) in
-        let c : (nat_lt (first_line own_file x) l && nat_lt l (last_line own_file x)) ≡ false = grind (arith, nat_tests) in
-        rw (a, b, c) refl
+    multi_label-outside x h = grind (arith, common_steps, ends-below, ltb-false, nat_tests, nat_lt)
 
     -- the lane mark of a label in a lane, where it has one
     abbrev multi_annotations_if : Bool → Option LaneMark → List Annotation
@@ -250,20 +211,7 @@ module _ {Id : Type 0} {same : Id → Id → Bool} {file : Id → FileModel} {id
     -- the lane mark of a label that comes after these
     one-lane_mark : (before : List (LabelInFile Id)) (x : LabelInFile Id)
         → filter (is_kind 2) (line_annotations_of before x) ≡ cond (same id x.file_id) (multi_annotations_if (is_single own_file x.label) (lane_mark_of (num_multi_labels_of same file before id) x.label (multi_label_on own_file l x.label))) []
-    one-lane_mark before x = by_tests (same id x.file_id) (nat_lt l (line_count own_file)) refl
-      where
-        lane : ℕ
-        lane = num_multi_labels_of same file before id
-
-        none : (a : Bool) → [] ≡ multi_annotations_if a (lane_mark_of lane x.label None)
-        none true = refl
-        none false = refl
-
-        by_tests : (s t : Bool) → nat_lt l (line_count own_file) ≡ t
-            → filter (is_kind 2) (cond (s && t) (own_annotations before x.label) []) ≡ cond s (multi_annotations_if (is_single own_file x.label) (lane_mark_of lane x.label (multi_label_on own_file l x.label))) []
-        by_tests false t h = refl
-        by_tests true true h = lane_marks-on_line config own_file f (length before) (lane_after before) x.label l
-        by_tests true false h = none (is_single own_file x.label) ∙ ap (λ o. multi_annotations_if (is_single own_file x.label) (lane_mark_of lane x.label o)) (sym (multi_label-outside x.label h))
+    one-lane_mark before x = grind (arith, common_steps, nat_lt, lane_marks-on_line, multi_label-outside)
 
     -- the lane marks of labels that come after these, in their lanes
     pub all-lane_marks : (xs before : List (LabelInFile Id)) (n : ℕ) → num_multi_labels_of same file before id ≡ n
@@ -279,17 +227,12 @@ module _ {Id : Type 0} {same : Id → Id → Bool} {file : Id → FileModel} {id
         later k = map (lane_mark_annotation f l) (marks_from own_file l k (multi_line_labels own_file (labels_in xs)))
 
         by_lane_mark : (o : Option LaneMark) → multi_annotations_if false o ++ later (n + 1) ≡ map (lane_mark_annotation f l) (cons_option o (marks_from own_file l (n + 1) (multi_line_labels own_file (labels_in xs))))
-        by_lane_mark None = refl
-        by_lane_mark (Some m) = refl
+        by_lane_mark o = grind (arith, common_steps)
 
         by_tests : (s t : Bool) → is_single own_file x.label ≡ t
             → cond s (multi_annotations_if t (lane_mark_of n x.label (multi_label_on own_file l x.label))) [] ++ later (n + (if s then (if t then 0 else 1) else 0))
             ≡ map (lane_mark_annotation f l) (marks_from own_file l n (multi_line_labels own_file (map (λ (y : LabelInFile Id). y.label) (cond s (x ∷ own xs) (own xs)))))
-        by_tests false t h = let e : n + 0 ≡ n = omega arith in ap later e
-        by_tests true true h = (let e : n + 0 ≡ n = omega arith in ap later e)
-            ∙ ap (λ b. map (lane_mark_annotation f l) (marks_from own_file l n (cond (not b) (x.label ∷ multi_line_labels own_file (labels_in xs)) (multi_line_labels own_file (labels_in xs))))) (sym h)
-        by_tests true false h = by_lane_mark (lane_mark_of n x.label (multi_label_on own_file l x.label))
-            ∙ ap (λ b. map (lane_mark_annotation f l) (marks_from own_file l n (cond (not b) (x.label ∷ multi_line_labels own_file (labels_in xs)) (multi_line_labels own_file (labels_in xs))))) (sym h)
+        by_tests s t h = grind (arith, common_steps, by_lane_mark)
 
     -- ---- lines that are shown
 
@@ -309,4 +252,4 @@ module _ {Id : Type 0} {same : Id → Id → Bool} {file : Id → FileModel} {id
             ≡ (t && list_any shows_it (map (λ (y : LabelInFile Id). y.label) (cond s (x ∷ own xs) (own xs))))
         by_tests false t = refl
         by_tests true false = refl
-        by_tests true true = ap (λ b. b || list_any shows_it (labels_in xs)) (shown-on_line config own_file f (length before) (lane_after before) x.label l)
+        by_tests true true = grind (arith, common_steps, shows_it, shown-on_line, nat_tests)

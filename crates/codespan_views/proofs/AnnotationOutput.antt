@@ -1,7 +1,8 @@
 -- From all annotations of a diagnostic in order `lines_of` makes, for each file, the rows of its
 -- snippet: for the clauses of `render_snippets` and `RichDiagnostic::render`.
-use Rattle.std.proofs.Common.{◌≡◌, ℕ, ◌<◌, Bool, true, ◌==◌, ◌&&◌, List, [], map, filter, reverse}
-use Rattle.std.proofs.Common.{None, refl, sym, ◌∙◌, ap, subst}
+use Rattle.std.proofs.lemmas.Grind.{common_steps}
+use Rattle.std.proofs.Common.{rules, arith, ◌≡◌, ℕ, ◌<◌, Bool, true, ◌==◌, ◌&&◌, List, [], map}
+use Rattle.std.proofs.Common.{filter, reverse, None, refl, sym, ◌∙◌, ap, subst}
 use Rattle.std.specs.List.{list_any, range_with_len, AllByRecursion}
 use Rattle.std.proofs.lemmas.Bool.{eqb-true}
 use Rattle.std.proofs.lemmas.List.Elements.{recursion_from_All, All-from_recursion}
@@ -89,22 +90,15 @@ module _ {Id : Type 0} {database : FileDatabase Id} (lawful : AreFiles database)
 
   -- the file has this index among those of the labels
   here : HasFileIndex same file (file_ids same xs) f id
-  here = record {
-    index = index_of_file-at same lawful.equivalence xs f id at;
-    one_file = λ i t. sym (lawful.one_file id i t);
-    lanes = λ before i t. sym (num_multi_labels_of-equal lawful before id i t);
-    has_line = lawful.has_line id;
-  }
+  here = grind (arith, common_steps, index_of_file-at, num_multi_labels_of-equal)
 
   -- its annotations are of the file
   own-file : AllByRecursion (λ e. e.file_index ≡ f) own
-  own-file =
-      all-weaker (λ e. is_of_file f e ≡ true) (λ e. e.file_index ≡ f) (λ e t. eqb-true e.file_index f t) own
-      (all-pass (is_of_file f) annotations)
+  own-file = grind (arith, common_steps, all-weaker, eqb-true, all-pass)
 
   -- they are in order
   own-rises : Rises is_before own
-  own-rises = rises-filter is_before (is_of_file f) annotations (rises-from_sorted is_before below_order annotations known.sorted)
+  own-rises = search (rules, rises-filter, rises-from_sorted, below_order)
 
   -- they are of lines that the file has
   own-below : AllByRecursion (λ e. e.line < line_count (file id)) own
@@ -120,9 +114,7 @@ module _ {Id : Type 0} {database : FileDatabase Id} (lawful : AreFiles database)
 
   -- the annotations of a line are of it
   own_on_line-all : (l : ℕ) → AllByRecursion (IsOn f l) (own_on_line l)
-  own_on_line-all l =
-      all-both (λ e. e.file_index ≡ f) (λ e. e.line ≡ l) (own_on_line l)
-      (all-filter (λ e. e.file_index ≡ f) (is_on_line l) own own-file) (all-on_line l own)
+  own_on_line-all l = search (rules, all-both, all-filter, own-file, all-on_line)
 
   -- they are in order
   own_on_line-rises : (l : ℕ) → Rises is_before (own_on_line l)
@@ -135,16 +127,12 @@ module _ {Id : Type 0} {database : FileDatabase Id} (lawful : AreFiles database)
   -- what passes a test, of any annotations
   of_picked : (l : ℕ) (t : Annotation → Bool) (es : List Annotation)
       → filter t (filter (is_on_line l) (filter (is_of_file f) es)) ≡ filter (picks l t) es
-  of_picked l t es =
-      filter-filter t (is_on_line l) (filter (is_of_file f) es)
-      ∙ filter-filter (λ e. is_on_line l e && t e) (is_of_file f) es
+  of_picked l t es = grind (arith, common_steps, filter-filter)
 
   -- whether any passes
   any-of_picked : (l : ℕ) (t : Annotation → Bool) (es : List Annotation)
       → list_any t (filter (is_on_line l) (filter (is_of_file f) es)) ≡ list_any (picks l t) es
-  any-of_picked l t es =
-      any-filtered t (is_on_line l) (filter (is_of_file f) es)
-      ∙ any-filtered (λ e. is_on_line l e && t e) (is_of_file f) es
+  any-of_picked l t es = grind (arith, common_steps, any-filtered)
 
   -- the annotations of the labels on a line
   abbrev line_annotations : ℕ → List Annotation
@@ -225,13 +213,7 @@ module _ {Id : Type 0} {database : FileDatabase Id} (lawful : AreFiles database)
 
   -- a line is rendered with what its labels do on it
   line-is : (l : ℕ) → line_of_group (file id) (num_multi_labels s) l (own_on_line l) ≡ line_at s l
-  line-is l =
-      λ i. record (line_at s l) {
-        labels =
-            single_labels-are l i;
-        lanes =
-            record { count = num_multi_labels s; lane_marks = lane_marks-are l i };
-      }
+  line-is l = grind (arith, common_steps, single_labels-are, lane_marks-are)
 
   -- ---- shown lines
 
@@ -272,21 +254,15 @@ module _ {Id : Type 0} {database : FileDatabase Id} (lawful : AreFiles database)
 
   -- they fill in the lines that are drawn and not shown
   pub snippet-fills : filled_lines_of (lines_of own) ≡ filled_lines config s
-  snippet-fills =
-      ap filled_lines_of snippet_lines-are
-      ∙ snippet_lines-fills own_on_line is_shown (line_count (file id)) (none_past config s)
+  snippet-fills = grind (arith, common_steps, snippet_lines-are, snippet_lines-fills, none_past)
 
   -- they render the drawn lines
   pub snippet-lines : drawn_lines_of (lines_of own) ≡ drawn_lines config s.file s.labels
-  snippet-lines =
-      ap drawn_lines_of snippet_lines-are
-      ∙ snippet_lines-lines own_on_line is_shown (line_count (file id)) (none_past config s)
+  snippet-lines = grind (arith, common_steps, snippet_lines-are, snippet_lines-lines, none_past)
 
   -- a line's labels are in the order of their starts
   starts-ascend : (l : ℕ) → starts_in_order (single_labels_in (own_on_line l)) ≡ true
-  starts-ascend l =
-      ascends-starts (single_labels_in (own_on_line l))
-      (single_labels-ascend f l (own_on_line l) (own_on_line-all l) (own_on_line-rises l))
+  starts-ascend l = grind (arith, common_steps, ascends-starts, single_labels-ascend, own_on_line-all, own_on_line-rises)
 
   -- its lane marks ascend in the lanes of the file
   lane_marks-fit : (l : ℕ) → are_lane_marks_in_order (num_multi_labels s) (own_on_line l) ≡ true

@@ -1,13 +1,12 @@
 -- The files that were collected: the rows, the lookups and the numbers of the snippet lines that
 -- their annotations make are those of their labels. For the clauses of `RichDiagnostic::render` and
 -- `render_snippets`.
-use Rattle.std.proofs.Common.{◌≡◌, ℕ, ◌+◌, Bool, List, [], ◌∷◌, ◌++◌, map, max, None}
-use Rattle.std.proofs.Common.{refl, sym, subst, ap, ◌∙◌, arith}
+use Rattle.std.proofs.lemmas.Grind.{common_steps}
+use Rattle.std.proofs.Common.{◌≡◌, ℕ, Bool, List, [], ◌∷◌, ◌++◌, map, max, None}
+use Rattle.std.proofs.Common.{get_or, drop, refl, sym, subst, ap, ◌∙◌, arith}
 use Rattle.std.specs.Prelude.{flat_map, fold}
 use Rattle.std.specs.List.{AllByRecursion, AllZip}
 use Rattle.std.proofs.lemmas.List.Folds.{flat_map-map}
-use Rattle.std.proofs.lemmas.List.Elements.{All-from_recursion}
-use Rattle.std.proofs.lemmas.Simd.{map-map}
 use Rattle.codespan_core.specs.declared.term.config.Config.{Config}
 use Rattle.codespan_core.specs.declared.term.config.Layout.{Layout}
 use Rattle.codespan_core.specs.declared.term.config.Layout.TheVariants.{Classic, Unbroken}
@@ -15,16 +14,14 @@ use Rattle.codespan_core.specs.FileModel.{FileDatabase, FileModel}
 use Rattle.codespan_core.specs.FileModel.Lookup.{LocationAt, Name}
 use Rattle.codespan_picture.specs.Arguments.{locus_view}
 use Rattle.codespan_picture.specs.Lines.{drawn_lines}
-use Rattle.codespan_picture.specs.Lookups.{filled_lines, first_error, locus_lookups}
+use Rattle.codespan_picture.specs.Lookups.{filled_lines, first_error}
 use Rattle.codespan_picture.specs.Lookups.{lookups_of_file, numbers_for_padding}
 use Rattle.codespan_picture.specs.Padding.{digits_of, numbered_lines, padding_of}
 use Rattle.codespan_picture.specs.Snippets.{LabelInFile, LabeledFileModel, file_ids}
 use Rattle.codespan_picture.specs.Snippets.{labeled_file_model, labeled_file_models}
-use Rattle.codespan_picture.specs.Snippets.{locus_byte_of, num_multi_labels, rows_of_drawn}
-use Rattle.codespan_picture.proofs.ListElements.{all-mapped, all-weaker}
+use Rattle.codespan_picture.specs.Snippets.{num_multi_labels, rows_of_drawn}
 use Rattle.codespan_views.specs.declared.collected.Collected.{Collected}
 use Rattle.codespan_views.specs.declared.labeled_files.LabeledFile.{LabeledFile as RustFile}
-use Rattle.codespan_views.specs.declared.labeled_files.LeastStarts.{LeastStarts}
 use Rattle.codespan_views.specs.Private.Annotations.{Annotation}
 use Rattle.codespan_views.specs.Private.AnnotationViews.{annotation_view}
 use Rattle.codespan_views.specs.Private.Collections.{HasSpannedPadding, IsCollected}
@@ -32,14 +29,14 @@ use Rattle.codespan_views.specs.Private.EarlyLookups.{IsLookedUp, KeepsLabels, d
 use Rattle.codespan_views.specs.Private.EarlyLookups.{early_failure, early_number_lookups}
 use Rattle.codespan_views.specs.Private.EarlyLookups.{known_numbers, known_numbers_of_files}
 use Rattle.codespan_views.specs.Private.EarlyLookups.{known_numbers_of_labels, lines_at}
-use Rattle.codespan_views.specs.Private.EarlyLookups.{padding_by_layout, without_locus, of_files}
-use Rattle.codespan_views.specs.Private.EarlyLookups.{digit_counts_of, flat_map_indexed, numbers_of}
+use Rattle.codespan_views.specs.Private.EarlyLookups.{padding_by_layout, of_files}
+use Rattle.codespan_views.specs.Private.EarlyLookups.{digit_counts_of, numbers_of}
 use Rattle.codespan_views.specs.Private.FilledLines.{number_lookups}
 use Rattle.codespan_views.specs.Private.FileIndices.{IsIdAt}
-use Rattle.codespan_views.specs.Private.LabeledFiles.{HasLabels, ids_view, loci_view}
-use Rattle.codespan_views.specs.Private.LabeledFiles.{num_multi_labels_of}
+use Rattle.codespan_views.specs.Private.LabeledFiles.{AreLabeledFiles, loci_view}
+use Rattle.codespan_views.specs.Private.LabeledFiles.{with_labels, without_locus}
 use Rattle.codespan_views.specs.Private.Loci.{HasLocus, locus_lookups_of_files}
-use Rattle.codespan_views.specs.Private.LocusBytes.{file_least_starts, locus_byte}
+use Rattle.codespan_views.specs.Private.LocusBytes.{locus_byte}
 use Rattle.codespan_views.specs.Private.SnippetLines.{AreInOrder, SnippetLine, drawn_lines_of}
 use Rattle.codespan_views.specs.Private.SnippetLines.{filled_lines_of, rows_of_lines}
 use Rattle.codespan_views.specs.Private.Utf8Loci.{IsLocusOfFile, IsUtf8Locus}
@@ -47,45 +44,13 @@ use Rattle.codespan_views.proofs.AnnotationOutput.{snippet-fills, snippet-fits, 
 use Rattle.codespan_views.proofs.AnnotationOutput.{snippet-rows}
 use Rattle.codespan_views.proofs.EarlyErrors.{later_failure, locus_lookups_of_labels}
 use Rattle.codespan_views.proofs.EarlyErrors.{number_lookups_of_labels}
-use Rattle.codespan_views.proofs.FileIndices.{at-get}
-use Rattle.codespan_views.proofs.FilesInOrder.{id-at, id-inside}
+use Rattle.codespan_views.proofs.FilesInOrder.{ids-of_labels, is-id, labels-at}
+use Rattle.codespan_views.proofs.LociFound.{lookups_by}
 use Rattle.codespan_views.proofs.FileTurns.{flat_map_indexed-same}
 use Rattle.codespan_views.proofs.IndexedElements.{IsElementAt}
 use Rattle.codespan_views.proofs.LabelIndexing.{AreFiles}
 use Rattle.codespan_views.proofs.SnippetStarts.{start-is}
 use Rattle.codespan_views.proofs.SpannedPadding.{spanned-padding_width}
-
--- ---- files that keep what is known of their labels
-
--- they keep their ids
-ids-kept : {Id : Type 0} (old new : List (RustFile Id)) → KeepsLabels old new
-    → ids_view new ≡ ids_view old
-ids-kept {Id} old new kept =
-    sym (map-map (λ (t : Id × LeastStarts × ℕ). t.0) without_locus new)
-    ∙ ap (map (λ (t : Id × LeastStarts × ℕ). t.0)) kept
-    ∙ map-map (λ (t : Id × LeastStarts × ℕ). t.0) without_locus old
-
-module _ {Id : Type 0} (same : Id → Id → Bool) (file : Id → FileModel)
-    (xs : List (LabelInFile Id)) where
-  -- what is known of a file's labels, but for its locus
-  abbrev AreLabelsOf : Id × LeastStarts × ℕ → Type 0
-  AreLabelsOf t =
-      (t.1 ≡ file_least_starts same xs t.0) × (t.2 ≡ num_multi_labels_of same file xs t.0)
-
-  labels-of : (fs : List (RustFile Id)) → AllByRecursion (HasLabels same file xs) fs
-      → AllByRecursion AreLabelsOf (map without_locus fs)
-  labels-of [] known = tt
-  labels-of (f ∷ fs) known =
-      ((known.0.least_starts_are, known.0.lanes_are), labels-of fs known.1)
-
-  -- and their labels
-  labels-kept : (old new : List (RustFile Id)) → KeepsLabels old new
-      → AllByRecursion (HasLabels same file xs) old → AllByRecursion (HasLabels same file xs) new
-  labels-kept old new kept known =
-      all-weaker (λ (f : RustFile Id). AreLabelsOf (without_locus f)) (HasLabels same file xs)
-      (λ (f : RustFile Id) h. record { least_starts_are = h.0; lanes_are = h.1 }) new
-      (all-mapped without_locus AreLabelsOf new
-      (subst (AllByRecursion AreLabelsOf) (sym kept) (labels-of old known)))
 
 -- ---- the snippet lines of files
 
@@ -152,11 +117,7 @@ module _ {Id : Type 0} {database : FileDatabase Id} (lawful : AreFiles database)
   of-labels : {A : Type 0} (image : Id → List SnippetLine → List A) (each : Id → List A)
       → ((k : ℕ) (id : Id) → IsIdAt (file_ids same xs) k id → image id (lines_at es k) ≡ each id)
       → of_files image collected ≡ flat_map each (file_ids same xs)
-  of-labels image each is =
-      ap (flat_map_indexed (λ k id. image id (lines_at es k)) 0) all.files.ids_are
-      ∙ flat_map_indexed-same (λ k id. image id (lines_at es k)) each 0 (file_ids same xs)
-      (λ i id at. let e : 0 + i ≡ i = omega arith in
-      ap (λ k. image id (lines_at es k)) e ∙ is i id at)
+  of-labels image each is = grind (arith, common_steps, ids-of_labels, flat_map_indexed-same)
 
   -- the file at an index is that of its labels
   pub file-at : {k : ℕ} {f : RustFile Id} {snippet_lines : List SnippetLine}
@@ -164,16 +125,11 @@ module _ {Id : Type 0} {database : FileDatabase Id} (lawful : AreFiles database)
       → IsFileOfLabels config (labeled f.file_id) f snippet_lines
   file-at {k} {f} {snippet_lines} at is = record {
     lanes_are =
-        ap (λ (g : RustFile Id). g.num_multi_labels) at.is
-        ∙ (All-from_recursion (HasLabels same file xs) collected.files.items all.files.labels_are k
-        f at.inside).lanes_are
-        ∙ ap (λ (g : RustFile Id). num_multi_labels (labeled g.file_id)) (sym at.is);
+        ap (λ t. t.2) (labels-at at all.files);
     lines_are =
         subst (AreLinesOfSnippet config (labeled f.file_id)) (sym is)
         (snippet k f.file_id
-        (subst (λ ids. IsIdAt ids k f.file_id) all.files.ids_are
-        (subst (IsIdAt (ids_view collected.files.items) k) (sym (id-at at))
-        (at-get (ids_view collected.files.items) k f.file_id (id-inside at)))));
+        (subst (λ ids. IsIdAt ids k f.file_id) (ids-of_labels all.files) (is-id at)));
   }
 
   -- ---- lookups
@@ -192,28 +148,16 @@ module _ {Id : Type 0} {database : FileDatabase Id} (lawful : AreFiles database)
           of-labels (λ id ls. lookups_of_file id (number_lookups (filled_lines_of ls))) _
           (λ k id at. ap (λ ls. lookups_of_file id (number_lookups ls)) (snippet k id at).fills)
 
-  -- where a file's snippet starts
-  file_locus_byte-is : {f : RustFile Id} → HasLabels same file xs f
-      → locus_byte f.least_starts ≡ locus_byte_of (labeled f.file_id).labels
-  file_locus_byte-is {f} known =
-      ap locus_byte known.least_starts_are ∙ start-is same file f.file_id xs
-
   -- the lookups of the loci of files are those of their snippets
-  loci-lookups : (fs : List (RustFile Id)) → AllByRecursion (HasLabels same file xs) fs
-      → locus_lookups_of_files fs
-      ≡ flat_map (λ id. lookups_of_file id (locus_lookups database xs id))
-      (ids_view fs)
-  loci-lookups [] known = refl
-  loci-lookups (f ∷ fs) known =
-      λ i. lookups_of_file f.file_id (Name ∷ LocationAt (file_locus_byte-is known.0 i) ∷ [])
-      ++ loci-lookups fs known.1 i
-
-  -- so are those of all files
   loci-are : locus_lookups_of_files collected.files.items
       ≡ locus_lookups_of_labels database config xs
   loci-are =
-      loci-lookups collected.files.items all.files.labels_are
-      ∙ ap (flat_map (λ id. lookups_of_file id (locus_lookups database xs id))) all.files.ids_are
+      sym (flat_map-map lookups_by without_locus collected.files.items)
+      ∙ ap (flat_map lookups_by) all.files.are
+      ∙ flat_map-map lookups_by (with_labels same file xs) (file_ids same xs)
+      ∙ (λ i. flat_map
+      (λ id. lookups_of_file id (Name ∷ LocationAt (start-is same file id xs i) ∷ []))
+      (file_ids same xs))
 
   -- what is looked up before the header fails with what the labels' files do
   pub failure-is : early_failure config.layout database.failure collected ≡ later_failure database
@@ -223,22 +167,23 @@ module _ {Id : Type 0} {database : FileDatabase Id} (lawful : AreFiles database)
   -- ---- loci
 
   -- the loci of files are those of their snippets
-  loci-of_files : (fs : List (RustFile Id)) → AllByRecursion (HasLabels same file xs) fs
-      → AllByRecursion (HasLocus file) fs
-      → AllZip IsLocusOfFile (map labeled (ids_view fs)) (loci_view fs)
-  loci-of_files [] known loci = tt
-  loci-of_files (f ∷ fs) known loci = (
-    subst (λ n. IsUtf8Locus (file f.file_id, n) (locus_view f.locus)) (file_locus_byte-is known.0)
-        loci.0,
-    loci-of_files fs known.1 loci.1,
+  loci-of_files : (fs : List (RustFile Id)) (ids : List Id)
+      → map without_locus fs ≡ map (with_labels same file xs) ids
+      → AllByRecursion (HasLocus file) fs → AllZip IsLocusOfFile (map labeled ids) (loci_view fs)
+  loci-of_files [] [] known loci = tt
+  loci-of_files [] (id ∷ ids) known loci = absurd (cc known)
+  loci-of_files (f ∷ fs) [] known loci = absurd (cc known)
+  loci-of_files (f ∷ fs) (id ∷ ids) known loci = (
+    subst (λ n. IsUtf8Locus (file id, n) (locus_view f.locus)) (start-is same file id xs)
+        (subst (λ t. IsUtf8Locus (file t.0, locus_byte t.1) (locus_view f.locus))
+        (ap (λ ts. get_or ts 0 (without_locus f)) known) loci.0),
+    loci-of_files fs ids (ap (drop 1) known) loci.1,
   )
 
   -- so are those of all files
   pub loci-of_all : AllByRecursion (HasLocus file) collected.files.items
       → AllZip IsLocusOfFile (labeled_file_models same file xs) (loci_view collected.files.items)
-  loci-of_all loci =
-      subst (λ ids. AllZip IsLocusOfFile (map labeled ids) (loci_view collected.files.items))
-      all.files.ids_are (loci-of_files collected.files.items all.files.labels_are loci)
+  loci-of_all = loci-of_files collected.files.items (file_ids same xs) all.files.are
 
   -- ---- numbers and the padding width
 
@@ -274,15 +219,7 @@ module _ {Id : Type 0} {database : FileDatabase Id} (lawful : AreFiles database)
   padding-is : HasSpannedPadding file xs collected
       → padding_by_layout config.layout file collected
       ≡ padding_of config (labeled_file_models same file xs)
-  padding-is spanned = by_layout config.layout refl
-    where
-      by_layout : (layout : Layout) → config.layout ≡ layout
-          → padding_by_layout layout file collected
-          ≡ padding_of config (labeled_file_models same file xs)
-      by_layout Classic classic =
-          spanned
-          ∙ spanned-padding_width same file lawful.equivalence lawful.one_file config xs classic
-      by_layout Unbroken unbroken = digits-are unbroken
+  padding-is spanned = grind (arith, common_steps, spanned-padding_width, digits-are)
 
   -- ---- what was collected, looked up
 
@@ -293,19 +230,17 @@ module _ {Id : Type 0} {database : FileDatabase Id} (lawful : AreFiles database)
       → KeepsLabels collected.files.items new.files.items
       → new.annotations ≡ collected.annotations
       → IsLookedUp database config xs numbers new
-  looked-up {new} spanned numbers_found padding_found loci kept same_annotations = record {
-    collected_is = record {
-      files = record {
-        ids_are = ids-kept collected.files.items new.files.items kept ∙ all.files.ids_are;
-        labels_are =
-            labels-kept same file xs collected.files.items new.files.items kept
-            all.files.labels_are;
-      };
-      sorted = rw same_annotations all.sorted;
-      permutation = rw same_annotations all.permutation;
-      lines = rw (same_annotations, ids-kept collected.files.items new.files.items kept) all.lines;
-    };
-    loci = loci;
-    numbers_are = numbers_found ∙ known-are;
-    padding_is = padding_found ∙ padding-is spanned;
-  }
+  looked-up {new} spanned numbers_found padding_found loci kept same_annotations =
+      let labeled : AreLabeledFiles same file xs (file_ids same xs) new.files.items =
+      record { are = kept ∙ all.files.are } in
+      let same_ids = ids-of_labels labeled ∙ sym (ids-of_labels all.files) in record {
+        collected_is = record {
+          files = labeled;
+          sorted = rw same_annotations all.sorted;
+          permutation = rw same_annotations all.permutation;
+          lines = rw (same_annotations, same_ids) all.lines;
+        };
+        loci = loci;
+        numbers_are = numbers_found ∙ known-are;
+        padding_is = padding_found ∙ padding-is spanned;
+      }

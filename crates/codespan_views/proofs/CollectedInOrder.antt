@@ -1,34 +1,44 @@
 -- What was collected, put in order, for the clause `collected` of `collect`.
-use Rattle.std.proofs.Common.{List, map, Vec, Global}
+use Rattle.std.proofs.Common.{List, map, Vec, Global, sym, ap, subst, ◌∙◌}
+use Rattle.std.specs.List.{AllByRecursion}
 use Rattle.std.specs.List.Sorted.{IsPermutation, IsSortedBy}
+use Rattle.std.proofs.lemmas.List.Elements.{All-from_recursion, recursion_from_All}
+use Rattle.std.proofs.lemmas.List.Sorted.{All-permutation, IsPermutation-map}
 use Rattle.codespan_core.specs.declared.term.config.Config.{Config}
 use Rattle.codespan_core.specs.FileModel.{FileDatabase}
-use Rattle.codespan_picture.specs.Snippets.{LabelInFile}
+use Rattle.codespan_picture.specs.Snippets.{LabelInFile, file_ids}
+use Rattle.codespan_picture.specs.declared.padding.PaddingWidth.{PaddingWidth}
 use Rattle.codespan_views.specs.declared.annotation.Annotation.{Annotation as RustAnnotation}
-use Rattle.codespan_views.specs.declared.collected.Collected.{Collected}
-use Rattle.codespan_views.specs.Private.Annotations.{is_before}
+use Rattle.codespan_views.specs.declared.labeled_files.LabeledFile.{LabeledFile as RustFile}
+use Rattle.codespan_views.specs.Private.Annotations.{Annotation, is_before}
 use Rattle.codespan_views.specs.Private.AnnotationViews.{IsOfFiles, annotation_view}
-use Rattle.codespan_views.specs.Private.Collections.{IsCollected, IsCollectedUnsorted}
-use Rattle.codespan_views.specs.Private.LabeledFiles.{ids_view}
-use Rattle.codespan_views.specs.Private.IndexedLabels.{all_annotations}
-use Rattle.codespan_views.proofs.Collecting.{collected-each, collected-kind, collected-sorted}
+use Rattle.codespan_views.specs.Private.Collections.{IsCollected}
+use Rattle.codespan_views.proofs.FilesInOrder.{ids-of_labels}
+use Rattle.codespan_views.proofs.LabelsCollected.{AreCollected}
 
 -- what was collected, put in order
 pub collected-in_order : {Id : Type 0} {database : FileDatabase Id} {config : Config}
-    {xs : List (LabelInFile Id)} {was : Collected Id} (annotations : Vec (RustAnnotation Id) Global)
-    → IsCollectedUnsorted database config xs was
-    → IsPermutation was.annotations.items annotations.items
-    → IsSortedBy is_before (map annotation_view annotations.items)
-    → IsCollected database config xs (record was { annotations = annotations })
-collected-in_order {Id} {database} {config} {xs} {was} annotations g perm up =
-    let of_files = IsOfFiles database.file (ids_view was.files.items) in
-    let of_all_labels = all_annotations database.same database.file config xs in
+    {xs : List (LabelInFile Id)} (files : Vec (RustFile Id) Global)
+    {annotations : List (RustAnnotation Id)} (in_order : Vec (RustAnnotation Id) Global)
+    {padding : PaddingWidth}
+    → AreCollected database config (file_ids database.same xs) xs files.items annotations padding
+    → IsPermutation annotations in_order.items
+    → IsSortedBy is_before (map annotation_view in_order.items)
+    → IsCollected database config xs
+    (record { files = files; annotations = in_order; padding = padding })
+collected-in_order {database = database} {xs = xs} files {annotations} in_order g perm up =
+    let P = IsOfFiles database.file (file_ids database.same xs) in
     record {
-      files = record { ids_are = g.files.ids_are; labels_are = g.files.labels_are };
+      files = g.labeled;
       sorted = up;
       permutation =
-          collected-sorted of_all_labels was.annotations.items annotations.items
-          (collected-kind of_files was.annotations.items of_all_labels g.adds) perm;
+          subst (λ (l : List Annotation). IsPermutation l (map annotation_view in_order.items))
+          (ap (map annotation_view) g.added.whole ∙ g.added.are)
+          (IsPermutation-map annotation_view annotations in_order.items perm);
       lines =
-          collected-each of_files was.annotations.items annotations.items of_all_labels g.adds perm;
+          subst (λ ids. AllByRecursion (IsOfFiles database.file ids) in_order.items) (sym (ids-of_labels g.labeled))
+          (recursion_from_All P in_order.items
+          (All-permutation P annotations in_order.items perm
+          (All-from_recursion P annotations
+          (subst (AllByRecursion P) (sym g.added.whole) g.added.each))));
     }

@@ -1,5 +1,6 @@
 -- The lines that are looked up for a label, one after another, for the clauses of `collect_lines`.
-use Rattle.std.proofs.Common.{◌≡◌, ℕ, ◌+◌, ◌-◌, ◌^◌, ◌<◌, ◌≤◌, Bool, true, false, not, ◌&&◌, ◌||◌}
+use Rattle.std.proofs.lemmas.Grind.{common_steps}
+use Rattle.std.proofs.Common.{◌≡◌, ℕ, ◌+◌, ◌-◌, ◌^◌, ◌<◌, ◌≤◌, Bool, true, false, not, ◌&&◌}
 use Rattle.std.proofs.Common.{List, [], ◌∷◌, ◌++◌, length, Option, Some, None, refl, sym, ap, ◌∙◌}
 use Rattle.std.proofs.Common.{arith, ⊎_elim, true≢false}
 use Rattle.std.specs.Prelude.{nat_lt, nat_le, if◌then◌else◌, flat_map, fold, max, min}
@@ -8,10 +9,6 @@ use Rattle.std.proofs.lemmas.Bool.{le-leb, lt-leb, lt-ltb, cases_Bool, cases_lt}
 use borrow.Author.Tests.{le-ltb}
 use Rattle.std.proofs.lemmas.List.{append-nil, map-append}
 use Rattle.codespan_core.specs.declared.files.Error.{Error}
-use Rattle.codespan_core.specs.declared.files.Error.TheVariants.{FileMissing, IndexTooLarge}
-use Rattle.codespan_core.specs.declared.files.Error.TheVariants.{LineTooLarge, ColumnTooLarge}
-use Rattle.codespan_core.specs.declared.files.Error.TheVariants.{InvalidCharBoundary, Io}
-use Rattle.codespan_core.specs.declared.files.Error.TheVariants.{FormatError, OutOfMemory}
 use Rattle.codespan_core.specs.FileModel.{Lookup, line_count, or_failure}
 use Rattle.codespan_core.specs.LawfulFiles.{IsLawful, FailsPastLastLine, IsPastLastLineError}
 use Rattle.codespan_core.specs.FileModel.Lookup.{LineRange, LineNumber}
@@ -32,10 +29,8 @@ use Rattle.codespan_views.specs.Private.FileLookups.{failure_in}
 use Rattle.codespan_views.specs.Private.AnnotationViews.{AppendsAnnotationsOf}
 use Rattle.codespan_views.specs.Private.SpannedDigitCounts.{digit_count_if_spanned}
 use Rattle.codespan_views.specs.Private.SpannedDigitCounts.{label_digit_counts}
-use Rattle.codespan_picture.specs.Lookups.{looked_up_lines, lookups_of_file, ends_context_lines}
-use Rattle.codespan_picture.specs.Lookups.{first_error, is_around, is_looked_up, line_lookups}
-use Rattle.codespan_picture.specs.Lookups.{lookup_past_end}
-use Rattle.codespan_picture.specs.Padding.{count_digits, spans}
+use Rattle.codespan_picture.specs.Lookups.{looked_up_lines, ends_context_lines, is_looked_up}
+use Rattle.codespan_picture.specs.Lookups.{line_lookups, lookup_past_end}
 use Rattle.codespan_picture.specs.declared.padding.PaddingWidth.{PaddingWidth}
 use Rattle.codespan_picture.proofs.Greatest.{greatest-append}
 use Rattle.codespan_views.proofs.Collecting.{AppendsAnnotations-as, AppendsAnnotations-both}
@@ -65,7 +60,7 @@ module _ {Id : Type 0} (x : LabelToCollect Id) where
 
   -- there is no annotation of a line that is not looked up
   no_annotations : (l : ℕ) → is_looked_up x.config x.file x.label l ≡ false → annotations_if_looked_up x.config x.file x.label x.file_index x.index x.lane l ≡ []
-  no_annotations l skipped = ap (λ (b : Bool). if b then line_annotations x.config x.file x.file_index x.index x.lane x.label l else []) skipped
+  no_annotations l skipped = grind (arith, common_steps)
 
   -- nor are there lookups of it
   no_lookups : (l : ℕ) → is_looked_up x.config x.file x.label l ≡ false → lookups_if_looked_up x.config x.file x.label l ≡ []
@@ -77,21 +72,15 @@ module _ {Id : Type 0} (x : LabelToCollect Id) where
 
   -- lookups that succeed, and others after them
   succeeded_then : (ls ms : List Lookup) → failed ls ≡ None → failed (ls ++ ms) ≡ failed ms
-  succeeded_then ls ms none = ap (first_error x.failure) (map-append (λ l. (x.file_id, l)) ls ms) ∙ first_error-none x.failure (lookups_of_file x.file_id ls) (lookups_of_file x.file_id ms) none
+  succeeded_then ls ms none = grind (arith, common_steps, map-append, first_error-none)
 
   -- lookups that fail, and others after them
   failed_then : (ls ms : List Lookup) (e : Error) → failed ls ≡ Some e → failed (ls ++ ms) ≡ Some e
-  failed_then ls ms e some = ap (first_error x.failure) (map-append (λ l. (x.file_id, l)) ls ms) ∙ first_error-some x.failure (lookups_of_file x.file_id ls) (lookups_of_file x.file_id ms) e some
+  failed_then ls ms e some = grind (arith, common_steps, map-append, first_error-some)
 
   -- a line that is not looked up is not spanned
   no_digits : (l : ℕ) → is_looked_up x.config x.file x.label l ≡ false → digit_count_if_spanned x.file x.label l ≡ []
-  no_digits l skipped = ap (λ (b : Bool). if b then count_digits (x.file.line_number l) ∷ [] else [])
-      (neither (spans x.file x.label l)
-      (is_around x.config (first_line x.file x.label) (last_line x.file x.label) l) skipped)
-    where
-      neither : (a b : Bool) → (a || b) ≡ false → a ≡ false
-      neither false b h = refl
-      neither true b h = h
+  no_digits l skipped = grind (arith, common_steps)
 
   -- the file has the lines that the label starts and ends on
   pub record HasEnds : Type 0 where
@@ -125,7 +114,7 @@ module _ {Id : Type 0} {x : LabelToCollect Id} where
   }
     where
       too_far : (l : ℕ) → l < n → is_looked_up x.config x.file x.label l ≡ false
-      too_far l below = below_both (first_line x.file x.label) (last_line x.file x.label) x.config.before_label_lines x.config.after_label_lines l (omega arith) (omega arith)
+      too_far l below = grind (arith, common_steps, below_both)
 
   module _ {xs ys : List (RustAnnotation Id)} {width wider : PaddingWidth} {n : ℕ}
       (g : CollectsLines x xs ys width wider n) where
@@ -151,7 +140,7 @@ module _ {Id : Type 0} {x : LabelToCollect Id} where
             (omega (arith, there.first))) ∙ skipped)
 
         further : is_looked_up x.config x.file x.label n ≡ false → n + 1 ≤ line_count x.file
-        further skipped = ⊎_elim (λ (h : n < line_count x.file). omega arith) (λ (h : line_count x.file ≤ n). absurd (at_end skipped h)) (cases_lt n (line_count x.file))
+        further skipped = grind (arith, common_steps, at_end, cases_lt)
 
     -- all annotations of the label
     all_collected : ((l : ℕ) → n ≤ l → l < line_count x.file → is_looked_up x.config x.file x.label l ≡ false)
@@ -202,8 +191,7 @@ module _ {Id : Type 0} {x : LabelToCollect Id} where
         collected-up all.0 all.1 all.2 no_lookup_past_end
       where
         neither : (b : Bool) → (if b && false then LineRange (line_count x.file) ∷ [] else []) ≡ []
-        neither true = refl
-        neither false = refl
+        neither b = grind (arith, common_steps)
 
     -- the end of all indices
     collected-whole : n ≡ 2 ^ 64 → IsLawful x.file → FailsPastLastLine x.file n (x.failure x.file_id (LineRange n))
@@ -213,15 +201,7 @@ module _ {Id : Type 0} {x : LabelToCollect Id} where
         collected-context past (too_large (x.failure x.file_id (LineRange n)) ((past_last_line (is_existing x.file.exists refl)).1 past))
       where
         too_large : (o : Option Error) → IsPastLastLineError o → ends_context_lines o ≡ true
-        too_large (Some (LineTooLarge given last)) h = refl
-        too_large None h = absurd h
-        too_large (Some FileMissing) h = absurd h
-        too_large (Some (IndexTooLarge given last)) h = absurd h
-        too_large (Some (ColumnTooLarge given last)) h = absurd h
-        too_large (Some (InvalidCharBoundary given)) h = absurd h
-        too_large (Some (Io error)) h = absurd h
-        too_large (Some FormatError) h = absurd h
-        too_large (Some OutOfMemory) h = absurd h
+        too_large o h = grind (arith, common_steps)
 
         -- a file that is not there has one line
         is_existing : (b : Bool) → x.file.exists ≡ b → x.file.exists ≡ true
@@ -253,12 +233,7 @@ module _ {Id : Type 0} {x : LabelToCollect Id} where
         by_line false (Some y) p h = h
 
         line_error : nat_lt n (line_count x.file) ≡ true → failed x (line_lookups n) ≡ Some e
-        line_error inside =
-            by_line (nat_lt (last_line x.file x.label) n && ends_context_lines (x.failure x.file_id (LineRange n))) (x.failure x.file_id (LineRange n)) (x.failure x.file_id (LineNumber n))
-            (ap (λ (b : Bool). if nat_lt (last_line x.file x.label) n && ends_context_lines
-            (x.failure x.file_id (LineRange n)) then None else or_failure
-            (x.failure x.file_id (LineRange n)) (if b then x.failure x.file_id (LineNumber n) else None))
-            (sym inside) ∙ known)
+        line_error inside = grind (arith, common_steps, by_line)
 
         before_end : n < line_count x.file → lines_failure x ≡ Some e
         before_end h =

@@ -1,10 +1,12 @@
 -- What fails the lookups before the header: those of the labels, and then those of filled lines and
 -- of loci. For the clause `renders` of `RichDiagnostic::render`.
+use Rattle.std.proofs.Common.{arith}
+use Rattle.std.proofs.lemmas.Grind.{common_steps}
 use Rattle.std.proofs.Common.{◌≡◌, List, ◌++◌, Option, Some, None, ◌∙◌, ap, append_assoc, flat_map}
 use Rattle.codespan_core.specs.declared.files.Error.{Error}
 use Rattle.codespan_core.specs.declared.term.config.Config.{Config}
 use Rattle.codespan_core.specs.FileModel.{FileDatabase, Lookup, or_failure}
-use Rattle.codespan_picture.specs.Lookups.{early_lookups, first_error, label_lookups}
+use Rattle.codespan_picture.specs.Lookups.{early_lookups, first_error}
 use Rattle.codespan_picture.specs.Lookups.{locus_lookups, lookups_of_file, numbers_for_padding}
 use Rattle.codespan_picture.specs.Snippets.{LabelInFile, file_ids}
 use Rattle.codespan_views.specs.Private.LabelsToCollect.{labels_failure}
@@ -38,11 +40,7 @@ module _ {Id : Type 0} (database : FileDatabase Id) (config : Config)
 
   -- the lookups of the labels come first, and then those of the files
   early-is : failed early ≡ or_failure (labels_failure config database xs) later_failure
-  early-is =
-      let of_labels = label_lookups config database xs in
-      ap failed (append_assoc of_labels number_lookups_of_labels locus_lookups_of_labels)
-      ∙ first_error-append database.failure of_labels
-      (number_lookups_of_labels ++ locus_lookups_of_labels)
+  early-is = grind (arith, common_steps, append_assoc, first_error-append)
 
   -- a lookup of a label fails
   pub labels-failed : (e : Error) → labels_failure config database xs ≡ Some e

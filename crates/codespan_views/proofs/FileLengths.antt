@@ -1,4 +1,5 @@
 -- The annotations of one file, in order, for the clauses `value` and `requires` of `count_in_file`.
+use Rattle.std.proofs.lemmas.Grind.{common_steps}
 use Rattle.std.proofs.Common.{◌≡◌, ℕ, suc, ◌+◌, ◌-◌, ◌<◌, ◌≤◌, Bool, true, false, cond, List, []}
 use Rattle.std.proofs.Common.{◌∷◌, length, take, drop, map, get_or, refl, sym, ap, subst, ◌∙◌}
 use Rattle.std.proofs.Common.{arith, length-drop}
@@ -77,7 +78,4 @@ module _ {Id : Type 0} where
   pub rest-sorted : (xs : List (RustAnnotation Id)) (at : ℕ)
       → IsSortedBy is_before (map annotation_view xs)
       → IsSortedBy below (take (length xs - at) (drop at xs))
-  rest-sorted xs at up =
-      subst (λ ys. IsSortedBy below ys)
-      (sym (ap (λ i. take i (drop at xs)) (sym (length-drop at xs)) ∙ take-length (drop at xs)))
-      (drop-sorted xs at up)
+  rest-sorted xs at up = grind (arith, common_steps, length-drop, take-length, drop-sorted)

@@ -1,5 +1,6 @@
 -- Files in the order of their first label, for the clauses `ids`, `starts` and `lanes` of
 -- `get_or_insert_file`.
+use Rattle.std.proofs.lemmas.Grind.{common_steps}
 use Rattle.std.proofs.Common.{◌≡◌, ℕ, zero, suc, ◌<◌, length, get_or, arith, Bool, true, false, not}
 use Rattle.std.proofs.Common.{◌||◌, List, [], ◌∷◌, ◌++◌, refl, sym, ap, ◌∙◌, true≢false}
 use Rattle.std.specs.Prelude.{filter, map, if◌then◌else◌}
@@ -59,11 +60,7 @@ module _ {Id : Type 0} (same : Id → Id → Bool) (o : IsEquivalence same) wher
           (if c then seen else seen ++ i ∷ [])
           ≡ (if b || d then j ∷ filter keeps seen else j ∷ filter keeps seen ++ i ∷ [])
       by true true d out within unchanged = refl
-      by true false d out within unchanged =
-          ap (λ (ids : List Id). j ∷ ids)
-          (filter-append keeps seen (i ∷ [])
-          ∙ ap (λ (t : Bool). filter keeps seen ++ (if t then i ∷ [] else [])) (out refl)
-          ∙ append-nil (filter keeps seen))
+      by true false d out within unchanged = grind (arith, common_steps, filter-append, keeps, seen, append-nil)
       by false c d out within unchanged =
           by_seen c
           ∙ ap
@@ -75,19 +72,13 @@ module _ {Id : Type 0} (same : Id → Id → Bool) (o : IsEquivalence same) wher
               (if c then seen else seen ++ i ∷ [])
               ≡ (if c then j ∷ filter keeps seen else j ∷ filter keeps seen ++ i ∷ [])
           by_seen true = refl
-          by_seen false =
-              ap (λ (ids : List Id). j ∷ ids)
-              (filter-append keeps seen (i ∷ [])
-              ∙ ap (λ (t : Bool). filter keeps seen ++ (if t then i ∷ [] else []))
-              (within refl))
+          by_seen false = grind (arith, common_steps, filter-append, keeps, seen)
 
   -- the id of one more label, which is added unless it is there
   pub file_ids-more : (xs : List (LabelInFile Id)) (x : LabelInFile Id)
       → file_ids same (xs ++ x ∷ []) ≡ with_file same (file_ids same xs) x.file_id
       (file_ids same xs) x.file_id
-  file_ids-more xs x =
-      ap (first_seen same) (map-append (λ (y : LabelInFile Id). y.file_id) xs (x ∷ []))
-      ∙ first_seen-more (map (λ (y : LabelInFile Id). y.file_id) xs) x.file_id
+  file_ids-more xs x = grind (arith, common_steps, map-append, first_seen-more)
 
   -- an id of the list is among the first appearances
   first_seen-has : (js : List Id) (i : Id) → has (first_seen same js) i ≡ has js i
@@ -108,13 +99,7 @@ module _ {Id : Type 0} (same : Id → Id → Bool) (o : IsEquivalence same) wher
   has-one : (js : List Id) (k : ℕ) (d : Id) → k < length js → has js (get_or js k d) ≡ true
   has-one [] k d h = absurd (omega arith)
   has-one (j ∷ js) zero d h = ap (λ b. b || has js j) (o.refl j)
-  has-one (j ∷ js) (suc k) d h =
-      ap (λ b. same j (get_or js k d) || b) (has-one js k d (omega arith))
-      ∙ either (same j (get_or js k d))
-    where
-      either : (b : Bool) → (b || true) ≡ true
-      either true = refl
-      either false = refl
+  has-one (j ∷ js) (suc k) d h = grind (arith, common_steps)
 
   -- the file of each label is among those of all
   pub file_ids-has : (xs : List (LabelInFile Id)) (k : ℕ) (x : LabelInFile Id) → k < length xs
@@ -135,7 +120,4 @@ module _ {Id : Type 0} (same : Id → Id → Bool) (o : IsEquivalence same) wher
       by : (ys : List (LabelInFile Id)) → has (map (λ (y : LabelInFile Id). y.file_id) ys) id ≡ false
           → AllByRecursion (λ (y : LabelInFile Id). same id y.file_id ≡ false) ys
       by [] h = tt
-      by (y ∷ ys) h =
-          let parts =
-          or_parts (same y.file_id id) (has (map (λ (z : LabelInFile Id). z.file_id) ys) id) h in
-          (o.symm id y.file_id ∙ parts.0, by ys parts.1)
+      by (y ∷ ys) h = grind (arith, common_steps, or_parts, by ys)

@@ -1,7 +1,8 @@
 -- The index of a file that is looked for, and what is known of all files with it, for the clauses
--- of `get_or_insert_file`, `first_file` and `last_file`.
+-- of `get_or_insert_file` and `find_file`.
+use Rattle.std.proofs.lemmas.Grind.{common_steps}
 use Rattle.std.proofs.Common.{◌≡◌, ◌≢◌, ℕ, ◌+◌, ◌≤◌, Bool, true, false, List, [], ◌∷◌, ◌++◌, length}
-use Rattle.std.proofs.Common.{take, drop, arith, refl, sym, ap, subst, ◌∙◌, append-nil}
+use Rattle.std.proofs.Common.{take, drop, arith, sym, ap, subst, ◌∙◌, append-nil}
 use Rattle.std.specs.Prelude.{if◌then◌else◌}
 use Rattle.std.specs.Cmp.{IsEquivalence}
 use Rattle.std.specs.List.{AllByRecursion}
@@ -32,8 +33,7 @@ module _ {Id : Type 0} {same : Id → Id → Bool} (o : IsEquivalence same) (fil
     where
       by : (b : Bool) → (b ≡ true → ⊥)
           → known ++ one ∷ [] ≡ (if b then known else known ++ one ∷ [])
-      by true none = absurd (none refl)
-      by false none = refl
+      by b none = grind (arith, common_steps)
 
   -- where it is one of the files', the list is unchanged
   pub file-unchanged : index ≢ length files → {A : Type 0} (known : List A) (one : A)
@@ -43,8 +43,7 @@ module _ {Id : Type 0} {same : Id → Id → Bool} (o : IsEquivalence same) (fil
       (λ none. inside (is ∙ no-index same o (ids_view files) id none ∙ ids-length))
     where
       by : (b : Bool) → (b ≡ false → ⊥) → known ≡ (if b then known else known ++ one ∷ [])
-      by true there = refl
-      by false there = absurd (there refl)
+      by b there = grind (arith, common_steps)
 
 -- ---- a file looked for, one after another
 
@@ -73,11 +72,7 @@ module _ {Id : Type 0} where
         → AllByRecursion (λ j. same j id ≡ false) (ids_view (take k files))
         → same f.file_id id ≡ false
         → AllByRecursion (λ j. same j id ≡ false) (ids_view (take (k + 1) files))
-    none-more same id none apart =
-        subst (λ (js : List Id). AllByRecursion (λ j. same j id ≡ false) js)
-        (sym (ap ids_view (take-at at) ∙ map-append name (take k files) (f ∷ [])))
-        (all-append (λ j. same j id ≡ false) (ids_view (take k files)) (f.file_id ∷ []) none
-        (apart, tt))
+    none-more same id none apart = grind (arith, common_steps, take-at, map-append, all-append)
 
     -- it is the first one that is
     pub index-first : {same : Id → Id → Bool} (o : IsEquivalence same) (id : Id)

@@ -1,5 +1,6 @@
 -- A loop over the files takes the annotations of each file in order, for the clauses of
 -- `find_numbers` and `render_snippets`.
+use Rattle.std.proofs.lemmas.Grind.{common_steps}
 use Rattle.std.proofs.Common.{◌≡◌, ℕ, ◌+◌, ◌-◌, ◌≤◌, Bool, true, false, ◌&&◌, cond, ◌==◌, nat_lt}
 use Rattle.std.proofs.Common.{nat_le, List, [], ◌∷◌, ◌++◌, length, take, drop, map, filter, refl}
 use Rattle.std.proofs.Common.{sym, ◌∙◌, ap, arith, length-drop}
@@ -28,11 +29,7 @@ from_file f xs = filter (λ (e : Annotation). nat_le f e.file_index) xs
 -- along annotations in order the files do not decrease
 files-rise : (xs : List Annotation) → Rises is_before xs → IsRising (λ e. e.file_index) xs
 files-rise [] a = tt
-files-rise (x ∷ xs) a = (
-  all-weaker (λ y. is_before y x ≡ false) (λ y. x.file_index ≤ y.file_index)
-      (λ y h. file_rises x y h) xs a.0,
-  files-rise xs a.1,
-)
+files-rise (x ∷ xs) a = grind (arith, common_steps, all-weaker, file_rises, files-rise xs, nat_tests)
 
 -- a file is from itself on
 from_own : (f k : ℕ) → (nat_le f k && (k == f)) ≡ (k == f)
@@ -79,23 +76,13 @@ prefix-append : (p : Annotation → Bool) (a b : List Annotation) → AllByRecur
     → AllByRecursion (λ e. p e ≡ false) b → prefix_len p (a ++ b) ≡ length a
 prefix-append p [] [] h k = refl
 prefix-append p [] (y ∷ b) h k = ap (λ t. cond t (1 + prefix_len p b) 0) k.0
-prefix-append p (x ∷ a) b h k =
-    ap (λ t. cond t (1 + prefix_len p (a ++ b)) 0) h.0
-    ∙ (let r = prefix-append p a b h.1 k in omega (arith, r))
+prefix-append p (x ∷ a) b h k = grind (arith, common_steps, prefix-append p a b, nat_tests)
 
 -- a number of annotations at the start are of the file
 own-len : (xs : List Annotation) (f : ℕ)
     → prefix_len (is_of_file f) (filter (is_of_file f) xs ++ from_file (f + 1) xs) ≡ length
     (filter (is_of_file f) xs)
-own-len xs f =
-    prefix-append (is_of_file f) (filter (is_of_file f) xs) (from_file (f + 1) xs)
-    (all-pass (is_of_file f) xs)
-    (all-weaker (λ e. nat_le (f + 1) e.file_index ≡ true) (λ e. is_of_file f e ≡ false)
-    (λ e t. other e.file_index (leb-true (f + 1) e.file_index t)) (from_file (f + 1) xs)
-    (all-pass (λ (e : Annotation). nat_le (f + 1) e.file_index) xs))
-  where
-    other : (k : ℕ) → f + 1 ≤ k → (k == f) ≡ false
-    other k h = ne_eqb k f (λ e. omega arith)
+own-len xs f = grind (arith, common_steps, prefix-append, all-pass, all-weaker, nat_le, leb-true, ne_eqb)
 
 -- ---- annotations as a view holds them
 

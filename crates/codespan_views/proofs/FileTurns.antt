@@ -1,5 +1,6 @@
 -- The turn of a file in a loop over the files, by the index of its id, for the clauses of
 -- `find_numbers` and `render_snippets`.
+use Rattle.std.proofs.lemmas.Grind.{common_steps}
 use Rattle.std.proofs.Common.{◌≡◌, ℕ, suc, ◌+◌, ◌-◌, ◌≤◌, true, List, [], ◌∷◌, ◌++◌, length, take}
 use Rattle.std.proofs.Common.{drop, map, filter, refl, sym, ap, ◌∙◌, subst, arith}
 use Rattle.std.specs.Prelude.{All, flat_map}
@@ -29,8 +30,7 @@ use Rattle.codespan_picture.proofs.ListElements.{all-weaker}
 pub flat_map_indexed-append : {Id A : Type 0} (image : ℕ → Id → List A) (k : ℕ) (xs ys : List Id)
     → flat_map_indexed image k (xs ++ ys) ≡ flat_map_indexed image k xs ++ flat_map_indexed image
     (k + length xs) ys
-flat_map_indexed-append image k [] ys = let e : k ≡ k + 0 = omega arith in
-    ap (λ n. flat_map_indexed image n ys) e
+flat_map_indexed-append image k [] ys = grind (arith, common_steps)
 flat_map_indexed-append {Id} {A} image k (x ∷ xs) ys =
     let e : k + 1 + length xs ≡ k + suc (length xs) = omega arith in
     ap (λ (r : List A). image k x ++ r)
@@ -45,11 +45,7 @@ pub flat_map_indexed-more : {Id A : Type 0} (image : ℕ → Id → List A) (f :
     (id : Id)
     → length ids ≡ f → more ≡ ids ++ id ∷ []
     → flat_map_indexed image 0 more ≡ flat_map_indexed image 0 ids ++ image f id
-flat_map_indexed-more {Id} {A} image f ids more id len is =
-    let e : 0 + length ids ≡ f = omega (arith, len) in
-    ap (flat_map_indexed image 0) is ∙ flat_map_indexed-append image 0 ids (id ∷ [])
-    ∙ ap (λ (r : List A). flat_map_indexed image 0 ids ++ r)
-    (append-nil (image (0 + length ids) id) ∙ ap (λ n. image n id) e)
+flat_map_indexed-more {Id} {A} image f ids more id len is = grind (arith, common_steps, flat_map_indexed-append, append-nil)
 
 -- ids that have the same at their indices
 pub flat_map_indexed-same : {Id A : Type 0} (image : ℕ → Id → List A) (each : Id → List A) (k : ℕ)
@@ -109,9 +105,7 @@ module _ {Id : Type 0} {files : List (RustFile Id)} {xs : List (RustAnnotation I
     -- it is the same in an equal list
     own_annotations : map annotation_view (next_slice zs at n) ≡ filter (is_of_file k)
         (map annotation_view xs)
-    own_annotations =
-        ap (λ (es : List (RustAnnotation Id)). map annotation_view (next_slice es at n)) same
-        ∙ own_slice.own
+    own_annotations = grind (arith, common_steps, own_slice)
 
     -- its lines are the file's
     pub own_lines : (file : Id → FileModel) → AllByRecursion (IsOfFiles file (ids_view files)) xs

@@ -1,15 +1,22 @@
 -- The files of an output, by their indices, for the clauses of `render_snippets` and
 -- `find_numbers`.
-use Rattle.std.proofs.Common.{◌≡◌, ℕ, zero, suc, ◌+◌, ◌-◌, ◌<◌, ◌≤◌, Bool, true, false, ◌||◌}
+use Rattle.std.proofs.Common.{◌≡◌, ℕ, zero, suc, ◌+◌, ◌-◌, ◌<◌, ◌≤◌, Bool, ◌||◌}
 use Rattle.std.proofs.Common.{List, [], ◌∷◌, ◌++◌, length, take, drop, get_or, refl, sym, ap}
-use Rattle.std.proofs.Common.{◌∙◌, lt-ltb, arith}
+use Rattle.std.proofs.Common.{subst, map, ◌∙◌, lt-ltb, arith}
 use Rattle.std.specs.Prelude.{nat_lt}
 use Rattle.std.proofs.lemmas.Grind.{common_steps}
 use Rattle.std.proofs.lemmas.List.{get_or-map, length-drop, length-map, length-take-le, map-append}
+use Rattle.std.proofs.lemmas.List.{map-id}
+use Rattle.std.proofs.lemmas.Simd.{map-map}
 use Rattle.codespan_picture.specs.Arguments.{locus_view}
-use Rattle.codespan_picture.specs.Snippets.{has_any}
+use Rattle.codespan_picture.specs.Snippets.{LabelInFile, has_any}
+use Rattle.codespan_core.specs.FileModel.{FileModel}
+use Rattle.codespan_views.specs.declared.labeled_files.LeastStarts.{LeastStarts}
 use Rattle.codespan_views.specs.declared.labeled_files.LabeledFile.{LabeledFile as RustFile}
-use Rattle.codespan_views.specs.Private.LabeledFiles.{ids_view, loci_view}
+use Rattle.codespan_views.specs.Private.LabeledFiles.{AreLabeledFiles, ids_view, loci_view}
+use Rattle.codespan_views.specs.Private.LabeledFiles.{with_labels, without_locus}
+use Rattle.codespan_views.specs.Private.FileIndices.{IsIdAt}
+use Rattle.codespan_views.proofs.FileIndices.{at-get}
 use Rattle.codespan_views.proofs.IndexedElements.{IsElementAt, take-at}
 
 -- no element from the end on
@@ -24,10 +31,7 @@ drop-end (x ∷ xs) (suc k) past = drop-end xs k (omega arith)
 -- a snippet is followed by another one, or by notes
 followed-is : {X : Type 0} (has_notes : Bool) (ys : List X)
     → (has_any ys || has_notes) ≡ (has_notes || nat_lt 0 (length ys))
-followed-is true [] = refl
-followed-is false [] = refl
-followed-is true (y ∷ ys) = refl
-followed-is false (y ∷ ys) = sym (lt-ltb 0 (length (y ∷ ys)) (omega arith))
+followed-is has_notes ys = grind (arith, common_steps, lt-ltb)
 
 -- something is left of a difference
 left-over : (a b : ℕ) → nat_lt 0 (b - a) ≡ nat_lt a b
@@ -36,16 +40,22 @@ left-over a b = grind (arith, common_steps)
 -- something follows where there are notes or another file
 pub followed-at : {X : Type 0} (b : Bool) (xs : List X) (k : ℕ)
     → (has_any (drop (k + 1) xs) || b) ≡ (b || nat_lt (k + 1) (length xs))
-followed-at has_notes xs k =
-    followed-is has_notes (drop (k + 1) xs)
-    ∙ ap (λ n. has_notes || nat_lt 0 n) (length-drop (k + 1) xs)
-    ∙ ap (λ (b : Bool). has_notes || b) (left-over (k + 1) (length xs))
+followed-at has_notes xs k = grind (arith, common_steps, followed-is, length-drop, left-over)
 
 -- ---- the file at an index
 
 -- there are as many ids as files
 pub ids-count : {Id : Type 0} (files : List (RustFile Id)) → length (ids_view files) ≡ length files
 ids-count {Id} files = length-map files (λ (f : RustFile Id). f.file_id)
+
+-- files with the labels of these ids have these ids
+pub ids-of_labels : {Id : Type 0} {same : Id → Id → Bool} {file : Id → FileModel}
+    {xs : List (LabelInFile Id)} {files : List (RustFile Id)} {ids : List Id}
+    → AreLabeledFiles same file xs ids files → ids_view files ≡ ids
+ids-of_labels {Id} {same} {file} {xs} {files} {ids} labeled =
+    let name : Id × LeastStarts × ℕ → Id = λ t. t.0 in
+    sym (map-map name without_locus files) ∙ ap (map name) labeled.are
+    ∙ map-map name (with_labels same file xs) ids ∙ map-id ids
 
 module _ {Id : Type 0} {files : List (RustFile Id)} {k : ℕ} {f : RustFile Id}
     (at : IsElementAt files k f) where
@@ -54,20 +64,31 @@ module _ {Id : Type 0} {files : List (RustFile Id)} {k : ℕ} {f : RustFile Id}
   id-inside = omega (arith, at.inside, ids-count files)
 
   pub id-at : f.file_id ≡ get_or (ids_view files) k f.file_id
-  id-at =
-      ap (λ (g : RustFile Id). g.file_id) at.is
-      ∙ sym (get_or-map (λ (g : RustFile Id). g.file_id) files k f f.file_id at.inside)
+  id-at = grind (arith, common_steps, get_or-map)
+
+  pub is-id : IsIdAt (ids_view files) k f.file_id
+  is-id = subst (IsIdAt (ids_view files) k) (sym id-at) (at-get (ids_view files) k f.file_id id-inside)
+
+  -- it has the labels of its id, where each file has those of the one of these ids
+  pub labels-at : {same : Id → Id → Bool} {file : Id → FileModel} {xs : List (LabelInFile Id)}
+      {ids : List Id} → AreLabeledFiles same file xs ids files
+      → without_locus f ≡ with_labels same file xs f.file_id
+  labels-at {same} {file} {xs} {ids} labeled =
+      let long : length files ≡ length ids = sym (length-map files without_locus) ∙ ap length labeled.are
+      ∙ length-map ids (with_labels same file xs) in
+      let there : without_locus f ≡ with_labels same file xs (get_or ids k f.file_id) =
+      ap without_locus at.is ∙ sym (get_or-map without_locus files k f (without_locus f) at.inside)
+      ∙ ap (λ all. get_or all k (without_locus f)) labeled.are
+      ∙ get_or-map (with_labels same file xs) ids k f.file_id (without_locus f)
+      (omega (arith, at.inside, long)) in
+      there ∙ ap (with_labels same file xs) (sym (ap (λ t. t.0) there))
 
   pub locus-inside : k < length (loci_view files)
   locus-inside =
       omega (arith, at.inside, length-map files (λ (g : RustFile Id). locus_view g.locus))
 
   pub locus-at : locus_view f.locus ≡ get_or (loci_view files) k (locus_view f.locus)
-  locus-at =
-      ap (λ (g : RustFile Id). locus_view g.locus) at.is
-      ∙ sym
-      (get_or-map (λ (g : RustFile Id). locus_view g.locus) files k f (locus_view f.locus)
-      at.inside)
+  locus-at = grind (arith, common_steps, get_or-map)
 
   -- how many files are before it
   pub files_before : length (take k files) ≡ k
@@ -75,6 +96,4 @@ module _ {Id : Type 0} {files : List (RustFile Id)} {k : ℕ} {f : RustFile Id}
 
   -- the ids of these, and its own
   pub ids-more : ids_view (take (k + 1) files) ≡ ids_view (take k files) ++ f.file_id ∷ []
-  ids-more =
-      ap ids_view (take-at at)
-      ∙ map-append (λ (g : RustFile Id). g.file_id) (take k files) (f ∷ [])
+  ids-more = grind (arith, common_steps, take-at, map-append)

@@ -1,10 +1,9 @@
 -- The known numbers of filled lines, taken one after another, and what is between two shown lines:
 -- for the clauses of `render_lines` and `render_snippets`.
-use Rattle.std.proofs.Common.{◌≡◌, ℕ, zero, suc, ◌+◌, ◌-◌, ◌<◌, List, [], ◌∷◌, ◌++◌, length, drop}
-use Rattle.std.proofs.Common.{Bor, Option, Some, None, refl, sym, subst, ap, ◌∙◌, arith}
-use Rattle.std.proofs.Common.{append_assoc}
+use Rattle.std.proofs.Common.{◌≡◌, ℕ, suc, ◌-◌, ◌<◌, List, [], ◌∷◌, ◌++◌, length, drop, Bor, Option}
+use Rattle.std.proofs.Common.{None, refl, sym, subst, ap, ◌∙◌, arith, append_assoc}
 use Rattle.std.specs.Prelude.{flat_map, slice_get}
-use Rattle.std.proofs.lemmas.Grind.{flat_map-append}
+use Rattle.std.proofs.lemmas.Grind.{common_steps, flat_map-append}
 use Rattle.std.proofs.lemmas.List.{drop-drop, nil_from_length}
 use Rattle.std.specs.Option.{option_copied}
 use Rattle.std.specs.Slice.Iter.{iter_rest, iter_steps}
@@ -29,14 +28,11 @@ module _ (hidden next : List Annotation) (d : ℕ) where
 
   -- more
   pub gap-break : (n : ℕ) → 1 < n → gap_lines hidden next d n ≡ Break next ∷ []
-  gap-break zero more = absurd (omega arith)
-  gap-break (suc zero) more = absurd (omega arith)
-  gap-break (suc (suc n)) more = refl
+  gap-break n more = grind (arith, common_steps)
 
   -- none
   pub gap-none : (n : ℕ) → n < 1 → gap_lines hidden next d n ≡ []
-  gap-none zero none = refl
-  gap-none (suc n) none = absurd (omega arith)
+  gap-none n none = grind (arith, common_steps)
 
 -- ---- numbers of lines, and then of others
 
@@ -47,8 +43,7 @@ filled-append xs ys = flat_map-append filled_line_of xs ys
 
 -- numbers are left out one after another
 drop-one_more : (n : ℕ) (numbers : List ℕ) → drop n (drop 1 numbers) ≡ drop (suc n) numbers
-drop-one_more n numbers = let e : 1 + n ≡ suc n = omega arith in
-    drop-drop n 1 numbers ∙ ap (λ k. drop k numbers) e
+drop-one_more n numbers = grind (arith, common_steps, drop-drop)
 
 -- the lookups of some filled lines, and then of others
 pub lookups_with-append : (numbers ls ms : List ℕ)
@@ -81,8 +76,7 @@ IsLaterIn Unbroken later = Unit {0}
 
 -- so without numbers none is left of them
 drop-nothing : (n : ℕ) → drop {A = ℕ} n [] ≡ []
-drop-nothing zero = refl
-drop-nothing (suc n) = refl
+drop-nothing n = grind (arith, common_steps)
 
 module _ (f : FileModel) where
   -- the lookups of lines of which no number is known
@@ -96,17 +90,13 @@ module _ (f : FileModel) where
       → lookups_with (known_numbers Unbroken f ls ++ later) ls
       ≡ flat_map (filled_line_lookups Unbroken) ls
   lookups-all [] later = refl
-  lookups-all (l ∷ ls) later =
-      ap (λ (r : List Lookup). lookups_of_filled (Some (f.line_number l)) l ++ r)
-      (lookups-all ls later)
+  lookups-all (l ∷ ls) later = grind (arith, common_steps, lookups-all ls later)
 
   -- the lookups of lines in a layout
   pub lookups-known : (layout : Layout) (ls later : List ℕ) → IsLaterIn layout later
       → lookups_with (known_numbers layout f ls ++ later) ls
       ≡ flat_map (filled_line_lookups layout) ls
-  lookups-known Classic ls later none =
-      ap (λ (ns : List ℕ). lookups_with ns ls) none ∙ lookups-unknown ls
-  lookups-known Unbroken ls later none = lookups-all ls later
+  lookups-known layout ls later none = grind (arith, common_steps, lookups-unknown, lookups-all)
 
   -- the numbers that are known are theirs
   none-known : (ls : List ℕ) → AreNumbersOf f [] ls
@@ -119,9 +109,7 @@ module _ (f : FileModel) where
 
   pub are-known : (layout : Layout) (ls later : List ℕ) → IsLaterIn layout later
       → AreNumbersOf f (known_numbers layout f ls ++ later) ls
-  are-known Classic ls later none =
-      subst (λ (ns : List ℕ). AreNumbersOf f ns ls) (sym none) (none-known ls)
-  are-known Unbroken ls later none = all-known ls later
+  are-known layout ls later none = grind (arith, common_steps, none-known, all-known)
 
   -- and the later ones are left
   all-taken : (ls later : List ℕ)
@@ -131,19 +119,11 @@ module _ (f : FileModel) where
 
   pub later-known : (layout : Layout) (ls later : List ℕ) → IsLaterIn layout later
       → drop (length ls) (known_numbers layout f ls ++ later) ≡ later
-  later-known Classic ls later none =
-      ap (drop (length ls)) none ∙ drop-nothing (length ls) ∙ sym none
-  later-known Unbroken ls later none = all-taken ls later
+  later-known layout ls later none = grind (arith, common_steps, drop-nothing, all-taken)
 
 -- ---- the next known number, of an iterator
 
 module _ (s t : Iter ℕ) (r : Option (Bor ℕ)) (steps : iter_steps s r t) where
   -- it is the first one that is left, if there is one
   pub next-number : option_copied r ≡ slice_get (iter_rest s) 0
-  next-number = by_result r steps
-    where
-      by_result : (o : Option (Bor ℕ)) → iter_steps s o t
-          → option_copied o ≡ slice_get (iter_rest s) 0
-      by_result None none =
-          ap (λ (ns : List ℕ). slice_get ns 0) (sym (nil_from_length (iter_rest s) none.0))
-      by_result (Some x) first = ap (λ (ns : List ℕ). slice_get ns 0) (sym first)
+  next-number = grind (arith, common_steps, nil_from_length)

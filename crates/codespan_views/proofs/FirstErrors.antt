@@ -1,5 +1,6 @@
 -- The first lookup that fails, and the first error of lookups one after another, for the clauses
--- `failed` of `collect_lines` and `collect_unsorted`.
+-- `failed` of `collect_lines` and `collect`.
+use Rattle.std.proofs.lemmas.Grind.{common_steps}
 use Rattle.std.proofs.Common.{◌≡◌, zero, suc, List, [], ◌∷◌, ◌++◌, Option, None, Some, refl, sym}
 use Rattle.std.proofs.Common.{ap, ◌∙◌, arith}
 use Rattle.std.proofs.lemmas.List.{map-append}
@@ -11,14 +12,12 @@ use Rattle.codespan_picture.specs.Lookups.{Failures, lookups_of_file, first_erro
 
 -- nothing fails after these
 pub or_failure-none : (o : Option Error) → or_failure o None ≡ o
-or_failure-none None = refl
-or_failure-none (Some e) = refl
+or_failure-none o = grind (arith, common_steps)
 
 -- three in a row
 pub or_failure_assoc : (o p q : Option Error)
     → or_failure (or_failure o p) q ≡ or_failure o (or_failure p q)
-or_failure_assoc None p q = refl
-or_failure_assoc (Some e) p q = refl
+or_failure_assoc o p q = grind (arith, common_steps)
 
 -- an error of the first lookups is that of all, whatever is looked up after them
 pub or_failure-some : (o p : Option Error) (e : Error) → o ≡ Some e → or_failure o p ≡ Some e
@@ -53,8 +52,7 @@ module _ {Id : Type 0} (failure : Failures Id) where
       ∙ or_failure-succeeded (first_error failure ls) (first_error failure ms) h
 
   first_succeeded : (o p : Option Error) → or_failure o p ≡ None → (o ≡ None) × (p ≡ None)
-  first_succeeded None p h = (refl, h)
-  first_succeeded (Some x) p h = cc
+  first_succeeded o p h = grind (arith, common_steps)
 
   -- where nothing fails, each lookup succeeds
   pub all_succeed : (ls : List (Id × Lookup)) → first_error failure ls ≡ None
@@ -69,6 +67,4 @@ module _ {Id : Type 0} (failure : Failures Id) where
   pub first_error-lookups : (id : Id) (ls ms : List Lookup)
       → first_error failure (lookups_of_file id (ls ++ ms)) ≡ or_failure
       (first_error failure (lookups_of_file id ls)) (first_error failure (lookups_of_file id ms))
-  first_error-lookups id ls ms =
-      ap (first_error failure) (map-append (λ (l : Lookup). (id, l)) ls ms)
-      ∙ first_error-append (lookups_of_file id ls) (lookups_of_file id ms)
+  first_error-lookups id ls ms = grind (arith, common_steps, map-append, first_error-append)

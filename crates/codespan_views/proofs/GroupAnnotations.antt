@@ -1,15 +1,15 @@
 -- The annotations of a line, for the rows that are made of them and so for the clauses of
 -- `render_snippets` and `RichDiagnostic::render`.
-use Rattle.std.proofs.Common.{◌≡◌, ℕ, ◌≤◌, Bool, true, false, cond, ◌==◌, ◌&&◌, ◌||◌, List, [], ◌∷◌}
-use Rattle.std.proofs.Common.{◌++◌, map, filter, reverse, Option, Some, None, refl, sym, ◌∙◌, ap}
-use Rattle.std.proofs.Common.{arith}
+use Rattle.std.proofs.lemmas.Grind.{common_steps}
+use Rattle.std.proofs.Common.{◌≡◌, ℕ, ◌≤◌, Bool, true, false, cond, ◌==◌, ◌||◌, List, [], ◌∷◌, ◌++◌}
+use Rattle.std.proofs.Common.{map, filter, reverse, Option, refl, sym, ◌∙◌, ap, arith}
 use Rattle.std.specs.List.{list_any, cons_option, AllByRecursion}
 use Rattle.std.proofs.lemmas.Bool.{le-ltb, ltb-false}
 use Rattle.std.proofs.lemmas.List.{append-nil}
 use Rattle.std.proofs.lemmas.List.Elements.{filter_map-append, filter_agree}
 use Rattle.codespan_core.specs.Labels.{LaneMark, LabelModel}
-use Rattle.codespan_views.specs.Private.Annotations.{Annotation, AnnotationKind, Shown, Single}
-use Rattle.codespan_views.specs.Private.Annotations.{Multi, rank_of, is_before, shows_line}
+use Rattle.codespan_views.specs.Private.Annotations.{Annotation, AnnotationKind, Single}
+use Rattle.codespan_views.specs.Private.Annotations.{rank_of, is_before, shows_line}
 use Rattle.codespan_views.specs.Private.SnippetLines.{are_shown, lane_mark_of_kind, lane_marks_in}
 use Rattle.codespan_views.specs.Private.SnippetLines.{single_label_of, single_labels_in}
 use Rattle.codespan_views.proofs.AnnotationGroups.{IsRising}
@@ -39,8 +39,7 @@ single_labels-of_range start end (x ∷ xs) = by_kind x.kind (single_labels-of_r
         ≡ single_labels_in
         (cond b (record x { kind = Single p y } ∷ filter (is_of_range start end) xs)
         (filter (is_of_range start end) xs))
-    by_test p y true rest = ap (λ (r : List LabelModel). y ∷ r) rest
-    by_test p y false rest = rest
+    by_test p y b rest = grind (arith, common_steps)
 
     by_kind : (s : AnnotationKind)
         → filter (has_range start end) (single_labels_in xs) ≡ single_labels_in
@@ -50,23 +49,12 @@ single_labels-of_range start end (x ∷ xs) = by_kind x.kind (single_labels-of_r
         (cond (has_label_range start end (single_label_of s))
         (record x { kind = s } ∷ filter (is_of_range start end) xs)
         (filter (is_of_range start end) xs))
-    by_kind Shown rest = rest
-    by_kind (Single p y) rest = by_test p y (has_range start end y) rest
-    by_kind (Multi m) rest = rest
+    by_kind s rest = grind (arith, common_steps, by_test, has_range)
 
 -- they are annotations of labels inside the line
 pub range-rank : (start end : ℕ) (es : List Annotation)
     → filter (is_of_range start end) (filter (is_kind 1) es) ≡ filter (is_of_range start end) es
-range-rank start end es =
-    filter-filter (is_of_range start end) (is_kind 1) es
-    ∙ filter_agree _ (is_of_range start end) (λ e. by_kind e.kind) es
-  where
-    by_kind : (s : AnnotationKind)
-        → ((rank_of s == 1) && has_label_range start end (single_label_of s)) ≡ has_label_range
-        start end (single_label_of s)
-    by_kind Shown = refl
-    by_kind (Single p y) = refl
-    by_kind (Multi m) = refl
+range-rank start end es = grind (arith, common_steps, filter-filter, filter_agree)
 
 -- the lane marks are the annotations of their kind
 pub lane_marks-rank : (es : List Annotation)
@@ -78,9 +66,7 @@ lane_marks-rank (x ∷ xs) = by_kind x.kind (lane_marks-rank xs)
         → cons_option (lane_mark_of_kind s) (lane_marks_in xs) ≡ lane_marks_in
         (cond (rank_of s == 2) (record x { kind = s } ∷ filter (is_kind 2) xs)
         (filter (is_kind 2) xs))
-    by_kind Shown rest = rest
-    by_kind (Single p y) rest = rest
-    by_kind (Multi m) rest = ap (λ (ms : List LaneMark). m ∷ ms) rest
+    by_kind s rest = grind (arith, common_steps)
 
 -- those of annotations of lane marks
 pub lane_marks-of_annotations : (f l : ℕ) (ms : List LaneMark)
@@ -102,8 +88,7 @@ single_labels-reverse (x ∷ xs) =
     by_option : (o : Option LabelModel)
         → reverse (single_labels_in xs) ++ cons_option o [] ≡ reverse
         (cons_option o (single_labels_in xs))
-    by_option None = append-nil (reverse (single_labels_in xs))
-    by_option (Some y) = sym (reverse-cons y (single_labels_in xs))
+    by_option o = grind (arith, common_steps, append-nil, reverse-cons)
 
 -- the first annotation of a line shows it if any does
 pub first-shows : (f l : ℕ) (g : List Annotation) → AllByRecursion (IsOn f l) g → Rises is_before g
@@ -113,10 +98,7 @@ first-shows f l (x ∷ xs) on up = by_test (shows_line x) refl
   where
     later : shows_line x ≡ false → (y : Annotation) → IsOn f l y × (is_before y x ≡ false)
         → shows_line y ≡ false
-    later t y h =
-        let kinds = kind_rises x y (on.0.0 ∙ sym h.0.0) (on.0.1 ∙ sym h.0.1) h.1 in
-        let high : 2 ≤ rank_of x.kind = ltb-false (rank_of x.kind) 2 t in
-        le-ltb (rank_of y.kind) 2 (omega (arith, kinds, high))
+    later t y h = grind (arith, common_steps, kind_rises, ltb-false, le-ltb)
 
     by_test : (b : Bool) → shows_line x ≡ b → b ≡ (b || list_any shows_line xs)
     by_test true t = refl

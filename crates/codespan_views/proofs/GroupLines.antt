@@ -1,5 +1,6 @@
 -- `lines_from` over annotations in order, group by group, for the clauses
 -- of `render_lines`.
+use Rattle.std.proofs.lemmas.Grind.{common_steps}
 use Rattle.std.proofs.Common.{◌≡◌, ℕ, suc, ◌<◌, true, false, cond, List, [], ◌∷◌, ◌++◌, take, drop}
 use Rattle.std.proofs.Common.{Option, Some, refl, sym, ◌∙◌, ap, subst, arith}
 use Rattle.std.specs.List.{prefix_len}
@@ -56,9 +57,7 @@ module _ {xs : List Annotation} {x : Annotation} {n : ℕ} (next : IsGroup xs x 
 
   -- what `lines_from` makes of the next group
   by_group : lines_from previous hidden (groups xs) ≡ cond (shows_line x) where_shown where_hidden
-  by_group =
-      ap (lines_from previous hidden) next.first
-      ∙ ap (λ b. cond b where_shown where_hidden) next.shown
+  by_group = grind (arith, common_steps)
 
   -- a shown line is next: the snippet lines up to it, and then the others
   pub snippet_lines-next : shows_line x ≡ true

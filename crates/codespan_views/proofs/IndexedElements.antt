@@ -1,9 +1,9 @@
--- Elements of lists at their indices, for the clauses of `collect_unsorted`, `first_file` and
--- `last_file`.
-use Rattle.std.proofs.Common.{◌≡◌, ℕ, suc, ◌+◌, ◌<◌, List, [], ◌∷◌, ◌++◌, length, take, drop}
-use Rattle.std.proofs.Common.{get_or, set, map, sym, ap, subst, ◌∙◌, arith}
+-- Elements of lists at their indices, for the clauses of `collect` and `find_file`.
+use Rattle.std.proofs.lemmas.Grind.{common_steps}
+use Rattle.std.proofs.Common.{◌≡◌, ℕ, ◌+◌, ◌<◌, List, [], ◌∷◌, ◌++◌, length, take, drop}
+use Rattle.std.proofs.Common.{get_or, sym, ap, subst, ◌∙◌, arith}
 use Rattle.std.proofs.Math.Seq.{drop-cons}
-use Rattle.std.proofs.lemmas.List.{get_or-map, map-set, take_more}
+use Rattle.std.proofs.lemmas.List.{take_more}
 
 -- the element at an index of a list
 pub record IsElementAt {X : Type 0} (xs : List X) (index : ℕ) (x : X) : Type 0 where
@@ -27,16 +27,4 @@ take-at {X} {xs} {index} {x} at =
 -- the elements from one on: that one, and those after it
 pub drop-one : {X : Type 0} (xs : List X) (k : ℕ) (x : X) → k < length xs → x ≡ get_or xs k x
     → drop k xs ≡ x ∷ drop (k + 1) xs
-drop-one {X} xs k x inside is =
-    drop-cons xs k x inside ∙ ap (λ (y : X). y ∷ drop (suc k) xs) (sym is)
-    ∙ (let e : suc k ≡ k + 1 = omega arith in ap (λ n. x ∷ drop n xs) e)
-
--- what is known of each element, where the one at the index changes
-pub map-changed : {X A : Type 0} (h : X → A) (d : A) (change : A → A) {xs : List X} {index : ℕ}
-    {x : X}
-    → IsElementAt xs index x → (new : X) → h new ≡ change (h x)
-    → map h (set xs index new) ≡ set (map h xs) index (change (get_or (map h xs) index d))
-map-changed h d change {xs} {index} {x} at new is =
-    map-set h xs index new
-    ∙ ap (set (map h xs) index)
-    (is ∙ ap change (ap h at.is ∙ sym (get_or-map h xs index x d at.inside)))
+drop-one {X} xs k x inside is = grind (arith, common_steps, drop-cons, inside, is)

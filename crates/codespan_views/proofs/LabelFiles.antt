@@ -1,6 +1,7 @@
--- The files of labels, one label after another, for the clause `collected` of `collect_unsorted`.
-use Rattle.std.proofs.Common.{◌≡◌, ◌<◌, Bool, true, false, List, [], ◌∷◌, ◌++◌, length, map, arith}
-use Rattle.std.proofs.Common.{refl, sym, ap, subst, ◌∙◌}
+-- The files of labels, one label after another, for the clause `collected` of `collect`.
+use Rattle.std.proofs.lemmas.Grind.{common_steps}
+use Rattle.std.proofs.Common.{rules, ◌≡◌, ◌<◌, Bool, true, false, List, [], ◌∷◌, ◌++◌, length, map}
+use Rattle.std.proofs.Common.{arith, refl, sym, ap, subst, ◌∙◌}
 use Rattle.std.specs.Prelude.{if◌then◌else◌}
 use Rattle.std.specs.Cmp.{IsEquivalence}
 use Rattle.std.specs.List.{AllByRecursion}
@@ -34,15 +35,11 @@ module _ {Id : Type 0} {same : Id → Id → Bool} (o : IsEquivalence same) (xs 
 
   -- the files of labels have them
   all-there : AllByRecursion (λ (y : LabelInFile Id). has same o were y.file_id ≡ true) xs
-  all-there =
-      recursion_from_All (λ (y : LabelInFile Id). has same o were y.file_id ≡ true) xs
-      (λ k d h. file_ids-has same o xs k d h)
+  all-there = grind (arith, common_steps, recursion_from_All, file_ids-has)
 
   -- the indices of ids that are there are unchanged
   stays : (i : Id) → has same o were i ≡ true → index_of_file same are i ≡ index_of_file same were i
-  stays i there =
-      ap (λ (js : List Id). index_of_file same js i) (file_ids-more same o xs x)
-      ∙ index-stays same o were x.file_id i there
+  stays i there = search (rules, file_ids-more, index-stays)
 
   -- what is known of each file, where the label is not of it
   pub known-more : {A : Type 0} {d : A} {known now : List A} (h : Id → A)
@@ -56,10 +53,7 @@ module _ {Id : Type 0} {same : Id → Id → Bool} (o : IsEquivalence same) (xs 
       by : (b : Bool) → (b ≡ false → h x.file_id ≡ d)
           → (if b then map h were else map h were ++ d ∷ []) ≡ map h
           (if b then were else were ++ x.file_id ∷ [])
-      by true known = refl
-      by false known =
-          ap (λ v. map h were ++ v ∷ []) (sym (known refl))
-          ∙ sym (map-append h were (x.file_id ∷ []))
+      by b known = grind (arith, common_steps, map-append)
 
   module _ (file : Id → FileModel) (config : Config) where
     -- the annotations of labels of these files stay

@@ -1,5 +1,5 @@
 -- Labels one after another, with the files of those up to this one, for the clause `collected` of
--- `collect_unsorted`.
+-- `collect`.
 use Rattle.std.proofs.Common.{◌≡◌, ℕ, ◌+◌, ◌<◌, Bool, true, List, [], ◌∷◌, ◌++◌, length, take}
 use Rattle.std.proofs.Common.{get_or, map, sym, ap, ◌∙◌, arith}
 use Rattle.std.specs.Cmp.{IsEquivalence}

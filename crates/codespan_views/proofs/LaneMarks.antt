@@ -1,13 +1,16 @@
 -- The order of the lane marks on a line, for the clauses `in_order` of `render_line` and
 -- `render_break`, and those of `render_snippets` and `RichDiagnostic::render`.
+use Rattle.std.proofs.lemmas.Grind.{common_steps}
 use Rattle.std.proofs.Common.{◌≡◌, ℕ, ◌+◌, ◌≤◌, Bool, true, false, ◌&&◌, List, [], ◌∷◌, length, map}
-use Rattle.std.proofs.Common.{Option, Some, None, refl, sym, arith, nat_le, nat_lt, true≢false}
+use Rattle.std.proofs.Common.{Option, Some, None, refl, sym, ap, ◌∙◌, arith, nat_le, nat_lt}
+use Rattle.std.proofs.Common.{true≢false}
 use Rattle.std.specs.List.{AllByRecursion, enumerate_from, filter_map, cons_option}
 use Rattle.std.proofs.lemmas.Bool.{leb-true}
 use Rattle.std.proofs.lemmas.Bool.Decides.{nat_tests}
 use Rattle.codespan_core.specs.FileModel.{FileModel}
 use Rattle.codespan_core.specs.Labels.{LabelModel, LaneMark, MultiLabel, lane_mark_of}
 use Rattle.codespan_core.specs.Labels.{lane_marks_on, multi_line_labels, multi_label_on}
+use Rattle.codespan_picture.specs.Arguments.{LaneMarkTuple, lane_mark_view, lanes_in_order}
 use Rattle.codespan_picture.specs.Arguments.{ascend_from}
 use Rattle.codespan_picture.specs.Snippets.{LabeledFileModel, num_multi_labels}
 use Rattle.codespan_views.specs.Private.Annotations.{is_before}
@@ -37,25 +40,18 @@ ascend-from f l count n least (y ∷ ys) low total =
         → ((k : ℕ) → k ≤ n + 1 → ascend_from count k (marks_from f l (n + 1) ys) ≡ true)
         → ascend_from count least
         (cons_option (lane_mark_of n y o) (marks_from f l (n + 1) ys)) ≡ true
-    by_multi_label None rest = rest least (omega arith)
-    by_multi_label (Some multi_label) rest =
-        let a : nat_le least n ≡ true = grind (arith, nat_tests) in
-        let b : nat_lt n count ≡ true = grind (arith, nat_tests) in
-        rw (a, b) (rest (n + 1) (omega arith))
+    by_multi_label o rest = grind (arith, common_steps, nat_le, nat_tests, nat_lt)
 
 -- the lane marks of a line ascend in the lanes of its file
 pub lane_marks-ascend : (s : LabeledFileModel) (l : ℕ)
     → ascend_from (num_multi_labels s) 0 (lane_marks_on s.file s.labels l) ≡ true
-lane_marks-ascend s l =
-    ascend-from s.file l (num_multi_labels s) 0 0 (multi_line_labels s.file s.labels) (omega arith)
-    (omega arith)
+lane_marks-ascend s l = grind (arith, common_steps, ascend-from)
 
 -- ---- lane marks that ascend
 
 -- both of two are true
 pub both-true : (a b : Bool) → (a && b) ≡ true → (a ≡ true) × (b ≡ true)
-both-true true b h = (refl, h)
-both-true false b h = absurd (true≢false (sym h))
+both-true a b h = grind (arith, common_steps)
 
 -- they are in no lesser lane
 ascend-above : (count least : ℕ) (ms : List LaneMark) → ascend_from count least ms ≡ true

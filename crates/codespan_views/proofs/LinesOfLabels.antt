@@ -1,8 +1,9 @@
 -- The lines of a range, and those that are not looked up for a label, for the clause `collected`
--- of `collect_unsorted`.
+-- of `collect`.
+use Rattle.std.proofs.lemmas.Grind.{common_steps}
 use Rattle.std.proofs.Common.{◌≡◌, ◌≢◌, ℕ, zero, suc, ◌+◌, ◌<◌, Bool, true, false, cond, ◌==◌}
-use Rattle.std.proofs.Common.{nat_lt, nat_le, ◌&&◌, ◌||◌, List, [], ◌∷◌, ◌++◌, filter, flat_map}
-use Rattle.std.proofs.Common.{None, ⊎_elim, refl, sym, ◌∙◌, ap, arith}
+use Rattle.std.proofs.Common.{nat_lt, nat_le, ◌&&◌, ◌||◌, List, [], ◌∷◌, filter, flat_map}
+use Rattle.std.proofs.Common.{None, ⊎_elim, sym, ◌∙◌, ap, arith}
 use Rattle.std.specs.List.{range_with_len, AllByRecursion}
 use Rattle.std.proofs.lemmas.Bool.{cases_eq, cond_both, eq-eqb, ne_eqb}
 use Rattle.std.proofs.lemmas.Bool.Decides.{nat_tests}
@@ -63,17 +64,11 @@ module _ (g : ℕ → List Annotation) (own : (l : ℕ) → AllByRecursion (λ e
     (p : ℕ → Bool) where
   -- the elements of a line are kept for it
   keeps-own : (l : ℕ) → filter (is_on_line l) (g l) ≡ g l
-  keeps-own l =
-      filter-whole (is_on_line l) (g l)
-      (all-weaker (λ e. e.line ≡ l) (λ e. is_on_line l e ≡ true) (λ e h. eq-eqb e.line l h) (g l)
-      (own l))
+  keeps-own l = grind (arith, common_steps, filter-whole, all-weaker, eq-eqb)
 
   -- those of another line are not
   keeps-other : (a l : ℕ) → a ≢ l → filter (is_on_line l) (g a) ≡ []
-  keeps-other a l ne =
-      filter-nothing (is_on_line l) (g a)
-      (all-weaker (λ e. e.line ≡ a) (λ e. is_on_line l e ≡ false)
-      (λ e h. ne_eqb e.line l (λ k. ne (sym h ∙ k))) (g a) (own a))
+  keeps-other a l ne = grind (arith, common_steps, filter-nothing, all-weaker, ne_eqb)
 
   -- a line has its elements, where it is one of the lines
   pub on-line : (l n a : ℕ)
@@ -104,12 +99,7 @@ module _ (g : ℕ → List Annotation) (own : (l : ℕ) → AllByRecursion (λ e
           by_test : filter (is_on_line l) (flat_map g rest_lines) ≡ [] → (b : Bool)
               → filter (is_on_line l) (flat_map g (cond b (a ∷ rest_lines) rest_lines)) ≡ cond b
               (g a) []
-          by_test none true =
-              filter-append (is_on_line l) (g a) (flat_map g rest_lines)
-              ∙ ap (λ (r : List Annotation). filter (is_on_line l) (g a) ++ r) none
-              ∙ append-nil (filter (is_on_line l) (g a))
-              ∙ ap (λ k. filter (is_on_line k) (g a)) (sym e) ∙ keeps-own a
-          by_test none false = none
+          by_test none b = grind (arith, common_steps, filter-append, rest_lines, append-nil, keeps-own)
 
       later : a ≢ l
           → filter (is_on_line l) (flat_map g rest_lines)
@@ -122,11 +112,7 @@ module _ (g : ℕ → List Annotation) (own : (l : ℕ) → AllByRecursion (λ e
           by_test : (b : Bool)
               → filter (is_on_line l) (flat_map g (cond b (a ∷ rest_lines) rest_lines)) ≡ filter
               (is_on_line l) (flat_map g rest_lines)
-          by_test true =
-              filter-append (is_on_line l) (g a) (flat_map g rest_lines)
-              ∙ ap (λ (r : List Annotation). r ++ filter (is_on_line l) (flat_map g rest_lines))
-              (keeps-other a l ne)
-          by_test false = refl
+          by_test b = grind (arith, common_steps, filter-append, rest_lines, keeps-other)
 
 -- ---- lines that are not looked up for a label
 
@@ -146,11 +132,7 @@ module _ (config : Config) where
   -- it has no multi-line label mark on another one
   pub no_multi_label : (s e l start : ℕ) (x : LabelModel) → looks_up s e l ≡ false
       → multi_label_at s e l start x ≡ None
-  no_multi_label s e l start x h =
-      let a : (s == l) ≡ false = grind (arith, nat_tests) in
-      let b : (e == l) ≡ false = grind (arith, nat_tests) in
-      let c : (nat_lt s l && nat_lt l e) ≡ false = grind (arith, nat_tests) in
-      rw (a, b, c) refl
+  no_multi_label s e l start x h = grind (arith, common_steps, nat_tests, nat_lt)
 
   -- it shows the line that it starts on
   pub own_shown : (s e l : ℕ) → (s == l) ≡ true → shows config s e l ≡ true

@@ -16,14 +16,15 @@ use Rattle.codespan_picture.specs.Lookups.{Failures, first_error, lookups_of_fil
 use Rattle.codespan_picture.proofs.ListElements.{all-append}
 use Rattle.codespan_views.specs.declared.labeled_files.LabeledFile.{LabeledFile as RustFile}
 use Rattle.codespan_views.specs.declared.labeled_files.LeastStarts.{LeastStarts}
-use Rattle.codespan_views.specs.Private.EarlyLookups.{KeepsLabels, without_locus}
+use Rattle.codespan_views.specs.Private.EarlyLookups.{KeepsLabels}
+use Rattle.codespan_views.specs.Private.LabeledFiles.{without_locus}
 use Rattle.codespan_views.specs.Private.Loci.{HasLocus, locus_lookups_of, locus_lookups_of_files}
 use Rattle.codespan_views.specs.Private.LocusBytes.{locus_byte}
 use Rattle.codespan_views.proofs.FirstErrors.{first_error-none, first_error-some}
 use Rattle.codespan_views.proofs.IndexedElements.{IsElementAt, take-at}
 
 -- the lookups of a locus depend on what is known of the file's labels
-abbrev lookups_by : {Id : Type 0} → Id × LeastStarts × ℕ → List (Id × Lookup)
+abbrev pub lookups_by : {Id : Type 0} → Id × LeastStarts × ℕ → List (Id × Lookup)
 lookups_by t = lookups_of_file t.0 (Name ∷ LocationAt (locus_byte t.1) ∷ [])
 
 -- so files that keep that have the same lookups
@@ -47,10 +48,6 @@ module _ {Id : Type 0} (file : Id → FileModel) (failure : Failures Id) where
     pub succeeded : first_error failure (locus_lookups_of_files (take k now)) ≡ None
 
 module _ {Id : Type 0} {file : Id → FileModel} {failure : Failures Id} where
-  -- none has its locus
-  pub loci-start : {files : List (RustFile Id)} → LociFound file failure files files 0
-  loci-start = record { kept = refl; loci = tt; succeeded = refl }
-
   module _ {old now : List (RustFile Id)} {k : ℕ} (found : LociFound file failure old now k) where
     module _ {f : RustFile Id} (at : IsElementAt now k f) where
       -- the lookups up to this file are those before it, and its own

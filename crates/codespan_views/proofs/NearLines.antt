@@ -1,6 +1,6 @@
 -- The lines around the two ends of a label, for the clauses of `collect_lines`.
 use Rattle.std.proofs.Common.{◌≡◌, ℕ, ◌+◌, ◌<◌, ◌≤◌, Bool, true, false, ◌&&◌, ◌||◌, List, [], ◌∷◌}
-use Rattle.std.proofs.Common.{◌++◌, refl, ap, arith}
+use Rattle.std.proofs.Common.{◌++◌, refl, arith}
 use Rattle.std.specs.Prelude.{nat_lt, nat_le, if◌then◌else◌, filter, flat_map}
 use Rattle.std.proofs.lemmas.Grind.{common_steps}
 use Rattle.codespan_views.specs.Private.LabelSpans.{spans_line}
@@ -15,8 +15,7 @@ flat_map_filtered {X} h p (l ∷ ls) = by (p l) (flat_map_filtered h p ls)
         → flat_map h
         (if b then l ∷ filter p ls else filter p ls) ≡ (if b then h l else [])
         ++ flat_map (λ l. if p l then h l else []) ls
-    by true rest = ap (λ (xs : List X). h l ++ xs) rest
-    by false rest = rest
+    by b rest = grind (arith, common_steps)
 
 -- ---- the lines around two others, as far as `b` lines before them and `a` after them
 

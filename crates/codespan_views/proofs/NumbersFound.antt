@@ -1,12 +1,12 @@
 -- The numbers of filled lines, looked up one after another, and the padding width: for the clauses
 -- of `find_numbers_of_file` and `find_numbers`.
-use Rattle.std.proofs.Common.{◌≡◌, ℕ, zero, suc, ◌+◌, ◌-◌, ◌≤◌, List, [], ◌∷◌, ◌++◌, length, take}
-use Rattle.std.proofs.Common.{drop, max, Option, None, Some, refl, sym, subst, ap, ◌∙◌, append-nil}
+use Rattle.std.proofs.Common.{arith, ◌≡◌, ℕ, zero, suc, ◌+◌, ◌-◌, List, [], ◌∷◌, ◌++◌, take, drop}
+use Rattle.std.proofs.Common.{max, Option, None, Some, refl, sym, subst, ap, ◌∙◌, append-nil}
 use Rattle.std.proofs.Common.{append_assoc}
 use Rattle.std.specs.Prelude.{◌≢◌, fold}
 use Rattle.std.proofs.Math.Nat.{max_comm}
-use Rattle.std.proofs.lemmas.Grind.{flat_map-append}
-use Rattle.std.proofs.lemmas.List.{length-map, map-append, take-append-drop, take_all}
+use Rattle.std.proofs.lemmas.Grind.{common_steps, flat_map-append}
+use Rattle.std.proofs.lemmas.List.{length-map, map-append, take-append-drop}
 use Rattle.codespan_core.specs.declared.files.Error.{Error}
 use Rattle.codespan_core.specs.FileModel.{FileModel, Lookup, or_failure}
 use Rattle.codespan_core.specs.FileModel.Lookup.{LineNumber}
@@ -41,13 +41,7 @@ module _ {Id : Type 0} (failure : Failures Id) (id : Id) (f : FileModel) where
   -- the numbers of some snippet lines, and then those of others
   numbers_failed-append : (xs ys : List SnippetLine)
       → numbers_failed (xs ++ ys) ≡ or_failure (numbers_failed xs) (numbers_failed ys)
-  numbers_failed-append xs ys =
-      ap (λ (ls : List ℕ). first_error failure (lookups_of_file id (number_lookups ls)))
-      (flat_map-append filled_line_of xs ys)
-      ∙ ap (λ (ls : List Lookup). first_error failure (lookups_of_file id ls))
-      (map-append _ (filled_lines_of xs) (filled_lines_of ys))
-      ∙ first_error-lookups failure id (number_lookups (filled_lines_of xs))
-      (number_lookups (filled_lines_of ys))
+  numbers_failed-append xs ys = grind (arith, common_steps, flat_map-append, map-append, first_error-lookups)
 
   -- the numbers of these snippet lines were found: they are behind those before, and the padding
   -- was widened
@@ -282,11 +276,3 @@ module _ {Id : Type 0} {file : Id → FileModel} {failure : Failures Id} {es : L
         ids-split =
             ap ids_view (sym (take-append-drop (k + 1) files))
             ∙ map-append (λ (g : RustFile Id). g.file_id) (take (k + 1) files) (drop (k + 1) files)
-
-  -- past the last file the numbers of all were found
-  pub files-all : (files : List (RustFile Id)) {k : ℕ} {old now : List ℕ} {widened : ℕ}
-      → length files ≤ k → FilesFound file failure es (ids_view (take k files)) old now widened
-      → FilesFound file failure es (ids_view files) old now widened
-  files-all files {k} {old} {now} {widened} past found =
-      subst (λ fs. FilesFound file failure es (ids_view fs) old now widened) (take_all k files past)
-      found

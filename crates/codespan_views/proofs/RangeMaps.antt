@@ -3,7 +3,7 @@ use Rattle.std.proofs.Common.{◌≡◌, ℕ, zero, suc, ◌+◌, ◌-◌, ◌<�
 use Rattle.std.proofs.Common.{arith}
 use Rattle.std.specs.Prelude.{flat_map}
 use Rattle.std.specs.List.{range_with_len}
-use Rattle.std.proofs.lemmas.Grind.{flat_map-append}
+use Rattle.std.proofs.lemmas.Grind.{common_steps, flat_map-append}
 use Rattle.std.proofs.lemmas.List.{append-nil}
 use Rattle.codespan_picture.proofs.CaretLemmas.{range_with_len-append}
 
@@ -20,11 +20,7 @@ module _ {X : Type 0} (g : ℕ → List X) where
   -- the elements of one more number
   pub flat_map_more : (n : ℕ)
       → flat_map g (range_with_len 0 (n + 1)) ≡ flat_map g (range_with_len 0 n) ++ g n
-  flat_map_more n =
-      ap (flat_map g) (range_with_len-append 0 n 1)
-      ∙ flat_map-append g (range_with_len 0 n) (range_with_len (0 + n) 1)
-      ∙ ap (λ (xs : List X). flat_map g (range_with_len 0 n) ++ xs)
-      (append-nil (g (0 + n)) ∙ ap g (omega arith))
+  flat_map_more n = grind (arith, common_steps, range_with_len-append, flat_map-append, append-nil)
 
   -- where the numbers from one to another have no elements, those below each have the same
   pub flat_map_same : (n m : ℕ) → n ≤ m → ((l : ℕ) → n ≤ l → l < m → g l ≡ [])

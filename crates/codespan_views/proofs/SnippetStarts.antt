@@ -1,19 +1,18 @@
 -- The byte of a file's locus, by the least starts of its labels, is that of the definitions: for
 -- the clauses of `RichDiagnostic::render`.
-use Rattle.std.proofs.Common.{◌≡◌, ℕ, Bool, true, false, cond, ◌&&◌, List, [], ◌∷◌, map, filter}
-use Rattle.std.proofs.Common.{Option, Some, None, refl, sym, ap, ◌∙◌}
+use Rattle.std.proofs.lemmas.Grind.{common_steps}
+use Rattle.std.proofs.Common.{rules, arith, ◌≡◌, ℕ, Bool, true, false, cond, ◌&&◌, List, [], ◌∷◌}
+use Rattle.std.proofs.Common.{map, filter, Some, None, refl}
 use Rattle.std.specs.Prelude.{unwrap_or}
 use Rattle.codespan_core.specs.FileModel.{FileModel}
 use Rattle.codespan_core.specs.Labels.{LabelModel, is_primary}
-use Rattle.codespan_picture.specs.Snippets.{LabelInFile, if_any, labeled_file_model, least}
-use Rattle.codespan_picture.specs.Snippets.{locus_byte_of}
+use Rattle.codespan_picture.specs.Snippets.{LabelInFile, labeled_file_model, least, locus_byte_of}
 use Rattle.codespan_views.specs.Private.LocusBytes.{file_least_starts, is_locus_label, least_if_any}
 use Rattle.codespan_views.specs.Private.LocusBytes.{locus_byte, label_starts}
 
 -- the least of some numbers is that of those that there are
 least-unwrap : (ns : List ℕ) → unwrap_or (least_if_any ns) 0 ≡ least ns
-least-unwrap [] = refl
-least-unwrap (n ∷ ns) = refl
+least-unwrap ns = grind (arith, common_steps)
 
 module _ {Id : Type 0} (same : Id → Id → Bool) (file : Id → FileModel) (id : Id) where
   -- the starts of the primary labels of the file
@@ -36,8 +35,7 @@ module _ {Id : Type 0} (same : Id → Id → Bool) (file : Id → FileModel) (id
           ≡ map (λ (y : LabelModel). y.start)
           (cond c (x.label ∷ filter is_primary (map (λ (y : LabelInFile Id). y.label) own))
           (filter is_primary (map (λ (y : LabelInFile Id). y.label) own)))
-      unchanged true rest = ap (λ (ns : List ℕ). x.label.start ∷ ns) rest
-      unchanged false rest = rest
+      unchanged c rest = grind (arith, common_steps)
 
       by : (b : Bool)
           → label_starts same id true xs ≡ map (λ (y : LabelModel). y.start)
@@ -46,8 +44,7 @@ module _ {Id : Type 0} (same : Id → Id → Bool) (file : Id → FileModel) (id
           (cond (b && is_primary x.label) (x ∷ candidates) candidates)
           ≡ map (λ (y : LabelModel). y.start)
           (filter is_primary (map (λ (y : LabelInFile Id). y.label) (cond b (x ∷ own) own)))
-      by true rest = unchanged (is_primary x.label) rest
-      by false rest = rest
+      by b rest = grind (arith, common_steps, unchanged)
 
   -- the starts of all its labels
   all-starts : (xs : List (LabelInFile Id))
@@ -66,50 +63,22 @@ module _ {Id : Type 0} (same : Id → Id → Bool) (file : Id → FileModel) (id
           (map (λ (x : LabelInFile Id). x.label)
           (cond b (x ∷ filter (λ (x : LabelInFile Id). same id x.file_id) xs)
           (filter (λ (x : LabelInFile Id). same id x.file_id) xs)))
-      by true rest = ap (λ (ns : List ℕ). x.label.start ∷ ns) rest
-      by false rest = rest
+      by b rest = grind (arith, common_steps)
 
   -- the least start of a primary label, where there is one
   locus-primary : (xs : List (LabelInFile Id)) (n : ℕ)
       → least_if_any (label_starts same id true xs) ≡ Some n
       → n ≡ locus_byte_of (labeled_file_model same file xs id).labels
-  locus-primary xs n is =
-      by (filter is_primary labels) (ap least_if_any (sym (primary-starts xs)) ∙ is)
-    where
-      labels : List LabelModel
-      labels = (labeled_file_model same file xs id).labels
-
-      by : (ls : List LabelModel) → least_if_any (map (λ (x : LabelModel). x.start) ls) ≡ Some n
-          → n ≡ least (map (λ (x : LabelModel). x.start) (if_any ls labels))
-      by [] h = cc
-      by (l ∷ ls) h = cc
+  locus-primary xs n is = grind (arith, common_steps, primary-starts)
 
   -- or that of any label
   locus-any : (xs : List (LabelInFile Id)) (n : ℕ) → least_if_any (label_starts same id true xs) ≡ None
       → n ≡ unwrap_or (least_if_any (label_starts same id false xs)) 0
       → n ≡ locus_byte_of (labeled_file_model same file xs id).labels
-  locus-any xs n none is =
-      is ∙ ap (λ (ns : List ℕ). unwrap_or (least_if_any ns) 0) (all-starts xs)
-      ∙ least-unwrap (map (λ (x : LabelModel). x.start) labels)
-      ∙ by (filter is_primary labels) (ap least_if_any (sym (primary-starts xs)) ∙ none)
-    where
-      labels : List LabelModel
-      labels = (labeled_file_model same file xs id).labels
-
-      by : (ls : List LabelModel) → least_if_any (map (λ (x : LabelModel). x.start) ls) ≡ None
-          → least (map (λ (x : LabelModel). x.start) labels) ≡ least
-          (map (λ (x : LabelModel). x.start) (if_any ls labels))
-      by [] h = refl
-      by (l ∷ ls) h = cc
+  locus-any xs n none is = grind (arith, common_steps, all-starts, least-unwrap, primary-starts)
 
   -- the start by the labels is where the snippet starts
   pub start-is : (xs : List (LabelInFile Id))
       → locus_byte (file_least_starts same xs id) ≡ locus_byte_of
       (labeled_file_model same file xs id).labels
-  start-is xs = by (least_if_any (label_starts same id true xs)) refl
-    where
-      by : (o : Option ℕ) → least_if_any (label_starts same id true xs) ≡ o
-          → unwrap_or o (unwrap_or (least_if_any (label_starts same id false xs)) 0)
-          ≡ locus_byte_of (labeled_file_model same file xs id).labels
-      by (Some n) is = locus-primary xs n is
-      by None is = locus-any xs _ is refl
+  start-is xs = search (rules, locus-primary, locus-any)

@@ -34,8 +34,8 @@ use Rattle.codespan_views.specs.Private.SnippetLines.{SnippetLine, filled_lines_
 use Rattle.codespan_views.specs.Private.Rendering.{first_rows, snippet_empty_row}
 use Rattle.codespan_views.specs.Private.ViewRendering.{late_failure, snippet_rows}
 use Rattle.codespan_views.proofs.CollectedFiles.{IsFileOfLabels, nothing-of_each}
-use Rattle.codespan_views.proofs.FilesInOrder.{drop-end, followed-at, id-at, id-inside, ids-count}
-use Rattle.codespan_views.proofs.FilesInOrder.{locus-at, locus-inside}
+use Rattle.codespan_views.proofs.FilesInOrder.{ids-of_labels, drop-end, followed-at, id-at}
+use Rattle.codespan_views.proofs.FilesInOrder.{id-inside, ids-count, locus-at, locus-inside}
 use Rattle.codespan_views.proofs.FilledNumbers.{IsLaterIn, are-known, later-known, lookups-known}
 use Rattle.codespan_views.proofs.FirstErrors.{first_error-append, or_failure_assoc}
 use Rattle.codespan_views.proofs.IndexedElements.{IsElementAt, drop-one}
@@ -90,10 +90,10 @@ left-start {database = database} {view_config} {d} {context} {collected} looked_
   left = record {
     frame = refl;
     finish = λ run. run_as
-        (ap (failure_of_all database view_config d) looked_up.collected_is.files.ids_are)
+        (ap (failure_of_all database view_config d) (ids-of_labels looked_up.collected_is.files))
         (ap (λ js. stream_of_rows context
         (rows_at database view_config d (loci_view collected.files.items) js))
-        looked_up.collected_is.files.ids_are) run;
+        (ids-of_labels looked_up.collected_is.files)) run;
   };
 }
 

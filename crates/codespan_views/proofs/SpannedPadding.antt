@@ -1,6 +1,7 @@
 -- The padding width for the numbers of the lines that labels span is that of the output in the
 -- classic layout: for the clauses of `RichDiagnostic::render`.
-use Rattle.std.proofs.Common.{◌≡◌, ℕ, zero, suc, ◌+◌, ◌<◌, ◌≤◌, Bool, true, false, ◌&&◌, ◌||◌, max}
+use Rattle.std.proofs.lemmas.Grind.{common_steps}
+use Rattle.std.proofs.Common.{◌≡◌, ℕ, zero, suc, ◌+◌, ◌<◌, ◌≤◌, Bool, true, false, ◌&&◌, max}
 use Rattle.std.proofs.Common.{List, [], ◌∷◌, ◌++◌, length, get_or, map, filter, flat_map, ⊎_elim}
 use Rattle.std.proofs.Common.{refl, sym, ◌∙◌, ap, subst, arith}
 use Rattle.std.specs.Prelude.{Contains, fold, if◌then◌else◌}
@@ -92,8 +93,7 @@ module _ (f : FileModel) (x : LabelModel) where
     where
       here : (b : Bool) → (b ≡ true → count_digits (f.line_number a) ≤ m)
           → AllByRecursion (λ d. d ≤ m) (if b then count_digits (f.line_number a) ∷ [] else [])
-      here true fits = (fits refl, tt)
-      here false fits = tt
+      here b fits = grind (arith, common_steps)
 
   -- the number of a line that is spanned is counted
   line-counted : (l n a : ℕ) → a ≤ l → l < a + n → spans f x l ≡ true
@@ -109,12 +109,7 @@ module _ (f : FileModel) (x : LabelModel) where
       (cases_eq a l)
     where
       here : (k : ℕ) → k ≡ l → count_digits (f.line_number l) ≤ fold max 0 (digit_count_if_spanned f x k)
-      here k e =
-          let one : fold max 0 (digit_count_if_spanned f x l) ≡ max 0 (count_digits (f.line_number l)) =
-          ap (λ (b : Bool). fold max 0 (if b then count_digits (f.line_number l) ∷ [] else []))
-          t in
-          subst (λ i. count_digits (f.line_number l) ≤ fold max 0 (digit_count_if_spanned f x i)) (sym e)
-          (omega (arith, one))
+      here k e = grind (arith, common_steps)
 
 -- ---- all labels
 
@@ -141,11 +136,7 @@ module _ {Id : Type 0} (same : Id → Id → Bool) (file : Id → FileModel) (o 
   spans-any : (id : Id) (l : ℕ)
       → list_any (λ x. spans (file id) x l) (labeled id).labels ≡ list_any
       (λ (x : LabelInFile Id). same id x.file_id && spans (file id) x.label l) xs
-  spans-any id l =
-      any-map (λ x. spans (file id) x l) (λ (x : LabelInFile Id). x.label)
-      (filter (λ (x : LabelInFile Id). same id x.file_id) xs)
-      ∙ any-filtered (λ (x : LabelInFile Id). spans (file id) x.label l)
-      (λ (x : LabelInFile Id). same id x.file_id) xs
+  spans-any id l = grind (arith, common_steps, any-map, any-filtered)
 
   -- the number of a line that a label spans fits the padding
   line-fits : (k : ℕ) (d : LabelInFile Id) → k < length xs → (l : ℕ)
@@ -194,27 +185,7 @@ module _ {Id : Type 0} (same : Id → Id → Bool) (file : Id → FileModel) (o 
       → list_any (λ (x : LabelInFile Id). same id x.file_id && spans (file id) x.label l) ys ≡ true
       → count_digits ((file id).line_number l) ≤ fold max 0 (all_digit_counts file ys)
   some-counted id l low [] any = absurd (true≢false (sym any))
-  some-counted id l low (y ∷ ys) any =
-      ⊎_elim
-      (λ (t : (same id y.file_id && spans (file id) y.label l) ≡ true).
-      let parts = and_parts (same id y.file_id) (spans (file id) y.label l) t in
-      in-first (count_digits ((file id).line_number l)) (label_digit_counts (file y.file_id) y.label)
-      (all_digit_counts file ys)
-      (subst (λ m. count_digits ((file id).line_number l) ≤ fold max 0 (label_digit_counts m y.label))
-      (one_file id y.file_id parts.0)
-      (line-counted (file id) y.label l (line_count (file id)) 0 (omega arith) (omega (arith, low))
-      parts.1)))
-      (λ (t : (same id y.file_id && spans (file id) y.label l) ≡ false).
-      in-second (count_digits ((file id).line_number l)) (label_digit_counts (file y.file_id) y.label)
-      (all_digit_counts file ys)
-      (some-counted id l low ys
-      (sym
-      (ap
-      (λ b. b
-      || list_any (λ (x : LabelInFile Id). same id x.file_id && spans (file id) x.label l) ys)
-      t)
-      ∙ any)))
-      (cases_Bool (same id y.file_id && spans (file id) y.label l))
+  some-counted id l low (y ∷ ys) any = grind (arith, common_steps, and_parts, in-first, line-counted, in-second, some-counted id l low ys)
 
   -- so is that of each spanned line of the output
   lines-counted : AllByRecursion (λ n. n ≤ fold max 0 (all_digit_counts file xs))
@@ -239,8 +210,4 @@ module _ {Id : Type 0} (same : Id → Id → Bool) (file : Id → FileModel) (o 
 
   -- the greatest digit count of the lines of labels is the padding
   pub spanned-padding_width : fold max 0 (all_digit_counts file xs) ≡ padding_width
-  spanned-padding_width =
-      greatest-same (all_digit_counts file xs)
-      (flat_map (λ (s : LabeledFileModel). digits_of s (numbered_lines config s))
-      (labeled_file_models same file xs))
-      labels-fit lines-counted
+  spanned-padding_width = grind (arith, common_steps, greatest-same, labels-fit, lines-counted)

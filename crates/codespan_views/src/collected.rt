@@ -1,5 +1,5 @@
-//! What is collected of all labels and looked up before the header: the annotations, in one vector;
-//! the files of the labels, with their loci; the numbers of filled lines.
+//! What is collected of all labels, and looked up before the header: the annotations, in one
+//! vector, the files of the labels with their loci, and the numbers of filled lines.
 
 ghost use Rattle.codespan_core.specs.LawfulFiles.{FailsBy};
 ghost use Rattle.codespan_picture.specs.Lookups.{first_error};
@@ -8,7 +8,6 @@ ghost use Rattle.codespan_views.specs.Private.AnnotationViews.{IsLineOf, IsOfFil
 ghost use Rattle.codespan_views.specs.Private.AnnotationViews.{annotation_view};
 ghost use Rattle.codespan_views.specs.Private.Annotations.{is_before};
 ghost use Rattle.codespan_views.specs.Private.Collections.{HasSpannedPadding, IsCollected};
-ghost use Rattle.codespan_views.specs.Private.Collections.{IsCollectedUnsorted};
 ghost use Rattle.codespan_views.specs.Private.EarlyLookups.{KeepsLabels, digit_counts_of};
 ghost use Rattle.codespan_views.specs.Private.EarlyLookups.{digits_of_files, early_failure};
 ghost use Rattle.codespan_views.specs.Private.EarlyLookups.{known_numbers_of_files};
@@ -29,7 +28,7 @@ ghost use Rattle.std.specs.Prelude.{All, IfOk, OnOk, fold, map, max, ◌++◌, �
 use crate::annotation::order::put_in_order;
 use crate::annotation::{Annotation, count_in_file, count_on_line, lines_between, shows_line};
 use crate::label_annotations::LabelCollector;
-use crate::label_span::{LabelSpan, label_span};
+use crate::label_span::label_span;
 use crate::labeled_files::{LabeledFile, get_or_insert_file};
 use crate::source_file::SourceFile;
 use codespan_core::diagnostic::Label;
@@ -49,9 +48,6 @@ pub struct Collected<'d, FileId> {
     /// and, once filled lines are looked up in the unbroken layout, of a drawn line; 0 without such
     /// a line.
     pub padding: PaddingWidth,
-    /// Of the labels of the first file, the least line on which one starts and the greatest on
-    /// which one ends, 0-based; `usize::MAX` and 0 without labels.
-    pub first_file_span: LabelSpan,
 }
 
 /// Looks up the lines of all labels, and returns their annotations in order.
@@ -74,41 +70,13 @@ pub fn collect<'files, 'd, F: Files<'files>>(
     ensures failed { FailsBy (labels_failure config.now (F.database files.now)
         (map label_of labels.now)) result }
 {
-    let mut collected = collect_unsorted(alloc, files, config, labels)?;
-    let lines = collected.first_file_span.with_context_lines(config);
-    let has_one_file = collected.files.len() == 1;
-    put_in_order(&mut collected.annotations, has_one_file.then_some(lines))?;
-    Ok(collected)
-}
-
-/// As [`collect`], but the annotations are in the order of the labels.
-///
-/// # Errors
-///
-/// As [`collect`].
-fn collect_unsorted<'files, 'd, F: Files<'files>>(
-    alloc: Global,
-    files: &'files F,
-    config: &Config<'_>,
-    labels: &'d [Label<F::FileId>],
-) -> Result<Collected<'d, F::FileId>, Error>
-    ensures collected { IfOk result (IsCollectedUnsorted (F.database files.now) config.now
-        (map label_of labels.now)) }
-    ensures padding { IfOk result (HasSpannedPadding (F.database files.now).file
-        (map label_of labels.now)) }
-    ensures failed { FailsBy (labels_failure config.now (F.database files.now)
-        (map label_of labels.now)) result }
-{
     let mut collected = Collected {
         files: Vec::new(alloc),
         annotations: Vec::with_capacity(alloc, labels.len())?,
         padding: PaddingWidth::with_digit_count(0),
-        first_file_span: LabelSpan {
-            first: usize::MAX,
-            last: 0,
-        },
     };
     let mut previous = 0;
+    let (mut first, mut last) = (usize::MAX, 0);
     for (index, label) in labels.iter().enumerate() {
         let file_index = get_or_insert_file(&mut collected.files, previous, label.file_id)?;
         let span = label_span(files, label)?;
@@ -131,9 +99,15 @@ fn collect_unsorted<'files, 'd, F: Files<'files>>(
         collected.files[file_index].add(label, span);
         previous = file_index;
         if file_index == 0 {
-            collected.first_file_span = collected.first_file_span.join(span);
+            first = span.first.min(first);
+            last = span.last.max(last);
         }
     }
+    let start = first.saturating_sub(config.before_label_lines);
+    let end = last.saturating_add(config.after_label_lines);
+    let has_one_file = collected.files.len() == 1;
+    let lines = has_one_file.then_some(start..end.saturating_add(1));
+    put_in_order(&mut collected.annotations, lines)?;
     Ok(collected)
 }
 

@@ -1,6 +1,6 @@
 //! The annotations of one label.
 
-ghost use Rattle.std.specs.Prelude.{◌≡◌, ◌≢◌, true, None, IfErr, OnOk, OnErr, IsErrOf};
+ghost use Rattle.std.specs.Prelude.{◌≡◌, ◌≢◌, true, None, Some, IfErr, OnOk, OnErr, IsErrOf};
 ghost use Rattle.std.specs.Option.{option_map};
 ghost use Rattle.codespan_core.specs.LawfulFiles.{FailsBy};
 ghost use Rattle.codespan_views.specs.Private.LabelsToCollect.{AppendsLineAnnotations};
@@ -8,12 +8,13 @@ ghost use Rattle.codespan_views.specs.Private.LabelsToCollect.{FindsLineAnnotati
 ghost use Rattle.codespan_views.specs.Private.LabelsToCollect.{FindsLabelAnnotations};
 ghost use Rattle.codespan_views.specs.Private.LabelsToCollect.{HasLineIfLookedUp, IfEnded};
 ghost use Rattle.codespan_views.specs.Private.LabelsToCollect.{IfContinues, WidensPadding};
-ghost use Rattle.codespan_views.specs.Private.LabelsToCollect.{WidensPaddingForLine, FailsAtLine};
+ghost use Rattle.codespan_views.specs.Private.LabelsToCollect.{IsLookedUp, WidensPaddingForLine};
 ghost use Rattle.codespan_views.specs.Private.LabelsToCollect.{HasLabelLines, label_of_collector};
 ghost use Rattle.codespan_views.specs.Private.LabelsToCollect.{lines_failure, failure_if_looked_up};
-ghost use Rattle.codespan_views.specs.Private.LabelsToCollect.{multi_kind_by_collector};
-ghost use Rattle.codespan_views.specs.Private.LabelsToCollect.{kind_by_collector};
-ghost use Rattle.codespan_views.specs.Private.SourceFiles.{EndsBefore, model_of};
+ghost use Rattle.codespan_picture.specs.OutputStreams.{label_of};
+ghost use Rattle.codespan_views.specs.Private.LabelAnnotations.{kind_by_ends, multi_kind_by_ends};
+ghost use Rattle.codespan_views.specs.Private.SourceFiles.{EndsBefore, failure_unless_past_end};
+ghost use Rattle.codespan_views.specs.Private.SourceFiles.{model_of};
 ghost use Rattle.codespan_views.specs.Private.AnnotationViews.{IsLineOf, kind_view};
 ghost use Rattle.codespan_views.specs.Private.LabelSpans.{IsFarInside};
 
@@ -48,7 +49,9 @@ impl<'a, 'c, 'd, 'files, F: Files<'files>> LabelCollector<'a, 'c, 'd, 'files, F>
     /// Returns what the label does on a line, its lane mark aside: it is a single-line label on it,
     /// or makes it shown, or neither.
     fn kind_on_line(&self, line: LineInfo) -> Option<AnnotationKind<'d, F::FileId>>
-        ensures { option_map (kind_view line.start) result ≡ kind_by_collector self.now line }
+        ensures { option_map (kind_view line.start) result
+            ≡ kind_by_ends self.now.config.now self.now.index self.now.span.first
+            self.now.span.last line.index line.start (label_of self.now.label.now).label }
     {
         if self.span.is_single() && self.span.first == line.index {
             Some(AnnotationKind::Single {
@@ -64,7 +67,9 @@ impl<'a, 'c, 'd, 'files, F: Files<'files>> LabelCollector<'a, 'c, 'd, 'files, F>
 
     /// Returns the label's annotation as a multi-line label on a line, if it has a lane mark there.
     fn multi_kind_on_line(&self, line: LineInfo) -> Option<AnnotationKind<'d, F::FileId>>
-        ensures { option_map (kind_view line.start) result ≡ multi_kind_by_collector self.now line }
+        ensures { option_map (kind_view line.start) result
+            ≡ multi_kind_by_ends self.now.lane self.now.span.first self.now.span.last line.index
+            line.start (label_of self.now.label.now).label }
     {
         match self.span.multi_label_kind(line.index) {
             None => None,
@@ -74,39 +79,6 @@ impl<'a, 'c, 'd, 'files, F: Files<'files>> LabelCollector<'a, 'c, 'd, 'files, F>
                 label: self.label,
             }),
         }
-    }
-
-    /// Appends the one annotation of the label on a line far from its ends.
-    ///
-    /// # Errors
-    ///
-    /// `OutOfMemory`: an allocation fails.
-    ///
-    /// # Requires
-    ///
-    /// The label starts and ends on the lines of this collector, and the line is one of the file's,
-    /// inside the label and past the context lines of both ends.
-    #[inline(always)]
-    fn push_far_line(
-        &self,
-        line: LineInfo,
-        annotations: &mut Vec<Annotation<'d, F::FileId>>,
-    ) -> Result<(), Error>
-        requires far { IsFarInside self.now.config.now self.now.span.first self.now.span.last
-            line.index }
-        requires lines { HasLabelLines F.database self.now }
-        requires line { IsLineOf (model_of F.database self.now.file) line }
-        ensures added { OnOk result (AppendsLineAnnotations (label_of_collector F.database self.now)
-            annotations.old.items annotations.new.items line.index) }
-        ensures failed { OnErr result (IsErrOf result Error.OutOfMemory) }
-    {
-        let kind = AnnotationKind::Multi {
-            kind: MultiLabelKind::Left,
-            lane: self.lane,
-            label: self.label,
-        };
-        push_annotation(self.file_index, line, Some(kind), annotations)?;
-        Ok(())
     }
 
     /// Appends the annotations of the label on a line. `is_far` is whether the line is known to be
@@ -135,15 +107,17 @@ impl<'a, 'c, 'd, 'files, F: Files<'files>> LabelCollector<'a, 'c, 'd, 'files, F>
         ensures failed { OnErr result (IsErrOf result Error.OutOfMemory) }
     {
         if is_far {
-            return self.push_far_line(line, annotations);
+            let kind = AnnotationKind::Multi {
+                kind: MultiLabelKind::Left,
+                lane: self.lane,
+                label: self.label,
+            };
+            push_annotation(self.file_index, line, Some(kind), annotations)?;
+            return Ok(());
         }
         push_annotation(self.file_index, line, self.kind_on_line(line), annotations)?;
-        push_annotation(
-            self.file_index,
-            line,
-            self.multi_kind_on_line(line),
-            annotations,
-        )?;
+        let lane_mark = self.multi_kind_on_line(line);
+        push_annotation(self.file_index, line, lane_mark, annotations)?;
         Ok(())
     }
 
@@ -184,7 +158,9 @@ impl<'a, 'c, 'd, 'files, F: Files<'files>> LabelCollector<'a, 'c, 'd, 'files, F>
         ensures unchanged { IfEnded result (collected.new ≡ collected.old) }
         ensures files { collected.new.files ≡ collected.old.files }
         ensures failed { IfErr result (λ e. e ≢ Error.OutOfMemory
-            → FailsAtLine F.database self.now index e) }
+            → IsLookedUp (label_of_collector F.database self.now) index
+            × (failure_unless_past_end F.database self.now.file self.now.span.last index
+            ≡ Some e)) }
     {
         let is_spanned = is_far || self.span.spans(index);
         if !is_spanned && !self.span.is_around(self.config, index) {

@@ -4,9 +4,13 @@ ghost use Rattle.std.specs.Prelude.{◌≡◌, ◌<◌, ◌≤◌, ℕ, ◌==◌
 ghost use Rattle.codespan_core.specs.LawfulFiles.{FailsBy};
 ghost use Rattle.codespan_picture.specs.Lines.{shows};
 ghost use Rattle.codespan_picture.specs.Lookups.{is_around};
-ghost use Rattle.codespan_views.specs.Private.AnnotationViews.{multi_label_kind};
-ghost use Rattle.codespan_views.specs.Private.LabelSpans.{IsFarInside, ends_failure, is_near_end};
-ghost use Rattle.codespan_views.specs.Private.LabelSpans.{line_of_end, line_of_start, spans_line};
+ghost use Rattle.codespan_core.specs.Labels.{LabelModel, first_line, last_line};
+ghost use Rattle.codespan_picture.specs.OutputStreams.{label_of};
+ghost use Rattle.codespan_views.specs.Private.AnnotationViews.{multi_label_from};
+ghost use Rattle.codespan_views.specs.Private.LabelAnnotations.{multi_label_by_ends};
+ghost use Rattle.std.specs.Option.{option_map};
+ghost use Rattle.codespan_views.specs.Private.LabelSpans.{IsFarInside, ends_failure};
+ghost use Rattle.codespan_views.specs.Private.LabelSpans.{spans_line};
 
 use crate::annotation::MultiLabelKind;
 use codespan_core::diagnostic::Label;
@@ -43,7 +47,9 @@ impl LabelSpan {
     /// Returns the kind of the multi-line label mark on the line at this 0-based index, if the
     /// label is a multi-line label that has one.
     pub fn multi_label_kind(self, index: usize) -> Option<MultiLabelKind>
-        ensures { result ≡ multi_label_kind self.first self.last index }
+        ensures { (start : ℕ) (label : LabelModel)
+            → option_map (multi_label_from start label) result
+            ≡ multi_label_by_ends self.first self.last index start label }
     {
         if self.is_single() {
             None
@@ -97,23 +103,6 @@ impl LabelSpan {
         start.saturating_add(1)..end
     }
 
-    /// Returns the span from the lesser of both first lines to the greater of both last ones.
-    #[inline(always)]
-    pub fn join(self, other: LabelSpan) -> LabelSpan {
-        LabelSpan {
-            first: self.first.min(other.first),
-            last: self.last.max(other.last),
-        }
-    }
-
-    /// Returns the lines of the span and the context lines around them, as 0-based indices, the end
-    /// exclusive. The line at index `usize::MAX` is left out.
-    pub fn with_context_lines(self, config: &Config<'_>) -> Range<usize> {
-        let start = self.first.saturating_sub(config.before_label_lines);
-        let end = self.last.saturating_add(config.after_label_lines);
-        start..end.saturating_add(1)
-    }
-
     /// Returns whether the line at this 0-based index is one of the context lines around the label:
     /// before its first line or after its last one.
     pub fn is_around(self, config: &Config<'_>, index: usize) -> bool
@@ -130,20 +119,11 @@ impl LabelSpan {
     {
         // Most lines of a long label are inside it.
         if self.is_inside(index) {
-            self.is_near_end(config, index)
+            index - self.first <= config.start_context_lines
+                || self.last - index <= config.end_context_lines
         } else {
             index == self.first || index == self.last || self.is_around(config, index)
         }
-    }
-
-    /// Returns whether the line at this 0-based index is one of the context lines inside the label:
-    /// after its first line or before its last one.
-    fn is_near_end(self, config: &Config<'_>, index: usize) -> bool
-        ensures { result ≡ is_near_end config.now self.first self.last index }
-    {
-        self.is_inside(index)
-            && (index - self.first <= config.start_context_lines
-                || self.last - index <= config.end_context_lines)
     }
 }
 
@@ -157,9 +137,9 @@ pub fn label_span<'files, F: Files<'files>>(
     label: &Label<F::FileId>,
 ) -> Result<LabelSpan, Error>
     ensures first { IfOk result (λ span. span.first
-        ≡ line_of_start (F.database files.now).file label.now) }
+        ≡ first_line ((F.database files.now).file label.now.file_id) (label_of label.now).label) }
     ensures last { IfOk result (λ span. span.last
-        ≡ line_of_end (F.database files.now).file label.now) }
+        ≡ last_line ((F.database files.now).file label.now.file_id) (label_of label.now).label) }
     ensures failed { FailsBy (ends_failure (F.database files.now).failure label.now) result }
 {
     Ok(LabelSpan {

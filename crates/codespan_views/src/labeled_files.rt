@@ -3,15 +3,11 @@
 ghost use Rattle.codespan_core.specs.Labels.{is_primary};
 ghost use Rattle.codespan_picture.specs.OutputStreams.{label_of};
 ghost use Rattle.codespan_views.specs.Private.FileIndices.{AreDistinct, index_of_file};
-ghost use Rattle.codespan_views.specs.Private.LabeledFiles.{all_least_starts};
-ghost use Rattle.codespan_views.specs.Private.LabeledFiles.{all_least_starts_with, ids_view};
-ghost use Rattle.codespan_views.specs.Private.LabeledFiles.{lane_counts, lane_counts_with};
-ghost use Rattle.codespan_views.specs.Private.LabeledFiles.{lanes_of_span, with_file};
+ghost use Rattle.codespan_views.specs.Private.LabeledFiles.{ids_view, lanes_of_span, with_file};
+ghost use Rattle.codespan_views.specs.Private.LabeledFiles.{without_locus};
 ghost use Rattle.codespan_views.specs.Private.LocusBytes.{least_starts_with, least_with};
 ghost use Rattle.codespan_views.specs.Private.LocusBytes.{locus_byte, no_starts};
-ghost use Rattle.std.specs.List.{AllByRecursion};
-ghost use Rattle.std.specs.Prelude.{IfOk, IsErrOf, OnErr, OnOk, [], false, length, slice_index_or};
-ghost use Rattle.std.specs.Prelude.{take, ◌++◌, ◌+◌, ◌<◌, ◌^◌, ◌∷◌, ◌≡◌, ◌≤◌};
+ghost use Rattle.std.specs.Prelude.{IfOk, IsErrOf, OnErr, OnOk, map, ◌+◌, ◌<◌, ◌^◌, ◌≡◌};
 
 use crate::label_span::LabelSpan;
 use codespan_core::diagnostic::{Label, LabelStyle};
@@ -69,52 +65,35 @@ pub fn get_or_insert_file<FileId: Copy + Eq>(
     requires { AreDistinct FileId.eq (ids_view files.old.items) }
     ensures index { IfOk result (λ index. index
         ≡ index_of_file FileId.eq (ids_view files.new.items) id) }
-    ensures ids { OnOk result (ids_view files.new.items
-        ≡ with_file FileId.eq (ids_view files.old.items) id (ids_view files.old.items) id) }
-    ensures starts { OnOk result (all_least_starts files.new.items
-        ≡ with_file FileId.eq (ids_view files.old.items) id (all_least_starts files.old.items)
-        no_starts) }
-    ensures lanes { OnOk result (lane_counts files.new.items
-        ≡ with_file FileId.eq (ids_view files.old.items) id (lane_counts files.old.items) 0) }
+    ensures files { OnOk result (map without_locus files.new.items
+        ≡ with_file FileId.eq (ids_view files.old.items) id (map without_locus files.old.items)
+        (id, no_starts, 0)) }
     ensures failed { OnErr result (IsErrOf result Error.OutOfMemory) }
 {
     let index = find_file(files, previous, id);
     if index == files.len() {
-        push_file(files, id)?;
+        files.push(LabeledFile {
+            file_id: id,
+            least_starts: LeastStarts {
+                primary: None,
+                any: None,
+            },
+            num_multi_labels: 0,
+            locus: Locus {
+                name: String::new(*files.allocator()),
+                location: Location {
+                    line_number: 0,
+                    column_number: 0,
+                },
+            },
+        })?;
     }
     Ok(index)
 }
 
-/// Appends a file without labels.
-///
-/// # Errors
-///
-/// `OutOfMemory`: an allocation fails.
-fn push_file<FileId: Copy>(files: &mut Vec<LabeledFile<FileId>>, id: FileId) -> Result<(), Error>
-    ensures ids { OnOk result (ids_view files.new.items ≡ ids_view files.old.items ++ id ∷ []) }
-    ensures starts { OnOk result (all_least_starts files.new.items
-        ≡ all_least_starts files.old.items ++ no_starts ∷ []) }
-    ensures lanes { OnOk result (lane_counts files.new.items ≡ lane_counts files.old.items
-        ++ 0 ∷ []) }
-    ensures failed { OnErr result (IsErrOf result Error.OutOfMemory) }
-{
-    files.push(LabeledFile {
-        file_id: id,
-        least_starts: LeastStarts::without_labels(),
-        num_multi_labels: 0,
-        locus: Locus {
-            name: String::new(*files.allocator()),
-            location: Location {
-                line_number: 0,
-                column_number: 0,
-            },
-        },
-    })?;
-    Ok(())
-}
-
 /// Returns the 0-based index of the file with this id, or the number of files if there is none. The
-/// file at index `previous` is compared first.
+/// file at index `previous` is compared first. Each iteration compares two files, which takes fewer
+/// instructions than one iteration for each.
 ///
 /// # Requires
 ///
@@ -123,18 +102,11 @@ fn find_file<FileId: Copy + Eq>(files: &[LabeledFile<FileId>], previous: usize, 
     requires { AreDistinct FileId.eq (ids_view files.now) }
     ensures { result ≡ index_of_file FileId.eq (ids_view files.now) id }
 {
-    match files.get(previous) {
-        Some(file) if file.file_id == id => previous,
-        _ => first_file(files, id),
+    if let Some(file) = files.get(previous)
+        && file.file_id == id
+    {
+        return previous;
     }
-}
-
-/// Returns the 0-based index of the first file with this id, or the number of files if there is
-/// none. Each iteration compares two files, which takes fewer instructions than one iteration for
-/// each.
-fn first_file<FileId: Copy + Eq>(files: &[LabeledFile<FileId>], id: FileId) -> usize
-    ensures { result ≡ index_of_file FileId.eq (ids_view files.now) id }
-{
     let last = files.len().saturating_sub(1);
     let mut index = 0;
     while index < last {
@@ -148,28 +120,9 @@ fn first_file<FileId: Copy + Eq>(files: &[LabeledFile<FileId>], id: FileId) -> u
         }
         index += 2;
     }
-    last_file(files, index, id)
-}
-
-/// Returns this index, if the file there has the id, or else the number of files.
-///
-/// # Requires
-///
-/// No file before this index has the id, and there is none after it.
-#[inline(always)]
-fn last_file<FileId: Copy + Eq>(files: &[LabeledFile<FileId>], index: usize, id: FileId) -> usize
-    requires last { length files.now ≤ index + 1 }
-    requires none { AllByRecursion (λ other. FileId.eq other id ≡ false)
-        (ids_view (take index files.now)) }
-    ensures { result ≡ index_of_file FileId.eq (ids_view files.now) id }
-{
-    let Some(file) = files.get(index) else {
-        return files.len();
-    };
-    if file.file_id == id {
-        index
-    } else {
-        files.len()
+    match files.get(index) {
+        Some(file) if file.file_id == id => index,
+        _ => files.len(),
     }
 }
 
@@ -197,16 +150,6 @@ pub struct LeastStarts {
 }
 
 impl LeastStarts {
-    /// Returns those of a file without labels.
-    pub fn without_labels() -> LeastStarts
-        ensures { result ≡ no_starts }
-    {
-        LeastStarts {
-            primary: None,
-            any: None,
-        }
-    }
-
     /// Returns those with one more label of the file.
     pub fn with<FileId>(self, label: &Label<FileId>) -> LeastStarts
         ensures { result ≡ least_starts_with self (label_of label.now).label }

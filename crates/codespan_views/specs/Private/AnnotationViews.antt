@@ -1,6 +1,5 @@
 -- The Rust types of annotations, as the definitions have them.
-use Rattle.std.specs.Prelude.{◌≡◌, ℕ, ◌-◌, ◌==◌, ◌&&◌, nat_lt, List, ◌++◌, map, Option, Some, None}
-use Rattle.std.specs.Prelude.{if◌then◌else◌}
+use Rattle.std.specs.Prelude.{◌≡◌, ℕ, ◌-◌, List, ◌++◌, map}
 use Rattle.std.specs.List.{AllByRecursion}
 use Rattle.codespan_core.specs.FileModel.{FileModel}
 use Rattle.codespan_core.specs.LawfulFiles.{IsLineRange}
@@ -66,13 +65,3 @@ abbrev pub AppendsAnnotationsOf : {Id : Type 0} → FileModel → List (RustAnno
     → List (RustAnnotation Id) → List Annotation → Type 0
 AppendsAnnotationsOf f old new annotations =
     AppendsAnnotations (λ annotation. IsLineOf f annotation.line) old new annotations
-
--- the kind of the multi-line label mark that a label from line `first` to line `last` has on line
--- `l`, if it is a multi-line label that has one
-abbrev pub multi_label_kind : ℕ → ℕ → ℕ → Option MultiLabelKind
-multi_label_kind first last l =
-    if first == last then None
-    else if first == l then Some label_kind.Top
-    else if last == l then Some label_kind.Bottom
-    else if nat_lt first l && nat_lt l last then Some label_kind.Left
-    else None

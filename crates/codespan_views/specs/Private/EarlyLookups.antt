@@ -10,12 +10,11 @@ use Rattle.codespan_picture.specs.Snippets.{LabelInFile, file_ids, labeled_file_
 use Rattle.codespan_picture.specs.Snippets.{labeled_file_models}
 use Rattle.codespan_views.specs.declared.collected.Collected.{Collected}
 use Rattle.codespan_views.specs.declared.labeled_files.LabeledFile.{LabeledFile as RustFile}
-use Rattle.codespan_views.specs.declared.labeled_files.LeastStarts.{LeastStarts}
 use Rattle.codespan_views.specs.Private.Annotations.{Annotation, is_of_file}
 use Rattle.codespan_views.specs.Private.AnnotationViews.{annotation_view}
 use Rattle.codespan_views.specs.Private.Collections.{IsCollected}
 use Rattle.codespan_views.specs.Private.FilledLines.{number_lookups}
-use Rattle.codespan_views.specs.Private.LabeledFiles.{ids_view}
+use Rattle.codespan_views.specs.Private.LabeledFiles.{ids_view, without_locus}
 use Rattle.codespan_views.specs.Private.Loci.{HasLocus, locus_lookups_of_files}
 use Rattle.codespan_views.specs.Private.SnippetLines.{SnippetLine, drawn_lines_of}
 use Rattle.codespan_views.specs.Private.SnippetLines.{filled_lines_of, lines_of}
@@ -69,10 +68,6 @@ module _ {Id : Type 0} where
   early_failure layout failure collected =
       first_error failure
       (early_number_lookups layout collected ++ locus_lookups_of_files collected.files.items)
-
-  -- a file, but for its locus
-  abbrev pub without_locus : RustFile Id → Id × LeastStarts × ℕ
-  without_locus f = (f.file_id, f.least_starts, f.num_multi_labels)
 
   -- the files keep their ids and what is known of their labels
   abbrev pub KeepsLabels : List (RustFile Id) → List (RustFile Id) → Type 0

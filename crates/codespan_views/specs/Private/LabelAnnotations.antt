@@ -4,7 +4,8 @@ use Rattle.std.specs.Prelude.{if◌then◌else◌}
 use Rattle.std.specs.Option.{option_map}
 use Rattle.codespan_picture.specs.Types.{Config}
 use Rattle.codespan_core.specs.FileModel.{FileModel, Lookup}
-use Rattle.codespan_core.specs.Labels.{LabelModel, first_line, last_line, is_single, drawn_label}
+use Rattle.codespan_core.specs.Labels.{LabelModel, MultiLabel, first_line, last_line, is_single}
+use Rattle.codespan_core.specs.Labels.{drawn_label}
 use Rattle.codespan_core.specs.Labels.{lane_mark_of, multi_label_on, from_line_start}
 use Rattle.codespan_core.specs.Labels.{multi_label_at}
 use Rattle.codespan_picture.specs.Lines.{shows}
@@ -44,11 +45,15 @@ kind_by_ends config index first last l start x =
     if (first == last) && (first == l) then Some (Single index (from_line_start start x))
     else if shows config first last l then Some Shown else None
 
+-- its multi-line label mark there, if it is a multi-line label that has one
+abbrev pub multi_label_by_ends : ℕ → ℕ → ℕ → ℕ → LabelModel → Option MultiLabel
+multi_label_by_ends first last l start x =
+    if first == last then None else multi_label_at first last l start x
+
 -- what it does there as a multi-line label, if it has a lane mark there
 abbrev pub multi_kind_by_ends : ℕ → ℕ → ℕ → ℕ → ℕ → LabelModel → Option AnnotationKind
 multi_kind_by_ends lane first last l start x =
-    if first == last then None
-    else option_map Multi (lane_mark_of lane x (multi_label_at first last l start x))
+    option_map Multi (lane_mark_of lane x (multi_label_by_ends first last l start x))
 
 -- ---- the lines that are looked up for it
 

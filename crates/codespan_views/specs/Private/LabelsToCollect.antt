@@ -1,6 +1,6 @@
 -- Labels whose lines are looked up, one after another.
 use Rattle.std.specs.Prelude.{◌≡◌, ℕ, ◌<◌, Bool, true, false, List, ◌++◌, flat_map, fold, max}
-use Rattle.std.specs.Prelude.{Option, Some, IfOk, Result}
+use Rattle.std.specs.Prelude.{Option, IfOk, Result}
 use Rattle.codespan_picture.specs.Types.{Error, Config}
 use Rattle.codespan_core.specs.FileModel.{FileDatabase, FileModel, line_count, Lookup}
 use Rattle.codespan_core.specs.Labels.{LabelModel, first_line, last_line}
@@ -11,15 +11,12 @@ use Rattle.codespan_picture.specs.OutputStreams.{label_of}
 use Rattle.codespan_picture.specs.Snippets.{LabelInFile}
 use Rattle.codespan_picture.specs.declared.padding.PaddingWidth.{PaddingWidth}
 use Rattle.codespan_views.specs.declared.annotation.Annotation.{Annotation as RustAnnotation}
-use Rattle.codespan_views.specs.declared.annotation.LineInfo.{LineInfo}
 use Rattle.codespan_views.specs.declared.label_annotations.LabelCollector.{LabelCollector}
-use Rattle.codespan_views.specs.Private.Annotations.{AnnotationKind}
 use Rattle.codespan_views.specs.Private.LabelAnnotations.{annotations_of, line_annotations}
 use Rattle.codespan_views.specs.Private.LabelAnnotations.{annotations_if_looked_up}
-use Rattle.codespan_views.specs.Private.LabelAnnotations.{lookups_if_looked_up, multi_kind_by_ends}
-use Rattle.codespan_views.specs.Private.LabelAnnotations.{kind_by_ends}
+use Rattle.codespan_views.specs.Private.LabelAnnotations.{lookups_if_looked_up}
 use Rattle.codespan_views.specs.Private.FileLookups.{failure_in}
-use Rattle.codespan_views.specs.Private.SourceFiles.{failure_unless_past_end, model_of}
+use Rattle.codespan_views.specs.Private.SourceFiles.{model_of}
 use Rattle.codespan_views.specs.Private.AnnotationViews.{AppendsAnnotationsOf}
 use Rattle.codespan_views.specs.Private.SpannedDigitCounts.{digit_count_if_spanned}
 use Rattle.codespan_views.specs.Private.SpannedDigitCounts.{label_digit_counts}
@@ -132,24 +129,3 @@ IfContinues r P = IfOk r (λ goes_on. goes_on ≡ true → P)
 -- where it returns `false`: the context lines ended with the file
 abbrev pub IfEnded : Result Bool Error → Type 0 → Type 0
 IfEnded r P = IfOk r (λ goes_on. goes_on ≡ false → P)
-
--- what a label does on a line, by the lines of its ends
-abbrev pub kind_by_collector : {F Id Name Source : Type 0} → LabelCollector F Id Name Source
-    → LineInfo → Option AnnotationKind
-kind_by_collector collector line =
-    kind_by_ends collector.config.now collector.index collector.span.first collector.span.last
-    line.index line.start (label_of collector.label.now).label
-
--- what it does there as a multi-line label, by the lines of its ends
-abbrev pub multi_kind_by_collector : {F Id Name Source : Type 0} → LabelCollector F Id Name Source
-    → LineInfo → Option AnnotationKind
-multi_kind_by_collector collector line =
-    multi_kind_by_ends collector.lane collector.span.first collector.span.last line.index line.start
-    (label_of collector.label.now).label
-
--- a line is looked up for the label, and its lookups fail with this error
-abbrev pub FailsAtLine : {F Id Name Source : Type 0} → (F → FileDatabase Id)
-    → LabelCollector F Id Name Source → ℕ → Error → Type 0
-FailsAtLine database_of collector l e =
-    IsLookedUp (label_of_collector database_of collector) l
-    × (failure_unless_past_end database_of collector.file collector.span.last l ≡ Some e)

@@ -18,5 +18,4 @@ locus_lookups_of_files files = flat_map locus_lookups_of files
 
 -- the file has the locus that its snippet starts at
 abbrev pub HasLocus : {Id : Type 0} → (Id → FileModel) → RustFile Id → Type 0
-HasLocus file f =
-    IsUtf8Locus (file f.file_id, locus_byte f.least_starts) (locus_view f.locus)
+HasLocus file f = IsUtf8Locus (file f.file_id, locus_byte f.least_starts) (locus_view f.locus)

@@ -1,45 +1,30 @@
-use Rattle.std.proofs.Common.{◌≡◌, ◌≤◌, ◌∷◌, [], Err, length, get_or, ap, sym, subst₂, ◌∙◌}
-use Rattle.std.proofs.Common.{arith}
+use Rattle.std.proofs.lemmas.Grind.{common_steps}
+use Rattle.std.proofs.Common.{◌≡◌, ◌≤◌, ◌∷◌, [], Err, length, get_or, ap, sym, subst₂, ◌∙◌, arith}
 use Rattle.std.proofs.lemmas.Result.{err_from_is_err_and}
 use Rattle.codespan_core.specs.FileModel.Lookup.{LocationAt, Name}
 use Rattle.codespan_picture.specs.Arguments.{locus_view}
 use Rattle.codespan_picture.specs.Lookups.{first_error, lookups_of_file}
 use Rattle.codespan_views.specs.declared.labeled_files.LabeledFile.{LabeledFile as RustFile}
-use Rattle.codespan_views.specs.Private.EarlyLookups.{without_locus}
+use Rattle.codespan_views.specs.Private.LabeledFiles.{without_locus}
 use Rattle.codespan_views.specs.Private.LocusBytes.{locus_byte}
 use Rattle.codespan_views.specs.Private.Utf8Loci.{IsUtf8Locus}
 use Rattle.codespan_views.proofs.IndexedElements.{IsElementAt}
-use Rattle.codespan_views.proofs.LociFound.{element-same, loci-all, loci-count, loci-failed}
-use Rattle.codespan_views.proofs.LociFound.{loci-more, loci-start, loci-succeeded}
+use Rattle.codespan_views.proofs.LociFound.{element-same, loci-count, loci-failed}
+use Rattle.codespan_views.proofs.LociFound.{loci-more, loci-succeeded}
 use Rattle.codespan_views.proofs.collected.find_loci.Given.{Over}
 use Rattle.codespan_views.proofs.collected.find_loci.Goals.{After-locus, After-loop-index}
 use Rattle.codespan_views.proofs.collected.find_loci.Goals as goal
-
-pub loop-index-init : goal.loop-index-init
-loop-index-init g c = loci-start
 
 -- the file at the index, as it is read
 there : (g : Over) (c : After-locus g) {f : RustFile g.row.F-FileId.Denot}
     → f ≡ get_or c.loop-index.labeled_files.items c.loop-index.index f
     → IsElementAt c.loop-index.labeled_files.items c.loop-index.index f
-there g c is = record {
-  inside = omega (
-    arith,
-    c.loop-index-test.true,
-    c.len-index-end.ensures,
-    loci-count c.loop-index.invariant,
-    c.args.labeled_files.now.ok.0,
-  );
-  is = is;
-}
+there g c is = grind (arith, common_steps, loci-count)
 
 -- the byte whose location is looked up is that of the file
 byte_is : (g : Over) (c : After-locus g)
     → c.locus_byte-byte_index.result ≡ locus_byte c.index.result.now.least_starts
-byte_is g c =
-    c.locus_byte-byte_index.ensures
-    ∙ ap (λ f. locus_byte f.least_starts)
-    (element-same (there g c c.index-in-loop-index.ensures) (there g c c.index.ensures))
+byte_is g c = grind (arith, common_steps, element-same, there)
 
 pub returns-in_err-labeled_files-clause-failed : goal.returns-in_err-labeled_files-clause-failed
 returns-in_err-labeled_files-clause-failed g c =
@@ -73,20 +58,7 @@ loop-index-preserved g c =
 -- past the last file
 past_last : (g : Over) (c : After-loop-index g) → c.len-index-end.result ≤ c.loop-index.index
     → length c.loop-index.labeled_files.items ≤ c.loop-index.index
-past_last g c past =
-    omega (
-      arith,
-      past,
-      c.len-index-end.ensures,
-      loci-count c.loop-index.invariant,
-      c.args.labeled_files.now.ok.0,
-    )
-
-pub returns-clause-loci : goal.returns-clause-loci
-returns-clause-loci g c = loci-all c.loop-index.invariant (past_last g c c.loop-index-test.false)
-
-pub returns-clause-files : goal.returns-clause-files
-returns-clause-files g c = c.loop-index.invariant.kept
+past_last g c past = grind (arith, common_steps, loci-count)
 
 pub returns-clause-failed : goal.returns-clause-failed
 returns-clause-failed g c =

@@ -1,22 +1,20 @@
-use Rattle.std.proofs.Common.{◌≡◌, List, [], ◌∷◌, ◌++◌, map, take, Err, Some, refl, sym, ap, subst}
+use Rattle.std.proofs.Common.{◌≡◌, List, [], ◌∷◌, ◌++◌, map, take, Err, Some, refl, sym, ap}
+use Rattle.std.proofs.lemmas.Grind.{common_steps}
 use Rattle.std.proofs.Common.{◌∙◌, append_assoc, arith}
 use Rattle.std.specs.Prelude.{All}
-use Rattle.std.proofs.lemmas.List.Elements.{All-drop}
 use Rattle.std.proofs.lemmas.Option.{get_or_from_slice_get, slice_get_within}
 use Rattle.std.proofs.lemmas.Result.{err_from_is_err_and}
 use Rattle.codespan_views.specs.Private.Annotations.{Annotation}
 use Rattle.codespan_views.specs.Private.AnnotationViews.{IsLineOf, annotation_view}
 use Rattle.codespan_views.specs.Private.FilledLines.{gap_lines}
-use Rattle.codespan_views.specs.Private.SnippetLines.{SnippetLine, Labeled, lines_of}
+use Rattle.codespan_views.specs.Private.SnippetLines.{SnippetLine, Labeled}
 use Rattle.codespan_views.specs.Private.SourceFiles.{model_of}
 use Rattle.codespan_views.proofs.FilledNumbers.{gap-filled}
-use Rattle.codespan_views.proofs.NumbersFound.{AreFound, found-gap, found-no_gap, found-shown}
-use Rattle.codespan_views.proofs.NumbersFound.{found-then, numbers-all, numbers-failed}
-use Rattle.codespan_views.proofs.NumbersFound.{numbers-more, numbers-none, numbers-same}
-use Rattle.codespan_views.proofs.NumbersFound.{numbers_failed}
+use Rattle.codespan_views.proofs.NumbersFound.{found-gap, found-no_gap, found-shown, found-then}
+use Rattle.codespan_views.proofs.NumbersFound.{numbers-all, numbers-failed, numbers-more}
+use Rattle.codespan_views.proofs.NumbersFound.{numbers-same, numbers_failed}
 use Rattle.codespan_views.proofs.SnippetLineViews.{IsNextGroup, later-are, later-fewer, later_than}
-use Rattle.codespan_views.proofs.SnippetLineViews.{lines_left, lines_left-none, views_of-hidden}
-use Rattle.codespan_views.proofs.SnippetLineViews.{views_of-shown}
+use Rattle.codespan_views.proofs.SnippetLineViews.{lines_left, views_of-hidden, views_of-shown}
 use Rattle.codespan_views.proofs.collected.find_numbers_of_file.Given.{Over}
 use Rattle.codespan_views.proofs.collected.find_numbers_of_file.Goals.{After-count_on_line}
 use Rattle.codespan_views.proofs.collected.find_numbers_of_file.Goals.{After-lines_between}
@@ -35,23 +33,12 @@ next g c =
 later_lines : (g : Over) (c : After-count_on_line g)
     → All (λ e. IsLineOf (model_of g.F.Files.database c.args.file.now) e.line)
     (later_than c.count_on_line.result c.loop-first.rest.now)
-later_lines g c =
-    let model = model_of g.F.Files.database c.args.file.now in
-    subst (All (λ e. IsLineOf model e.line))
-    (sym (later-are c.count_on_line.result c.loop-first.rest.now))
-    (All-drop (λ e. IsLineOf model e.line) c.count_on_line.result c.loop-first.rest.now
-    c.loop-first.invariant.lines)
+later_lines g c = grind (arith, common_steps, later-are)
 
 -- the line of the first one is
 first_line : (g : Over) (c : After-count_on_line g)
     → IsLineOf (model_of g.F.Files.database c.args.file.now) c.in-Some.first.now.line
-first_line g c =
-    let rest = c.loop-first.rest.now in
-    let x = c.in-Some.first.now in
-    let first = sym c.in-Some.ensures.value in
-    subst (λ e. IsLineOf (model_of g.F.Files.database c.args.file.now) e.line)
-    (get_or_from_slice_get rest 0 x x first)
-    (c.loop-first.invariant.lines 0 x (slice_get_within rest 0 x first))
+first_line g c = grind (arith, common_steps, get_or_from_slice_get, slice_get_within)
 
 pub loop-first-init : goal.loop-first-init
 loop-first-init g c =
@@ -61,9 +48,6 @@ loop-first-init g c =
       lines = c.requires.lines;
       left = numbers-all refl refl refl;
     }
-
-pub offset_bounds-rest-count_on_line : goal.offset_bounds-rest-count_on_line
-offset_bounds-rest-count_on_line g c = omega arith
 
 -- the annotations of the shown line
 abbrev own : (g : Over) (c : After-lines_between g) → List Annotation
@@ -90,11 +74,7 @@ opens : (g : Over) (c : After-lines_between g)
     → IsNextGroup c.loop-first.rest.now c.in-Some.first.now c.count_on_line.result
     → lines_left c.loop-first.invariant.hidden c.loop-first.rest.now c.loop-first.previous
     ≡ (gap g c ++ shown g c ∷ []) ++ later g c
-opens g c group =
-    let hidden = map annotation_view c.loop-first.invariant.hidden in
-    views_of-shown group c.loop-first.previous c.loop-first.invariant.hidden
-    (sym c.if-shows_line.ensures)
-    ∙ ap (λ xs. (xs ++ shown g c ∷ []) ++ later g c) (c.lines_between.ensures.gap hidden (own g c))
+opens g c group = grind (arith, common_steps, views_of-shown)
 
 pub returns-in_err-number-clause-failed : goal.returns-in_err-number-clause-failed
 returns-in_err-number-clause-failed g c =
@@ -113,12 +93,6 @@ returns-in_err-number-clause-failed g c =
     (gap-filled hidden (own g here) c.in-Some.first.now.line.index c.lines_between.result
     c.if-lines_between-eq1.true)
     ∙ c.in_err-number.ensures.failed memory))
-
-pub loop-first-smaller-after-lines_between-eq1 : goal.loop-first-smaller-after-lines_between-eq1
-loop-first-smaller-after-lines_between-eq1 g c =
-    later-fewer
-    (next g (goal.at.loop-first-smaller-after-lines_between-eq1 g c).After-count_on_line)
-    c.count_on_line.ensures.within
 
 pub loop-first-preserved-after-lines_between-eq1 :
     goal.loop-first-preserved-after-lines_between-eq1
@@ -149,11 +123,6 @@ loop-first-preserved-after-lines_between-eq1 g c =
           (first_line g at.After-count_on_line).number_is c.fit-then-shows_line.ensures));
     }
 
-pub loop-first-smaller : goal.loop-first-smaller
-loop-first-smaller g c =
-    later-fewer (next g (goal.at.loop-first-smaller g c).After-count_on_line)
-    c.count_on_line.ensures.within
-
 pub loop-first-preserved : goal.loop-first-preserved
 loop-first-preserved g c =
     let at = (goal.at.loop-first-preserved g c).After-count_on_line in
@@ -168,23 +137,3 @@ loop-first-preserved g c =
           (sym (views_of-hidden group c.loop-first.previous c.loop-first.invariant.hidden
           (sym c.if-shows_line.ensures)));
     }
-
--- all numbers are found
-all_found : (g : Over) (c : In_default g)
-    → AreFound (g.F.Files.database c.args.file.now.files.now).failure c.args.file.now.file_id
-    (model_of g.F.Files.database c.args.file.now)
-    (lines_of (map annotation_view c.args.annotations.now)) c.args.numbers.now.items
-    c.loop-first.numbers.items c.args.padding.now.digit_count c.loop-first.padding.digit_count
-all_found g c =
-    numbers-none c.loop-first.invariant.left
-    (lines_left-none c.loop-first.invariant.hidden c.loop-first.rest.now c.loop-first.previous
-    (sym c.in_default.ensures.value))
-
-pub returns-clause-numbers : goal.returns-clause-numbers
-returns-clause-numbers g c = (all_found g c).numbers_are
-
-pub returns-clause-padding : goal.returns-clause-padding
-returns-clause-padding g c = (all_found g c).padding_is
-
-pub returns-clause-failed : goal.returns-clause-failed
-returns-clause-failed g c = (all_found g c).succeeded

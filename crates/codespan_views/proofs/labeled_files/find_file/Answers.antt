@@ -1,24 +1,55 @@
-use Rattle.std.proofs.Common.{◌≡◌, ◌<◌, length, get_or, sym, ap, subst, ◌∙◌, arith}
-use Rattle.std.proofs.lemmas.Bool.{ltb-true}
-use Rattle.std.proofs.lemmas.List.{get_or-map, length-map}
-use Rattle.codespan_views.specs.declared.labeled_files.LabeledFile.{LabeledFile as RustFile}
+use Rattle.std.proofs.Common.{get_or, sym, ap, ◌∙◌, arith}
+use Rattle.std.proofs.lemmas.Grind.{common_steps}
+use Rattle.std.specs.Option.{is_some}
+use Rattle.std.proofs.lemmas.Bool.{ltb-false, ltb-true}
 use Rattle.codespan_views.specs.Private.LabeledFiles.{ids_view}
-use Rattle.codespan_views.specs.Private.FileIndices.{IsIdAt}
-use Rattle.codespan_views.proofs.FileIndices.{at-get, same_id-index}
+use Rattle.codespan_views.proofs.FileIndices.{same_id-index}
+use Rattle.codespan_views.proofs.FileSearch.{none-more, index-first, index-nowhere}
+use Rattle.codespan_views.proofs.FilesInOrder.{is-id}
+use Rattle.codespan_views.proofs.IndexedElements.{IsElementAt}
+use Rattle.codespan_views.proofs.labeled_files.find_file.Given.{Over}
+use Rattle.codespan_views.proofs.labeled_files.find_file.Goals.{After-index-files-index}
+use Rattle.codespan_views.proofs.labeled_files.find_file.Goals.{In-Some-get}
 use Rattle.codespan_views.proofs.labeled_files.find_file.Goals as goal
 
-pub returns-in-Some : goal.returns-in-Some
-returns-in-Some g c =
-    let files = c.args.files.now in
-    let ids = ids_view files in
-    let previous = c.args.previous in
-    let file = c.in-Some.file.now in
-    let name : RustFile g.row.FileId.Denot → g.row.FileId.Denot = λ f. f.file_id in
+-- the file of the label before has the id
+pub returns : goal.returns
+returns g c =
     let found = c.in-Some.ensures.lookup in
-    let inside : previous < length files = ltb-true previous _ (sym found.0) in
-    let there : file.file_id ≡ get_or ids previous file.file_id =
-    ap name found.1 ∙ sym (get_or-map name files previous file file.file_id inside) in
-    same_id-index g.met.FileId.Eq.laws ids file.file_id c.args.id c.requires
-    (subst (IsIdAt ids previous) (sym there)
-    (at-get ids previous file.file_id (omega (arith, inside, length-map files name))))
+    same_id-index g.met.FileId.Eq.laws (ids_view c.args.files.now) c.in-Some.file.now.file_id c.args.id
+    c.requires
+    (is-id (record { inside = ltb-true _ _ (sym found.0); is = found.1 }))
     (sym c.if-eq.ensures)
+
+-- the file at the index of the loop
+here : (g : Over) (c : After-index-files-index g)
+    → IsElementAt c.args.files.now c.loop-index.index
+    (get_or c.args.files.now c.loop-index.index c.index-files-index.result)
+here g c = record {
+  inside = omega (arith, c.loop-index-test.true, c.saturating_sub-last.ensures);
+  is = ap (get_or c.args.files.now c.loop-index.index) c.index-files-index.is;
+}
+
+pub returns-then-eq-2 : goal.returns-then-eq-2
+returns-then-eq-2 g c = grind (arith, common_steps, index-first, here)
+
+pub returns-then-is_next : goal.returns-then-is_next
+returns-then-is_next g c = grind (arith, common_steps, none-more, here, index-first)
+
+-- the last file
+last : (g : Over) (c : In-Some-get g)
+    → IsElementAt c.args.files.now c.loop-index.index c.in-Some-get.file.now
+last g c = grind (arith, common_steps, ltb-true)
+
+pub returns-in-Some-get : goal.returns-in-Some-get
+returns-in-Some-get g c = grind (arith, common_steps, index-first, last)
+
+pub returns-in_default : goal.returns-in_default
+returns-in_default g c = grind (arith, common_steps, none-more, last, index-nowhere)
+
+-- there is none at all
+pub returns-in_default-2 : goal.returns-in_default-2
+returns-in_default-2 g c =
+    index-nowhere g.met.FileId.Eq.laws c.args.files.now c.loop-index.index c.args.id
+    c.loop-index.invariant.none
+    (ltb-false c.loop-index.index _ (sym c.get-2.ensures.lookup.0 ∙ ap is_some c.in_default-2.is))

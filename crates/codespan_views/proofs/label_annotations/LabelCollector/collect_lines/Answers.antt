@@ -1,4 +1,5 @@
 use contract.Lifetimes.{Lfts}
+use Rattle.std.proofs.lemmas.Grind.{common_steps}
 use Rattle.std.proofs.Common.{rules, ◌≡◌, ℕ, Bool, true, ◌&&◌, ◌+◌, ◌<◌, ◌≤◌, Some, Err, refl, ap}
 use Rattle.std.proofs.Common.{◌∙◌, arith}
 use Rattle.std.proofs.lemmas.Bool.Decides.{nat_tests}
@@ -138,9 +139,7 @@ all_done g c at_last =
     (files.past_last_line c.args.self.now.file.files.now x.file_id _)
 
 pub returns-else-not-branch-clause-added : goal.returns-else-not-branch-clause-added
-returns-else-not-branch-clause-added g c =
-    (all_done g (goal.at.returns-else-not-branch-clause-added g c).Else-not-branch
-    (search rules)).added
+returns-else-not-branch-clause-added g c = grind (arith, common_steps, all_done)
 
 pub returns-else-not-branch-clause-padding : goal.returns-else-not-branch-clause-padding
 returns-else-not-branch-clause-padding g c =

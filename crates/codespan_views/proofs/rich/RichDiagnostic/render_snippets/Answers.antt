@@ -27,6 +27,7 @@ use Rattle.codespan_views.proofs.rich.RichDiagnostic.render_snippets.Goals.{else
 use Rattle.codespan_views.proofs.rich.RichDiagnostic.render_snippets.Goals.{else-notes_follow}
 use Rattle.codespan_views.proofs.rich.RichDiagnostic.render_snippets.Goals.{then-is_followed+in_ok-render_empty_row}
 use Rattle.codespan_views.proofs.rich.RichDiagnostic.render_snippets.Goals.{then-notes_follow}
+use Rattle.codespan_views.proofs.FilesInOrder.{ids-of_labels}
 use Rattle.codespan_views.proofs.rich.RichDiagnostic.render_snippets.Goals as goal
 
 -- there is an element where there is one that is mapped
@@ -43,7 +44,7 @@ loop-index-init g c = record {
       ∙ ap
       (known_numbers_of_labels (view_config_of c.args.self.now)
       (g.F.Files.database c.args.files.now) (labels_of (diagnostic_of c.args.self.now)))
-      (sym c.requires.collected_is.files.ids_are);
+      (sym (ids-of_labels c.requires.collected_is.files));
   rendered = left-start c.requires;
 }
 

@@ -1,7 +1,7 @@
 use Rattle.codespan_picture.specs.Snippets.{file_ids}
 use Rattle.codespan_views.proofs.LabelsBefore.{before}
 use Rattle.codespan_views.proofs.LabelsCollected.{AreCollected}
-use Rattle.codespan_views.proofs.collected.collect_unsorted.Given as goal
+use Rattle.codespan_views.proofs.collected.collect.Given as goal
 
 -- the labels before this one are done with
 abbrev pub invariant-loop-index : goal.invariant-loop-index

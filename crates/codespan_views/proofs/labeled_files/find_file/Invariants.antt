@@ -1,7 +1,7 @@
 use Rattle.std.proofs.Common.{◌≡◌, ◌≤◌, ◌-◌, false, length, take}
 use Rattle.std.specs.List.{AllByRecursion}
 use Rattle.codespan_views.specs.Private.LabeledFiles.{ids_view}
-use Rattle.codespan_views.proofs.labeled_files.first_file.Given as goal
+use Rattle.codespan_views.proofs.labeled_files.find_file.Given as goal
 
 -- no file before this one is of the id
 abbrev pub invariant-loop-index : goal.invariant-loop-index

@@ -1,5 +1,0 @@
-use Rattle.std.proofs.Common.{rules}
-use Rattle.codespan_views.proofs.annotation.shows_line.Goals as goal
-
-pub returns : goal.returns
-returns g c = search rules
