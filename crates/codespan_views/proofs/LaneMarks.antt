@@ -1,16 +1,14 @@
 -- The order of the lane marks on a line, for the clauses `in_order` of `render_line` and
 -- `render_break`, and those of `render_snippets` and `RichDiagnostic::render`.
 use Rattle.std.proofs.lemmas.Grind.{common_steps}
-use Rattle.std.proofs.Common.{◌≡◌, ℕ, ◌+◌, ◌≤◌, Bool, true, false, ◌&&◌, List, [], ◌∷◌, length, map}
-use Rattle.std.proofs.Common.{Option, Some, None, refl, sym, ap, ◌∙◌, arith, nat_le, nat_lt}
-use Rattle.std.proofs.Common.{true≢false}
+use Rattle.std.proofs.Common.{◌≡◌, ℕ, ◌+◌, ◌≤◌, Bool, true, ◌&&◌, List, [], ◌∷◌, length, map}
+use Rattle.std.proofs.Common.{Option, refl, arith, nat_le, nat_lt}
 use Rattle.std.specs.List.{AllByRecursion, enumerate_from, filter_map, cons_option}
 use Rattle.std.proofs.lemmas.Bool.{leb-true}
 use Rattle.std.proofs.lemmas.Bool.Decides.{nat_tests}
 use Rattle.codespan_core.specs.FileModel.{FileModel}
 use Rattle.codespan_core.specs.Labels.{LabelModel, LaneMark, MultiLabel, lane_mark_of}
-use Rattle.codespan_core.specs.Labels.{lane_marks_on, multi_line_labels, multi_label_on}
-use Rattle.codespan_picture.specs.Arguments.{LaneMarkTuple, lane_mark_view, lanes_in_order}
+use Rattle.codespan_core.specs.Labels.{lane_marks_on, multi_label_on}
 use Rattle.codespan_picture.specs.Arguments.{ascend_from}
 use Rattle.codespan_picture.specs.Snippets.{LabeledFileModel, num_multi_labels}
 use Rattle.codespan_views.specs.Private.Annotations.{is_before}

@@ -1,4 +1,4 @@
-use Rattle.std.proofs.Common.{◌≡◌, ◌<◌, ◌∙◌, false, true, rules, ap, subst, subst₂, sym, [], Bool}
+use Rattle.std.proofs.Common.{◌≡◌, ◌∙◌, false, true, rules, ap, sym, [], Bool}
 use Rattle.std.proofs.Common.{arith}
 use Rattle.std.proofs.lemmas.Grind.{common_steps}
 use Rattle.std.specs.Prelude.{if◌then◌else◌}
