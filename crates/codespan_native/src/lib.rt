@@ -12,15 +12,15 @@
 //! buffer.
 #![tactic(auto)]
 
-pub mod buffer;
-pub mod convert;
+mod buffer;
+mod convert;
 pub mod emit;
 pub mod error;
-pub mod native_file;
-pub mod native_files;
+mod native_file;
+mod native_files;
 pub mod raw;
 pub mod render;
-pub mod stated_lines;
+mod stated_lines;
 pub mod status;
 pub mod style_mark_writer;
-pub mod validate;
+mod validate;

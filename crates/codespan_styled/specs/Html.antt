@@ -1,5 +1,5 @@
 -- HTML elements of styled text.
-use Rattle.std.specs.Prelude.{ℕ, ◌%◌, ◌==◌, Bool, false, not, nat_lt, nat_le, ◌&&◌, ◌||◌, List}
+use Rattle.std.specs.Prelude.{ℕ, ◌%◌, ◌==◌, Bool, not, nat_lt, nat_le, ◌&&◌, ◌||◌, List}
 use Rattle.std.specs.Prelude.{◌++◌, codes, encode_utf8, if◌then◌else◌}
 use Rattle.std.specs.List.{flat_map}
 use Rattle.std.specs.Str.{chars}
