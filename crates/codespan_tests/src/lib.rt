@@ -1,13 +1,16 @@
 //! Tests of files, diagnostics and writers, of the calls that emit, of the views and the rows, of
-//! styled text, of `codespan_lsp` and of the call for C. Some repeat on worked values what a
-//! contract says; others test what none says, such as which calls flush. `files` and `lsp` have the
-//! code of `docs/FILES.md` and of `docs/LSP.md`, and `quick_start` that of `README.md`.
+//! styled text, of `codespan_lsp`, of `codespan_edits` and of the call for C. Some repeat on worked
+//! values what a contract says; others test what none says, such as which calls flush. `files` and
+//! `lsp` have the code of `docs/FILES.md` and of `docs/LSP.md`, and `quick_start` that of
+//! `README.md`.
 #![tactic(auto)]
 
 #[cfg(test)]
 mod asserts;
 #[cfg(test)]
 mod diagnostics;
+#[cfg(test)]
+mod edits;
 #[cfg(test)]
 mod files;
 #[cfg(test)]

@@ -1,0 +1,12 @@
+pub mod OrderLemmas
+pub mod PlaceLemmas
+pub mod FaultLemmas
+pub mod PartLemmas
+pub mod FitLemmas
+pub mod OneByOne
+pub mod Overlaps
+pub mod SameEdits
+pub mod LineLemmas
+pub mod DiffLines
+pub mod DiffLoops
+pub mod DiffBlocks

@@ -1,0 +1,24 @@
+use Rattle.std.proofs.Common.{◌++◌, ◌+◌, drop, map, sym, ap, ◌∙◌}
+use Rattle.std.proofs.lemmas.List.{drop_more, drop_all}
+use Rattle.codespan_edits.specs.Diffs.{kept}
+use Rattle.codespan_edits.specs.Private.Differs.{all_rows}
+use Rattle.codespan_edits.proofs.rows.Differ.keep.Goals as goal
+
+-- the next line was taken
+pub loop-line-preserved : goal.loop-line-preserved
+loop-line-preserved c =
+    let items = c.deref-line-items.result.now in
+    λ ps. c.in_ok-push.ensures.rows
+    (map kept (map (λ x. x.now) (drop (c.loop-line.line-index + 1) items)) ++ ps)
+    ∙ (ap (λ zs. all_rows c.loop-line.self (map kept (map (λ x. x.now) zs) ++ ps))
+    (sym (drop_more items c.loop-line.line-index _ c.loop-line-test.true)) ∙ c.loop-line.invariant ps)
+
+-- no line is left
+pub returns-clause-rows : goal.returns-clause-rows
+returns-clause-rows c =
+    let items = c.deref-line-items.result.now in
+    λ ps. ap (λ zs. all_rows c.loop-line.self (map kept (map (λ x. x.now) zs) ++ ps))
+    (sym (drop_all c.loop-line.line-index items c.loop-line-test.false))
+    ∙ (c.loop-line.invariant ps
+    ∙ ap (λ ls. all_rows c.args.self.now (map kept ls ++ ps))
+    (ap (map (λ x. x.now)) c.deref-line-items.ensures.value ∙ c.in_ok-lines.ensures.lines))

@@ -1,0 +1,12 @@
+-- edits and their order
+pub mod Edits
+-- what is wrong with a list of edits
+pub mod Faults
+pub mod ErrorText
+-- the diff
+pub mod Diffs
+-- laws of edits
+pub mod EditLaws
+pub mod DiffLaws
+-- of this crate alone: places
+pub mod Private
