@@ -62,8 +62,7 @@ fn compare_kinds<FileId>(left: &Annotation<'_, FileId>, right: &Annotation<'_, F
 /// The number of ranks.
 const RANK_COUNT: usize = 3;
 
-/// Returns the rank of an annotation's kind: 0 for shown, 1 for a single-line label, 2 for a lane
-/// mark.
+/// Returns the rank of a kind: 0 for shown, 1 for a single-line label, 2 for a lane mark.
 fn rank<FileId>(annotation: &Annotation<'_, FileId>) -> usize
     ensures { result ≡ rank_of (annotation_view annotation.now).kind }
 {
@@ -150,9 +149,8 @@ fn lane_on<FileId>(
     }
 }
 
-/// Puts annotations in order. Those that are in order already, or once they are grouped by line,
-/// are not sorted. `lines` has the indices of the lines of the one file that has all annotations,
-/// 0-based, the end exclusive; it is `None` where there are more files.
+/// Puts annotations in order. `lines` has the indices of the lines of the one file that has all
+/// annotations, 0-based, the end exclusive; it is `None` where there are more files.
 ///
 /// # Errors
 ///
@@ -183,10 +181,9 @@ const MIN_LEN: usize = 32;
 /// The entry in `next` of an annotation that has been moved. No annotation has this index.
 const MOVED: usize = usize::MAX;
 
-/// Moves annotations to the order of their lines, and on a line to that of the ranks of their
-/// kinds. Those of one line and one rank keep their order. Returns whether they were moved, in time
-/// linear in their number. Those of labels that overlap, or that return to the same lines in turn,
-/// are then mostly in order.
+/// Moves annotations to the order of their lines, and on a line to that of their kinds' ranks, in
+/// time linear in their number. Returns whether it did. Those of one line and rank keep their
+/// order; those of labels that overlap, or that return to the same lines, are then mostly in order.
 ///
 /// `lines` is as that of [`put_in_order`]. The annotations are unchanged where it is `None`, where
 /// they are fewer than [`MIN_LEN`] or than the lines, or where one is found to be on another line.
@@ -218,8 +215,7 @@ fn group_by_line<FileId>(
     Ok(true)
 }
 
-/// The buckets of annotations, each a chain. The index of an annotation that is not there is past
-/// the end.
+/// The buckets of annotations, each a chain. The index of no annotation is past the end.
 #[derive(Drop)]
 struct Chains {
     /// For each bucket the index of its first annotation.
