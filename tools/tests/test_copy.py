@@ -9,7 +9,7 @@ from unittest import mock
 
 from tree import REPOSITORY, run_script
 
-FURTHER = ('codespan_styled', 'codespan_lsp')
+FURTHER = ('codespan_styled', 'codespan_lsp', 'codespan_edits')
 LINK = re.compile(r'\]\(([^)\s#]+)')
 
 
