@@ -1,11 +1,15 @@
 -- The rows of a block, and of the pieces that are to come, for the clauses of `rows`.
-use Rattle.std.proofs.Common.{Bool, true, false, cond, arith, append-nil, ◌≡◌, ℕ, ◌+◌, ◌-◌, List, [], ◌∷◌, ◌++◌, length, take, drop, map, refl, sym, ap, ◌∙◌, append_assoc}
+use Rattle.std.proofs.Common.{Bool, true, false, cond, arith, append-nil, ◌≡◌, ℕ, ◌+◌}
+use Rattle.std.proofs.Common.{◌-◌, List, [], ◌∷◌, ◌++◌, length, take, drop, map, refl}
+use Rattle.std.proofs.Common.{sym, ap, ◌∙◌, append_assoc}
 use Rattle.std.specs.Prelude.{◌==◌, ◌&&◌, if◌then◌else◌}
 use Rattle.std.specs.List.{flat_map}
 use Rattle.std.specs.Borrow.{Bor}
 use Rattle.std.proofs.lemmas.Bool.Decides.{nat_tests}
 use Rattle.std.proofs.lemmas.List.{drop-map, take-map, take_rest, length-map}
-use Rattle.codespan_edits.specs.Diffs.{lines, is_whole, Change, Row, rows_with, common_start, common_end, rows_to_end, block_rows, no_change, followed_by, is_block, last_block, blocks_from}
+use Rattle.codespan_edits.specs.Diffs.{lines, is_whole, Change, Row, rows_with, common_start}
+use Rattle.codespan_edits.specs.Diffs.{common_end, rows_to_end, block_rows, no_change, followed_by}
+use Rattle.codespan_edits.specs.Diffs.{is_block, last_block, blocks_from}
 use Rattle.codespan_edits.specs.declared.rows.RowSign.TheVariants.{Kept, Removed, Added}
 
 -- the lines of a list of slices
@@ -22,11 +26,14 @@ to-end xs ys n is =
     let size_x : length (shown xs) ≡ length xs = rw length-map refl in
     let size_y : length (shown ys) ≡ length ys = rw length-map refl in
     let removed : shown (take (length xs - n) xs) ≡ take (length (shown xs) - n) (shown xs) =
-    sym (take-map (λ x. x.now) (length xs - n) xs) ∙ ap (λ k. take (k - n) (shown xs)) (sym size_x) in
+    sym (take-map (λ x. x.now) (length xs - n) xs) ∙ ap (λ k. take (k - n) (shown xs))
+    (sym size_x) in
     let added : shown (take (length ys - n) ys) ≡ take (length (shown ys) - n) (shown ys) =
-    sym (take-map (λ x. x.now) (length ys - n) ys) ∙ ap (λ k. take (k - n) (shown ys)) (sym size_y) in
+    sym (take-map (λ x. x.now) (length ys - n) ys) ∙ ap (λ k. take (k - n) (shown ys))
+    (sym size_y) in
     let kept : shown (drop (length xs - n) xs) ≡ drop (length (shown xs) - n) (shown xs) =
-    sym (drop-map (λ x. x.now) (length xs - n) xs) ∙ ap (λ k. drop (k - n) (shown xs)) (sym size_x) in
+    sym (drop-map (λ x. x.now) (length xs - n) xs) ∙ ap (λ k. drop (k - n) (shown xs))
+    (sym size_x) in
     rw (removed, added, kept)
     (ap (λ m. rows_with Removed (take (length (shown xs) - m) (shown xs))
     ++ (rows_with Added (take (length (shown ys) - m) (shown ys))
@@ -61,11 +68,14 @@ block-made block xs ys n m rows first second third all old new start end p q r s
     ∙ append_assoc rows part (removed ++ (added ++ kept)))) in
     joined
     ∙ (ap (λ rest. rows ++ (part ++ rest)) (to-end (drop n xs) (drop n ys) m end)
-    ∙ (ap (λ ls. rows ++ (rows_with Kept ls ++ rows_to_end (shown (drop n xs)) (shown (drop n ys))))
+    ∙ (ap (λ ls. rows ++ (rows_with Kept ls ++ rows_to_end (shown (drop n xs)) (shown (drop n
+    ys))))
     (sym (take-map (λ x. x.now) n xs))
-    ∙ (ap (λ ls. rows ++ (rows_with Kept (take n (shown xs)) ++ rows_to_end ls (shown (drop n ys))))
+    ∙ (ap (λ ls. rows ++ (rows_with Kept (take n (shown xs)) ++ rows_to_end ls (shown (drop n
+    ys))))
     (sym (drop-map (λ x. x.now) n xs))
-    ∙ (ap (λ ls. rows ++ (rows_with Kept (take n (shown xs)) ++ rows_to_end (drop n (shown xs)) ls))
+    ∙ (ap (λ ls. rows ++ (rows_with Kept (take n (shown xs)) ++ rows_to_end (drop n (shown xs))
+    ls))
     (sym (drop-map (λ x. x.now) n ys))
     ∙ (ap (λ k. rows ++ (rows_with Kept (take k (shown xs))
     ++ rows_to_end (drop k (shown xs)) (drop k (shown ys)))) start
@@ -85,7 +95,8 @@ pub block-shown : (block : Change) (xs ys a b c d e f : List (Bor (List ℕ))) (
     → third ≡ second ++ rows_with Added (shown (take (length e - m) e))
     → all ≡ third ++ rows_with Kept (shown f)
     → all ≡ rows ++ block_rows block
-block-shown block xs ys a b c d e f n m rows first second third all at_a at_b at_c at_d at_e at_f old new
+block-shown block xs ys a b c d e f n m rows first second third all at_a at_b at_c at_d at_e at_f
+    old new
     start end p q r s =
     block-made block xs ys n m rows first second third all old new (rw (at_a, at_b) at start)
     (rw (at_d, at_e) at end) (rw at_c at p) (rw at_d at q) (rw at_e at r) (rw (at_f, at_d) at s)
@@ -107,7 +118,8 @@ push-block rows newer held p now ps whole made empty =
     ∙ (append_assoc rows (block_rows (followed_by held p))
     (flat_map block_rows (blocks_from no_change ps))
     ∙ ap (λ t. rows ++ flat_map block_rows
-    (cond t (followed_by held p ∷ blocks_from no_change ps) (blocks_from (followed_by held p) ps)))
+    (cond t (followed_by held p ∷ blocks_from no_change ps)
+    (blocks_from (followed_by held p) ps)))
     (sym whole)))
 
 -- or one that is held
@@ -118,7 +130,8 @@ pub push-held : (rows : List Row) (held p now : Change) (ps : List Change)
 push-held rows held p now ps part is =
     ap (λ h. rows ++ flat_map block_rows (blocks_from h ps)) is
     ∙ ap (λ t. rows ++ flat_map block_rows
-    (cond t (followed_by held p ∷ blocks_from no_change ps) (blocks_from (followed_by held p) ps)))
+    (cond t (followed_by held p ∷ blocks_from no_change ps)
+    (blocks_from (followed_by held p) ps)))
     (sym part)
 
 -- changes with the same texts are the same
@@ -152,7 +165,8 @@ finished rows all a b c d p q is =
     ∙ ap (λ rs. rows ++ rs) (last-rows c d))
 
 -- that a text is whole, by what was tested
-is-whole : (x y z : List ℕ) (tested t : Bool) → x ≡ y → z ≡ x → tested ≡ is_whole z → tested ≡ t
+is-whole : (x y z : List ℕ) (tested t : Bool) → x ≡ y → z ≡ x → tested ≡ is_whole z
+    → tested ≡ t
     → is_whole y ≡ t
 is-whole x y z tested t p q r s = ap is_whole (sym (q ∙ p)) ∙ (sym r ∙ s)
 
@@ -169,13 +183,17 @@ module _ (sb sa old new before after : List ℕ) (ps : List Change) (grown : bef
     (grown_too : after ≡ sa ++ new) where
   -- the piece ends a block
   pub pushed-block : (rows newer : List Row) (x y u v cleared cleared_too : List ℕ) (s t : Bool)
-      → x ≡ before → s ≡ is_whole x → s ≡ true → y ≡ after → t ≡ is_whole y → t ≡ true
-      → u ≡ before → v ≡ after → newer ≡ rows ++ block_rows (record { old = u; new = v })
+      → x ≡ before → s ≡ is_whole x → s ≡ true → y ≡ after → t ≡ is_whole y →
+      t ≡ true
+      → u ≡ before → v ≡ after → newer ≡ rows ++ block_rows
+      (record { old = u; new = v })
       → cleared ≡ [] → cleared_too ≡ []
-      → newer ++ flat_map block_rows (blocks_from (record { old = cleared; new = cleared_too }) ps)
+      → newer ++ flat_map block_rows
+      (blocks_from (record { old = cleared; new = cleared_too }) ps)
       ≡ rows ++ flat_map block_rows (blocks_from (record { old = sb; new = sa })
       (record { old = old; new = new } ∷ ps))
-  pushed-block rows newer x y u v cleared cleared_too s t x_is s_is s_true y_is t_is t_true u_is v_is
+  pushed-block rows newer x y u v cleared cleared_too s t x_is s_is s_true y_is t_is t_true u_is
+      v_is
       made c_is d_is =
       let first = is-whole before (sb ++ old) x s true grown x_is s_is s_true in
       let second = is-whole after (sa ++ new) y t true grown_too y_is t_is t_true in

@@ -1,6 +1,8 @@
 -- The rows of a diff have the lines of the old text and of the new one, for the clause of
 -- `laws::diff_has_all_lines`.
-use Rattle.std.proofs.Common.{◌≡◌, ℕ, ◌+◌, ◌-◌, ◌≤◌, Bool, true, false, cond, List, [], ◌∷◌, ◌++◌, length, take, drop, map, reverse, refl, sym, ap, ◌∙◌, arith, append_assoc, append-nil, length-drop}
+use Rattle.std.proofs.Common.{◌≡◌, ℕ, ◌+◌, ◌-◌, ◌≤◌, Bool, true, false, cond}
+use Rattle.std.proofs.Common.{List, [], ◌∷◌, ◌++◌, length, take, drop, map, reverse, refl}
+use Rattle.std.proofs.Common.{sym, ap, ◌∙◌, arith, append_assoc, append-nil, length-drop}
 use Rattle.std.specs.Prelude.{◌&&◌, ◌==◌, slice_range, if◌then◌else◌}
 use Rattle.std.specs.List.{flat_map, filter}
 use Rattle.std.specs.Str.{bytes_eq}
@@ -8,11 +10,14 @@ use Rattle.std.proofs.lemmas.Bool.Decides.{nat_tests}
 use Rattle.std.proofs.Math.Numerals.{one-add}
 use Rattle.std.proofs.Math.Seq.{take-append_seam}
 use Rattle.std.proofs.lemmas.Slice.Eq.{bytes_eq-Decides}
-use Rattle.std.proofs.lemmas.List.{take-append-drop, map-append, reverse-append, reverse-reverse, length-reverse, drop-drop, nil_from_length}
+use Rattle.std.proofs.lemmas.List.{take-append-drop, map-append, reverse-append, reverse-reverse}
+use Rattle.std.proofs.lemmas.List.{length-reverse, drop-drop, nil_from_length}
 use Rattle.std.proofs.lemmas.List.Concat.{flat_map-append}
 use Rattle.std.proofs.lemmas.List.Elements.{filter-append}
 use Rattle.codespan_edits.specs.Edits.{ListedEdit, in_order, listed, edited_from}
-use Rattle.codespan_edits.specs.Diffs.{lines, is_whole, Change, no_change, followed_by, kept, pieces_from, is_block, blocks_from, Row, rows_with, common_start, common_end, rows_to_end, block_rows}
+use Rattle.codespan_edits.specs.Diffs.{lines, is_whole, Change, no_change, followed_by, kept}
+use Rattle.codespan_edits.specs.Diffs.{pieces_from, is_block, blocks_from, Row, rows_with}
+use Rattle.codespan_edits.specs.Diffs.{common_start, common_end, rows_to_end, block_rows}
 use Rattle.codespan_edits.specs.declared.rows.RowSign.{RowSign}
 use Rattle.codespan_edits.specs.declared.rows.RowSign.TheVariants.{Kept, Removed, Added}
 use Rattle.codespan_edits.specs.DiffLaws.{is_old, is_new, lines_with, DiffHasAllLines}
@@ -32,17 +37,20 @@ module _ (side : Change → List ℕ) (of_kept : (l : List ℕ) → side (kept l
 
   -- the lines of blocks are those of their pieces
   blocks-side : (held : Change) (ps : List Change)
-      → flat_map (λ x. lines (side x)) (blocks_from held ps) ≡ lines (side held ++ flat_map side ps)
+      → flat_map (λ x. lines (side x)) (blocks_from held ps) ≡ lines
+      (side held ++ flat_map side ps)
   blocks-side held [] = by_test (length held.old + length held.new == 0) refl where
     by_test : (t : Bool) → (length held.old + length held.new == 0) ≡ t
-        → flat_map (λ x. lines (side x)) (if t then [] else held ∷ []) ≡ lines (side held ++ [])
+        → flat_map (λ x. lines (side x)) (if t then [] else held ∷ []) ≡ lines
+        (side held ++ [])
     by_test true h = rw (of_none held h) refl
     by_test false h = append-nil (lines (side held)) ∙ ap lines (sym (append-nil (side held)))
   blocks-side held (p ∷ ps) =
       by_test (is_block (followed_by held p)) refl (blocks-side no_change ps)
       (blocks-side (followed_by held p) ps)
     where
-      all : side (followed_by held p) ++ flat_map side ps ≡ side held ++ (side p ++ flat_map side ps)
+      all : side (followed_by held p) ++ flat_map side ps ≡ side held ++
+          (side p ++ flat_map side ps)
       all = rw (of_two held p) (append_assoc (side held) (side p) (flat_map side ps))
 
       by_test : (t : Bool) → is_block (followed_by held p) ≡ t
@@ -115,7 +123,8 @@ with-append : (test : RowSign → Bool) (rs ss : List Row)
     → lines_with test (rs ++ ss) ≡ lines_with test rs ++ lines_with test ss
 with-append test rs ss =
     ap (map (λ (r : Row). r.line)) (filter-append (λ (r : Row). test r.sign) rs ss)
-    ∙ map-append (λ (r : Row). r.line) (filter (λ r. test r.sign) rs) (filter (λ r. test r.sign) ss)
+    ∙ map-append (λ (r : Row). r.line) (filter (λ r. test r.sign) rs)
+    (filter (λ r. test r.sign) ss)
 
 -- rows of one sign pass
 with-sign : (test : RowSign → Bool) (sign : RowSign) (ls : List (List ℕ)) → test sign ≡ true
@@ -124,7 +133,8 @@ with-sign test sign [] h = refl
 with-sign test sign (l ∷ ls) h = rw h (ap (λ ms. l ∷ ms) (with-sign test sign ls h))
 
 -- or none of them does
-without-sign : (test : RowSign → Bool) (sign : RowSign) (ls : List (List ℕ)) → test sign ≡ false
+without-sign : (test : RowSign → Bool) (sign : RowSign) (ls : List (List ℕ)) → test sign ≡
+    false
     → lines_with test (rows_with sign ls) ≡ []
 without-sign test sign [] h = refl
 without-sign test sign (l ∷ ls) h = rw h (without-sign test sign ls h)
@@ -234,7 +244,8 @@ blocks-new ps =
     (λ p h. (both (is_whole p.old) (is_whole p.new) h).1) no_change ps
 
 -- a part, and what follows it
-part-rest : (text : List ℕ) (a b : ℕ) → a ≤ b → slice_range text a b ++ drop b text ≡ drop a text
+part-rest : (text : List ℕ) (a b : ℕ) → a ≤ b → slice_range text a b ++ drop b text ≡
+    drop a text
 part-rest text a b h =
     let sum : b ≡ a + (b - a) = omega (arith, h) in
     ap (λ n. slice_range text a b ++ drop n text) sum
@@ -270,7 +281,8 @@ diff-has-all-lines text edits none =
     let bs = blocks_from no_change ps in (
       blocks-with is_old (λ b. b.old) block-old bs
           ∙ (blocks-old ps
-          ∙ ap lines (pieces-old text 0 (in_order (listed edits)) (fit-in_order text edits none))),
+          ∙ ap lines (pieces-old text 0 (in_order (listed edits))
+          (fit-in_order text edits none))),
       blocks-with is_new (λ b. b.new) block-new bs
           ∙ (blocks-new ps ∙ ap lines (pieces-new text 0 (in_order (listed edits)))),
     )

@@ -1,11 +1,15 @@
 -- Facts on the loops that make the rows of a diff, for the clauses of `rows`.
-use Rattle.std.proofs.Common.{inl, inr, ◌≡◌, ◌≢◌, ℕ, zero, suc, ◌+◌, ◌-◌, ◌<◌, ◌≤◌, Bool, true, false, cond, List, [], ◌∷◌, ◌++◌, length, get_or, take, drop, map, reverse, min, refl, sym, ap, ◌∙◌, subst, arith, append_assoc, append-nil, length-drop}
+use Rattle.std.proofs.Common.{inl, inr, ◌≡◌, ◌≢◌, ℕ, zero, suc, ◌+◌, ◌-◌}
+use Rattle.std.proofs.Common.{◌<◌, ◌≤◌, Bool, true, false, cond, List, [], ◌∷◌}
+use Rattle.std.proofs.Common.{◌++◌, length, get_or, take, drop, map, reverse, min, refl, sym}
+use Rattle.std.proofs.Common.{ap, ◌∙◌, subst, arith, append_assoc, append-nil, length-drop}
 use Rattle.std.specs.Prelude.{◌==◌, not, slice_range, slice_get, Some}
 use Rattle.std.specs.Borrow.{Bor}
 use Rattle.std.specs.Str.{bytes_eq}
 use Rattle.std.proofs.lemmas.Bool.{cases_lt}
 use Rattle.std.proofs.lemmas.Bool.Decides.{nat_tests}
-use Rattle.std.proofs.lemmas.List.{drop_more, drop_all, get_or-map, get_or-drop, drop-drop, get_or-reverse, length-map}
+use Rattle.std.proofs.lemmas.List.{drop_more, drop_all, get_or-map, get_or-drop, drop-drop}
+use Rattle.std.proofs.lemmas.List.{get_or-reverse, length-map}
 use Rattle.codespan_edits.specs.Diffs.{byte_before, lines, is_whole, common_start}
 
 -- two lists of lines, and the test whether the lines at an index differ
@@ -22,7 +26,8 @@ module _ (xs ys : List (List ℕ)) (n : ℕ) (in_x : n < length xs) (in_y : n < 
       (drop_more ys n [] in_y ∙ ap (λ z. z ∷ drop (n + 1) ys) is_y)
 
   -- where the two lines are the same, there is one more
-  pub start-more : differ ≡ false → common_start xs ys ≡ n + common_start (drop n xs) (drop n ys)
+  pub start-more : differ ≡ false → common_start xs ys ≡ n + common_start (drop n xs)
+      (drop n ys)
       → common_start xs ys ≡ (n + 1) + common_start (drop (n + 1) xs) (drop (n + 1) ys)
   start-more same was =
       by_test (bytes_eq x y) (sym same ∙ test) from-there
@@ -34,7 +39,8 @@ module _ (xs ys : List (List ℕ)) (n : ℕ) (in_x : n < length xs) (in_y : n < 
       by_test false h rest = absurd (cc)
 
   -- otherwise there is none
-  pub start-here : differ ≡ true → common_start xs ys ≡ n + common_start (drop n xs) (drop n ys)
+  pub start-here : differ ≡ true → common_start xs ys ≡ n + common_start (drop n xs)
+      (drop n ys)
       → n ≡ common_start xs ys
   start-here other was =
       by_test (bytes_eq x y) (sym other ∙ test) from-there
@@ -61,7 +67,8 @@ start-end xs ys n past was =
       none (x ∷ zs) (y ∷ ws) h = absurd (omega (arith, h))
 
 -- whether a text that is not empty is whole, from its last byte
-pub whole-at : (bs : List ℕ) (k : ℕ) → k + 1 ≡ length bs → is_whole bs ≡ (get_or bs k 0 == 10)
+pub whole-at : (bs : List ℕ) (k : ℕ) → k + 1 ≡ length bs → is_whole bs ≡
+    (get_or bs k 0 == 10)
 whole-at [] k h = absurd (omega (arith, h))
 whole-at (b ∷ []) zero h = refl
 whole-at (b ∷ []) (suc k) h = absurd (omega (arith, h))
@@ -77,7 +84,8 @@ slice_get-at (x ∷ xs) (suc k) b h =
     let r = slice_get-at xs k b h in (omega (arith, r.0), r.1)
 
 -- whether a text is whole, from its last byte
-pub whole-last : (bs text : List ℕ) (b : ℕ) → bs ≡ text → Some b ≡ slice_get bs (length bs - 1)
+pub whole-last : (bs text : List ℕ) (b : ℕ) → bs ≡ text → Some b ≡ slice_get bs
+    (length bs - 1)
     → (b == 10) ≡ is_whole text
 whole-last bs text b same h =
     let r = slice_get-at bs (length bs - 1) b h in
@@ -88,7 +96,8 @@ whole-last bs text b same h =
 pub line-from_end : (xs : List (Bor (List ℕ))) (n : ℕ) (d : Bor (List ℕ)) → n < length xs
     → get_or (reverse (map (λ x. x.now) xs)) n [] ≡ (get_or xs (length xs - 1 - n) d).now
 line-from_end xs n d h =
-    let size : length (map (λ (x : Bor (List ℕ)). x.now) xs) ≡ length xs = rw length-map refl in
+    let size : length (map (λ (x : Bor (List ℕ)). x.now) xs) ≡ length xs = rw length-map
+    refl in
     get_or-reverse (map (λ x. x.now) xs) n [] (rw length-map h)
     ∙ (ap (λ m. get_or (map (λ x. x.now) xs) (m - 1 - n) []) size
     ∙ get_or-map (λ x. x.now) xs (length xs - 1 - n) d [] (omega (arith, h)))
@@ -98,7 +107,8 @@ no-newline : (b : ℕ) → b ≢ 10 → (b == 10) ≡ false
 no-newline b h = grind (arith, nat_tests)
 
 -- the first line of a text, up to its first newline
-cut-line : (n : ℕ) (bs : List ℕ) → n < length bs → ((k : ℕ) → k < n → get_or bs k 0 ≢ 10)
+cut-line : (n : ℕ) (bs : List ℕ) → n < length bs →
+    ((k : ℕ) → k < n → get_or bs k 0 ≢ 10)
     → get_or bs n 0 ≡ 10 → lines bs ≡ take (n + 1) bs ∷ lines (drop (n + 1) bs)
 cut-line n [] h none newline = absurd (omega (arith, h))
 cut-line zero (b ∷ bs) h none newline = rw newline refl
@@ -111,7 +121,8 @@ cut-line (suc n) (b ∷ bs) h none newline =
     ∙ ap (λ m. take m (b ∷ bs) ∷ lines (drop m (b ∷ bs))) (sym step))
 
 -- the only line of a text without a newline
-last-line : (bs : List ℕ) → 0 < length bs → ((k : ℕ) → k < length bs → get_or bs k 0 ≢ 10)
+last-line : (bs : List ℕ) → 0 < length bs →
+    ((k : ℕ) → k < length bs → get_or bs k 0 ≢ 10)
     → lines bs ≡ bs ∷ []
 last-line [] h none = absurd (omega (arith, h))
 last-line (b ∷ []) h none =
@@ -124,7 +135,8 @@ last-line (b ∷ (c ∷ cs)) h none =
 
 -- one more byte is no newline
 pub unbroken-more : (text : List ℕ) (start i : ℕ)
-    → ((k : ℕ) → start + k < i → get_or text (start + k) 0 ≢ 10) → get_or text i 0 ≢ 10
+    → ((k : ℕ) → start + k < i → get_or text (start + k) 0 ≢ 10) → get_or text i 0 ≢
+    10
     → (k : ℕ) → start + k < i + 1 → get_or text (start + k) 0 ≢ 10
 unbroken-more text start i unbroken other k h =
     elim (cases_lt (start + k) i) [
@@ -139,7 +151,8 @@ module _ (text : List ℕ) (start i : ℕ) (done : List (List ℕ)) (up : start 
     (unbroken : (k : ℕ) → start + k < i → get_or text (start + k) 0 ≢ 10)
     (all : done ++ lines (drop start text) ≡ lines text) where
   -- a newline is there
-  pub lines-more : (new : List (List ℕ)) (part : List ℕ) → i < length text → get_or text i 0 ≡ 10
+  pub lines-more : (new : List (List ℕ)) (part : List ℕ) → i < length text → get_or text i 0
+      ≡ 10
       → new ≡ done ++ part ∷ [] → part ≡ slice_range text start (i + 1)
       → new ++ lines (drop (i + 1) text) ≡ lines text
   lines-more new part inside newline pushed is =
@@ -150,7 +163,8 @@ module _ (text : List ℕ) (start i : ℕ) (done : List (List ℕ)) (up : start 
       let cut : lines (drop start text)
       ≡ take (n + 1) (drop start text) ∷ lines (drop (n + 1) (drop start text)) =
       cut-line n (drop start text) (omega (arith, length-drop start text, up, inside))
-      (λ k h. subst (λ b. b ≢ 10) (sym (get_or-drop start text k 0)) (unbroken k (omega (arith, h, up))))
+      (λ k h. subst (λ b. b ≢ 10) (sym (get_or-drop start text k 0))
+      (unbroken k (omega (arith, h, up))))
       (get_or-drop start text n 0 ∙ (ap (λ m. get_or text m 0) last ∙ newline)) in
       let part_is : take (n + 1) (drop start text) ≡ part =
       ap (λ m. take m (drop start text)) size ∙ sym is in
@@ -158,11 +172,13 @@ module _ (text : List ℕ) (start i : ℕ) (done : List (List ℕ)) (up : start 
       drop-drop (n + 1) start text ∙ ap (λ m. drop m text) end in
       ap (λ ls. ls ++ lines (drop (i + 1) text)) pushed
       ∙ (append_assoc done (part ∷ []) (lines (drop (i + 1) text))
-      ∙ (ap (λ ls. done ++ ls) (sym (cut ∙ (ap (λ l. l ∷ lines (drop (n + 1) (drop start text))) part_is
+      ∙ (ap (λ ls. done ++ ls) (sym
+      (cut ∙ (ap (λ l. l ∷ lines (drop (n + 1) (drop start text))) part_is
       ∙ ap (λ bs. part ∷ lines bs) rest_is))) ∙ all))
 
   -- the text ends with a line without newline
-  pub lines-last : (new : List (List ℕ)) (part : List ℕ) → i ≡ length text → start < length text
+  pub lines-last : (new : List (List ℕ)) (part : List ℕ) → i ≡ length text → start <
+      length text
       → new ≡ done ++ part ∷ [] → part ≡ drop start text
       → new ≡ lines text
   lines-last new part at_end inside pushed is =

@@ -1,5 +1,7 @@
 -- Facts on the loops that look for a fault, for the clauses of `order`.
-use Rattle.std.proofs.Common.{◌≡◌, ℕ, ◌+◌, ◌-◌, ◌<◌, ◌≤◌, List, [], ◌∷◌, length, get_or, drop, map, Some, None, refl, sym, ap, ◌∙◌, arith, length-drop}
+use Rattle.std.proofs.Common.{◌≡◌, ℕ, ◌+◌, ◌-◌, ◌<◌, ◌≤◌, List, []}
+use Rattle.std.proofs.Common.{◌∷◌, length, get_or, drop, map, Some, None, refl, sym, ap}
+use Rattle.std.proofs.Common.{◌∙◌, arith, length-drop}
 use Rattle.std.specs.Option.{option_or}
 use Rattle.std.proofs.Math.ListN.{length-map}
 use Rattle.std.proofs.lemmas.Bool.{lt-ltb, le-ltb}
@@ -13,7 +15,8 @@ use Rattle.codespan_edits.specs.declared.error.EditError.TheVariants.{Overlap}
 use Rattle.codespan_edits.specs.declared.order.Place.{Place}
 
 -- in the loop over a list of edits, at the edit x
-module _ {FileId : Type 0} (text : List ℕ) (edits : List (Edit FileId)) (i : ℕ) (x : Edit FileId)
+module _ {FileId : Type 0} (text : List ℕ) (edits : List (Edit FileId)) (i : ℕ)
+    (x : Edit FileId)
     (inside : i < length edits) (is : x ≡ get_or edits i x) where
   -- x is the next edit
   next : drop i (text_edits edits) ≡ text_edit x ∷ drop (i + 1) (text_edits edits)
@@ -35,7 +38,8 @@ module _ {FileId : Type 0} (text : List ℕ) (edits : List (Edit FileId)) (i : �
       ≡ first_own_fault text (listed_from (i + 1) (drop (i + 1) (text_edits edits)))
   first-more none =
       first-next
-      ∙ ap (λ o. option_or o (first_own_fault text (listed_from (i + 1) (drop (i + 1) (text_edits edits)))))
+      ∙ ap (λ o. option_or o (first_own_fault text (listed_from (i + 1) (drop (i + 1) (text_edits
+      edits)))))
       (sym none)
 
   -- or it has
@@ -44,7 +48,8 @@ module _ {FileId : Type 0} (text : List ℕ) (edits : List (Edit FileId)) (i : �
       → first_own_fault text (listed_from i (drop i (text_edits edits))) ≡ Some e
   first-here e some =
       first-next
-      ∙ ap (λ o. option_or o (first_own_fault text (listed_from (i + 1) (drop (i + 1) (text_edits edits)))))
+      ∙ ap (λ o. option_or o (first_own_fault text (listed_from (i + 1) (drop (i + 1) (text_edits
+      edits)))))
       (sym some)
 
 -- the edit at a place and the edits that follow
@@ -54,7 +59,8 @@ pub at_place : (edits : List TextEdit) (ps : List Place) (j k : ℕ) (d : Place)
 at_place edits ps j k d inside is =
     drop-map (edit_at edits) j ps
     ∙ (ap (map (edit_at edits)) (drop_more ps j d inside)
-    ∙ (ap (λ ys. edit_at edits (get_or ps j d) ∷ ys) (sym (drop-map (edit_at edits) (j + 1) ps))
+    ∙ (ap (λ ys. edit_at edits (get_or ps j d) ∷ ys)
+    (sym (drop-map (edit_at edits) (j + 1) ps))
     ∙ ap (λ n. edit_at edits (get_or ps j d) ∷ drop n (edits_at edits ps)) (sym is)))
 
 -- in the loop over places, at the one with the index i
@@ -66,7 +72,8 @@ module _ (edits : List TextEdit) (ps : List Place) (i : ℕ) (d : Place) (from :
       ∷ (edit_at edits (get_or ps i d) ∷ drop (i + 1) (edits_at edits ps))
   both =
       at_place edits ps (i - 1) i d (omega arith) (omega arith)
-      ∙ ap (λ xs. edit_at edits (get_or ps (i - 1) d) ∷ xs) (at_place edits ps i (i + 1) d inside refl)
+      ∙ ap (λ xs. edit_at edits (get_or ps (i - 1) d) ∷ xs)
+      (at_place edits ps i (i + 1) d inside refl)
 
   -- it overlaps with the place before it
   pub neighbor-here : (get_or ps i d).start < (get_or ps (i - 1) d).end

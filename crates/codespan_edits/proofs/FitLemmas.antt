@@ -1,5 +1,7 @@
 -- Edits without a fault fit their text, for what `put_together` requires.
-use Rattle.std.proofs.Common.{◌≡◌, ℕ, zero, suc, ◌+◌, ◌<◌, ◌≤◌, Bool, true, false, List, [], ◌∷◌, length, Option, Some, None, if◌then◌else◌, refl, sym, subst, arith}
+use Rattle.std.proofs.Common.{◌≡◌, ℕ, zero, suc, ◌+◌, ◌<◌, ◌≤◌, Bool, true}
+use Rattle.std.proofs.Common.{false, List, [], ◌∷◌, length, Option, Some, None}
+use Rattle.std.proofs.Common.{if◌then◌else◌, refl, sym, subst, arith}
 use Rattle.std.specs.Prelude.{All, nat_lt, not}
 use Rattle.std.specs.List.{AllByRecursion}
 use Rattle.std.specs.Option.{option_or}
@@ -20,7 +22,8 @@ neither None b h = (refl, h)
 neither (Some e) b h = absurd (cc)
 
 -- a boundary by its test
-boundary : (text : List ℕ) (i : ℕ) → is_char_boundary text i ≡ true → IsCharBoundary text i
+boundary : (text : List ℕ) (i : ℕ) → is_char_boundary text i ≡ true → IsCharBoundary text
+    i
 boundary text i h = grind (arith, nat_tests, h)
 
 -- an edit by itself fits the text
@@ -106,7 +109,8 @@ places-below : (edits : List TextEdit) (n : ℕ) (ps : List Place)
     → AllByRecursion (λ x. x.index < n) (edits_at edits ps) → All (λ p. p.index < n) ps
 places-below edits n [] all k d h = absurd (omega (arith, h))
 places-below edits n (p ∷ ps) all zero d h = all.0
-places-below edits n (p ∷ ps) all (suc k) d h = places-below edits n ps all.1 k d (omega (arith, h))
+places-below edits n (p ∷ ps) all (suc k) d h = places-below edits n ps all.1 k d
+    (omega (arith, h))
 
 -- the places of the edits in order have indices of the list, which has n edits
 pub places-listed : (edits : List TextEdit) (n : ℕ) (ps : List Place) → length edits ≤ n

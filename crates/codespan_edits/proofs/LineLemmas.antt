@@ -1,5 +1,6 @@
 -- The lines of a text, for the clause of `laws::diff_has_all_lines`.
-use Rattle.std.proofs.Common.{◌≡◌, ℕ, ◌<◌, Bool, true, false, cond, List, [], ◌∷◌, ◌++◌, length, refl, ap, ◌∙◌, arith}
+use Rattle.std.proofs.Common.{◌≡◌, ℕ, ◌<◌, Bool, true, false, cond, List, [], ◌∷◌}
+use Rattle.std.proofs.Common.{◌++◌, length, refl, ap, ◌∙◌, arith}
 use Rattle.std.specs.Prelude.{◌==◌}
 use Rattle.std.specs.List.{flat_map}
 use Rattle.codespan_edits.specs.Diffs.{byte_before, lines, is_whole}
@@ -20,7 +21,8 @@ before-append b [] ms h = absurd (omega (arith, h))
 before-append b (l ∷ ls) ms h = refl
 
 -- the lines of a whole text and another one are those of both
-pub lines-append : (x y : List ℕ) → is_whole x ≡ true → lines (x ++ y) ≡ lines x ++ lines y
+pub lines-append : (x y : List ℕ) → is_whole x ≡ true → lines (x ++ y) ≡ lines x ++ lines
+    y
 lines-append [] y w = refl
 lines-append (b ∷ []) y w = rw w refl
 lines-append (b ∷ (c ∷ cs)) y w = by_test (lines-append (c ∷ cs) y w) (b == 10) where

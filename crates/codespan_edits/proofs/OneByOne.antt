@@ -1,5 +1,7 @@
 -- Edits one after another make the same, for the clause of `laws::edits_are_one_by_one`.
-use Rattle.std.proofs.Common.{◌≡◌, ℕ, ◌-◌, ◌≤◌, List, [], ◌∷◌, ◌++◌, length, take, drop, sym, ap, ◌∙◌, arith, append_assoc, length-take}
+use Rattle.std.proofs.Common.{◌≡◌, ℕ, ◌-◌, ◌≤◌, List, [], ◌∷◌, ◌++◌}
+use Rattle.std.proofs.Common.{length, take, drop, sym, ap, ◌∙◌, arith, append_assoc}
+use Rattle.std.proofs.Common.{length-take}
 use Rattle.std.specs.Prelude.{slice_range}
 use Rattle.std.proofs.lemmas.List.{take-append-le, take-append-drop}
 use Rattle.std.proofs.Math.Seq.{drop-append_seam, take-add}
@@ -18,7 +20,8 @@ take-front a b text rest h k =
     ∙ ap (take a) (take-append-drop b text))
 
 -- what follows a front
-drop-front : (b : ℕ) (text rest : List ℕ) → b ≤ length text → drop b (take b text ++ rest) ≡ rest
+drop-front : (b : ℕ) (text rest : List ℕ) → b ≤ length text → drop b (take b text ++ rest)
+    ≡ rest
 drop-front b text rest k =
     let is : length (take b text) ≡ b = length-take b text ∙ omega arith in
     ap (λ n. drop n (take b text ++ rest)) (sym is) ∙ drop-append_seam (take b text) rest
@@ -41,7 +44,8 @@ backwards text byte (x ∷ xs) fit =
     let end : drop e.end (edited_backwards text xs) ≡ rest =
     ap (drop e.end) (backwards text e.end xs fit.4) ∙ drop-front e.end text rest fit.3.0 in
     rw (start, end)
-    (ap (λ front. front ++ (e.replacement ++ rest)) (sym (front-part byte e.start text fit.0 fit.2.0))
+    (ap (λ front. front ++ (e.replacement ++ rest))
+    (sym (front-part byte e.start text fit.0 fit.2.0))
     ∙ append_assoc (take byte text) (slice_range text byte e.start) (e.replacement ++ rest))
 
 pub one-by-one : EditsAreOneByOne

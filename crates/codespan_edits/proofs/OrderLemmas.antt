@@ -1,15 +1,18 @@
 -- A list in order is determined by its members, for the clause `sorted` of `sorted_places` and for
 -- the laws.
-use Rattle.std.proofs.Common.{◌≡◌, ℕ, ◌+◌, Bool, true, false, List, [], ◌∷◌, if◌then◌else◌, refl, sym, ap, ◌∙◌, arith}
+use Rattle.std.proofs.Common.{◌≡◌, ℕ, ◌+◌, Bool, true, false, List, [], ◌∷◌}
+use Rattle.std.proofs.Common.{if◌then◌else◌, refl, sym, ap, ◌∙◌, arith}
 use Rattle.std.specs.Prelude.{sum_by}
 use Rattle.std.specs.List.{AllByRecursion}
 use Rattle.std.specs.Cmp.{IsStrictWeakOrder, IsTotalOrder, then_total, on_total, nat_cmp_total}
 use Rattle.std.specs.List.Sorted.{IsPermutation}
 use Rattle.std.specs.Ordering.{nat_cmp, ordering_then, is_lt}
 use Rattle.std.proofs.lemmas.Bool.Decides.{nat_tests}
-use Rattle.std.proofs.lemmas.List.Sorted.{ranks_by, IsPermutation-refl, IsPermutation-trans, IsPermutation-cons, IsPermutation-middle}
+use Rattle.std.proofs.lemmas.List.Sorted.{ranks_by, IsPermutation-refl, IsPermutation-trans}
+use Rattle.std.proofs.lemmas.List.Sorted.{IsPermutation-cons, IsPermutation-middle}
 use Rattle.std.proofs.lemmas.List.Sums.{sum_by-cons}
-use Rattle.codespan_edits.specs.Edits.{TextEdit, ListedEdit, compare, is_before, insert_in_order, in_order}
+use Rattle.codespan_edits.specs.Edits.{TextEdit, ListedEdit, compare, is_before, insert_in_order}
+use Rattle.codespan_edits.specs.Edits.{in_order}
 use Rattle.codespan_edits.specs.Private.Places.{replacement_at}
 
 -- the comparison is a total order
@@ -56,7 +59,8 @@ all-in_order P [] all = tt
 all-in_order P (x ∷ xs) all = all-insert P x (in_order xs) all.0 (all-in_order P xs all.1)
 
 -- what is after x is after what x is after
-none-chain : (x y : ListedEdit) (zs : List ListedEdit) → is_before y x ≡ false → NoneBefore y zs
+none-chain : (x y : ListedEdit) (zs : List ListedEdit) → is_before y x ≡ false → NoneBefore y
+    zs
     → NoneBefore x zs
 none-chain x y [] h none = tt
 none-chain x y (z ∷ zs) h none =
@@ -69,7 +73,11 @@ ascends-insert x [] up = (tt, tt)
 ascends-insert x (y ∷ ys) up = by_test (ascends-insert x ys up.1) (is_before y x) refl where
   by_test : Ascends (insert_in_order x ys) → (b : Bool) → is_before y x ≡ b
       → Ascends (if b then y ∷ insert_in_order x ys else x ∷ (y ∷ ys))
-  by_test rest true t = (all-insert (λ z. is_before z y ≡ false) x ys (before_order.one_way y x t) up.0, rest)
+  by_test rest true t = (
+    all-insert (λ z. is_before z y ≡ false) x ys
+        (before_order.one_way y x t) up.0,
+    rest,
+  )
   by_test rest false t = ((t, none-chain x y ys t up.0), up)
 
 -- edits that were brought to their order are in order
@@ -83,7 +91,8 @@ insert-permutation : (x : ListedEdit) (ys : List ListedEdit)
 insert-permutation x [] = IsPermutation-refl (x ∷ [])
 insert-permutation x (y ∷ ys) = by_test (insert-permutation x ys) (is_before y x) where
   by_test : IsPermutation (x ∷ ys) (insert_in_order x ys) → (b : Bool)
-      → IsPermutation (x ∷ (y ∷ ys)) (if b then y ∷ insert_in_order x ys else x ∷ (y ∷ ys))
+      → IsPermutation (x ∷ (y ∷ ys))
+      (if b then y ∷ insert_in_order x ys else x ∷ (y ∷ ys))
   by_test rest true =
       IsPermutation-trans (x ∷ (y ∷ ys)) (y ∷ (x ∷ ys)) (y ∷ insert_in_order x ys)
       (IsPermutation-middle (x ∷ []) y ys)
@@ -140,7 +149,12 @@ tied : (a b c d i j : ℕ)
     → is_lt (ordering_then (nat_cmp a b) (ordering_then (nat_cmp c d) (nat_cmp i j))) ≡ false
     → is_lt (ordering_then (nat_cmp b a) (ordering_then (nat_cmp d c) (nat_cmp j i))) ≡ false
     → (a ≡ b) × (c ≡ d) × (i ≡ j)
-tied a b c d i j h k = (grind (arith, nat_tests), grind (arith, nat_tests), grind (arith, nat_tests))
+tied a b c d i j h k = (
+  grind (arith, nat_tests),
+  grind (arith, nat_tests),
+  grind
+      (arith, nat_tests),
+)
 
 -- edits with the same fields are the same
 same_fields : (a b c d i j : ℕ) (r s : List ℕ) → a ≡ b → c ≡ d → i ≡ j → r ≡ s
@@ -154,7 +168,8 @@ same_edit : (edits : List TextEdit) (x y : ListedEdit) → is_before x y ≡ fal
     → is_before y x ≡ false → x.edit.replacement ≡ replacement_at edits x.index
     → y.edit.replacement ≡ replacement_at edits y.index → x ≡ y
 same_edit edits x y h k rx ry =
-    let t : (x.edit.start ≡ y.edit.start) × (x.edit.end ≡ y.edit.end) × (x.index ≡ y.index) =
+    let t : (x.edit.start ≡ y.edit.start) × (x.edit.end ≡ y.edit.end) ×
+    (x.index ≡ y.index) =
     tied x.edit.start y.edit.start x.edit.end y.edit.end x.index y.index h k in
     same_fields x.edit.start y.edit.start x.edit.end y.edit.end x.index y.index x.edit.replacement
     y.edit.replacement t.0 t.1 t.2 (rx ∙ (ap (replacement_at edits) t.2 ∙ sym ry))

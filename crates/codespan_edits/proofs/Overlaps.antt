@@ -1,5 +1,6 @@
 -- Overlaps are between neighbors if anywhere, for the clause of `laws::overlaps_are_found`.
-use Rattle.std.proofs.Common.{◌≡◌, ℕ, ◌+◌, ◌≤◌, Bool, true, false, List, [], ◌∷◌, None, refl, arith}
+use Rattle.std.proofs.Common.{◌≡◌, ℕ, ◌+◌, ◌≤◌, Bool, true, false, List, []}
+use Rattle.std.proofs.Common.{◌∷◌, None, refl, arith}
 use Rattle.std.specs.Prelude.{nat_lt, ◌&&◌}
 use Rattle.std.specs.List.{AllByRecursion, IsDistinct}
 use Rattle.std.specs.Ordering.{nat_cmp, ordering_then, is_lt}
@@ -11,7 +12,8 @@ use Rattle.codespan_edits.specs.Edits.{TextEdit, ListedEdit, in_order, listed, l
 use Rattle.codespan_edits.specs.Faults.{first_own_fault, neighbor_fault, fault}
 use Rattle.codespan_edits.specs.EditLaws.{are_overlapping, AreApart, OverlapsAreFound}
 use Rattle.codespan_edits.specs.Private.Places.{FitFrom}
-use Rattle.codespan_edits.proofs.OrderLemmas.{Ascends, ascends-in_order, all-in_order, in_order-permutation}
+use Rattle.codespan_edits.proofs.OrderLemmas.{Ascends, ascends-in_order, all-in_order}
+use Rattle.codespan_edits.proofs.OrderLemmas.{in_order-permutation}
 use Rattle.codespan_edits.proofs.FitLemmas.{FitsAlone, all_fit, fit-in_order}
 
 -- whether two edits of a list overlap
@@ -35,8 +37,11 @@ apart-by x y h = grind (arith, nat_tests, h)
 starts-after : (text : List ℕ) (byte first : ℕ) (xs : List ListedEdit) → first ≤ byte
     → FitFrom text byte xs → AllByRecursion (λ x. first ≤ x.edit.start) xs
 starts-after text byte first [] h fit = tt
-starts-after text byte first (x ∷ xs) h fit =
-    (omega (arith, fit.0), starts-after text x.edit.end first xs (omega (arith, fit.0, fit.1)) fit.4)
+starts-after text byte first (x ∷ xs) h fit = (
+  omega (arith, fit.0),
+  starts-after text x.edit.end first xs (omega (arith, fit.0, fit.1))
+      fit.4,
+)
 
 -- what starts after an edit's end does not overlap it
 none-overlap : (x : ListedEdit) (xs : List ListedEdit)
@@ -76,24 +81,28 @@ neighbors-apart text (x ∷ (y ∷ ys)) up fit apart =
 -- what one edit does to those of a list, with indices and without
 all-listed : (e : TextEdit) (i k : ℕ) (es : List TextEdit)
     → AllByRecursion (λ f. are_overlapping e f ≡ false) es
-    → AllByRecursion (λ y. overlap (record { index = i; edit = e }) y ≡ false) (listed_from k es)
+    → AllByRecursion (λ y. overlap (record { index = i; edit = e }) y ≡ false)
+    (listed_from k es)
 all-listed e i k [] all = tt
 all-listed e i k (f ∷ fs) all = (all.0, all-listed e i (k + 1) fs all.1)
 
 all-unlisted : (e : TextEdit) (i k : ℕ) (es : List TextEdit)
-    → AllByRecursion (λ y. overlap (record { index = i; edit = e }) y ≡ false) (listed_from k es)
+    → AllByRecursion (λ y. overlap (record { index = i; edit = e }) y ≡ false)
+    (listed_from k es)
     → AllByRecursion (λ f. are_overlapping e f ≡ false) es
 all-unlisted e i k [] all = tt
 all-unlisted e i k (f ∷ fs) all = (all.0, all-unlisted e i (k + 1) fs all.1)
 
 -- edits overlap with indices as they do without
-distinct-listed : (i : ℕ) (es : List TextEdit) → AreApart es → IsDistinct overlap (listed_from i es)
+distinct-listed : (i : ℕ) (es : List TextEdit) → AreApart es → IsDistinct overlap
+    (listed_from i es)
 unfolding IsDistinct
 distinct-listed i [] apart = tt
 distinct-listed i (e ∷ es) apart =
     (all-listed e i (i + 1) es apart.0, distinct-listed (i + 1) es apart.1)
 
-distinct-unlisted : (i : ℕ) (es : List TextEdit) → IsDistinct overlap (listed_from i es) → AreApart es
+distinct-unlisted : (i : ℕ) (es : List TextEdit) → IsDistinct overlap (listed_from i es) →
+    AreApart es
 unfolding IsDistinct
 distinct-unlisted i [] apart = tt
 distinct-unlisted i (e ∷ es) apart =
@@ -104,18 +113,22 @@ pub apart-from_none : (text : List ℕ) (edits : List TextEdit) → fault text e
     → AreApart edits
 apart-from_none text edits none =
     distinct-unlisted 0 edits
-    (IsDistinct-IsPermutation overlap (λ x y. flips x.edit y.edit) (in_order (listed edits)) (listed edits)
-    (IsPermutation-sym (listed edits) (in_order (listed edits)) (in_order-permutation (listed edits)))
+    (IsDistinct-IsPermutation overlap (λ x y. flips x.edit y.edit) (in_order (listed edits))
+    (listed edits)
+    (IsPermutation-sym (listed edits) (in_order (listed edits))
+    (in_order-permutation (listed edits)))
     (distinct-fit text 0 (in_order (listed edits)) (fit-in_order text edits none)))
 
 -- and there is none where no edit has one of its own and no two overlap
 pub none-from_apart : (text : List ℕ) (edits : List TextEdit)
-    → first_own_fault text (listed edits) ≡ None → AreApart edits → fault text edits ≡ None
+    → first_own_fault text (listed edits) ≡ None → AreApart edits → fault text edits ≡
+    None
 none-from_apart text edits own apart =
     rw own
     (neighbors-apart text (in_order (listed edits)) (ascends-in_order (listed edits))
     (all-in_order (FitsAlone text) (listed edits) (all_fit text (listed edits) own))
-    (IsDistinct-IsPermutation overlap (λ x y. flips x.edit y.edit) (listed edits) (in_order (listed edits))
+    (IsDistinct-IsPermutation overlap (λ x y. flips x.edit y.edit) (listed edits)
+    (in_order (listed edits))
     (in_order-permutation (listed edits)) (distinct-listed 0 edits apart)))
 
 pub overlaps-are-found : OverlapsAreFound

@@ -1,5 +1,7 @@
 -- Facts on the loops that put the text together, for the clauses of `apply`.
-use Rattle.std.proofs.Common.{◌≡◌, ℕ, ◌+◌, ◌-◌, ◌<◌, ◌≤◌, List, [], ◌∷◌, ◌++◌, length, get_or, drop, refl, sym, ap, ◌∙◌, subst, arith, length-drop, length-append, append_assoc}
+use Rattle.std.proofs.Common.{◌≡◌, ℕ, ◌+◌, ◌-◌, ◌<◌, ◌≤◌, List, []}
+use Rattle.std.proofs.Common.{◌∷◌, ◌++◌, length, get_or, drop, refl, sym, ap, ◌∙◌}
+use Rattle.std.proofs.Common.{subst, arith, length-drop, length-append, append_assoc}
 use Rattle.std.specs.Prelude.{slice_range, string_bytes}
 use Rattle.std.proofs.lemmas.List.{get_or-map, length-take}
 use Rattle.codespan_edits.specs.Edits.{TextEdit, text_edit, text_edits, edited_from}
@@ -29,7 +31,8 @@ length-part : (text : List ℕ) (a b : ℕ) → a ≤ b → b ≤ length text
 length-part text a b h k = simp (length-take, length-drop) (omega arith)
 
 -- the length of the text with one more part and replacement
-pub length-more : (text : List ℕ) (a b : ℕ) (r left : List ℕ) (n m k : ℕ) (rest : List ℕ) (whole : ℕ)
+pub length-more : (text : List ℕ) (a b : ℕ) (r left : List ℕ) (n m k : ℕ) (rest : List ℕ)
+    (whole : ℕ)
     → a ≤ b → b ≤ length text → rest ≡ slice_range text a b ++ (r ++ left)
     → n + length rest ≡ whole → m ≡ n + (b - a) → k ≡ m + length r
     → k + length left ≡ whole

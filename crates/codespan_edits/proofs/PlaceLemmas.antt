@@ -1,14 +1,19 @@
 -- The edits at sorted places are the edits in order, for the clause `sorted` of `sorted_places`.
-use Rattle.std.proofs.Common.{◌≡◌, ℕ, suc, ◌<◌, ◌≤◌, Bool, false, List, [], ◌∷◌, ◌++◌, length, get_or, refl, sym, ap, ◌∙◌, subst, arith, append-nil, drop}
+use Rattle.std.proofs.Common.{◌≡◌, ℕ, suc, ◌<◌, ◌≤◌, Bool, false, List, []}
+use Rattle.std.proofs.Common.{◌∷◌, ◌++◌, length, get_or, refl, sym, ap, ◌∙◌, subst}
+use Rattle.std.proofs.Common.{arith, append-nil, drop}
 use Rattle.std.specs.Prelude.{sum_by}
 use Rattle.std.specs.Cmp.{IsStrictWeakOrder}
 use Rattle.std.specs.List.Sorted.{IsPermutation, IsSortedBy}
 use Rattle.std.proofs.lemmas.List.{drop_all}
-use Rattle.std.proofs.lemmas.List.Sorted.{ranks_by, sorted_far, IsPermutation-map, sum_by-IsPermutation}
+use Rattle.std.proofs.lemmas.List.Sorted.{ranks_by, sorted_far, IsPermutation-map}
+use Rattle.std.proofs.lemmas.List.Sorted.{sum_by-IsPermutation}
 use Rattle.codespan_edits.specs.Edits.{TextEdit, is_before, in_order, listed, listed_from}
 use Rattle.codespan_edits.specs.Private.Places.{replacement_at, edit_at, edits_at}
 use Rattle.codespan_edits.specs.declared.order.Place.{Place}
-use Rattle.codespan_edits.proofs.OrderLemmas.{compare_total, NoneBefore, Ascends, ascends-in_order, all-in_order, in_order-permutation, Sourced, same_order}
+use Rattle.codespan_edits.proofs.OrderLemmas.{compare_total, NoneBefore, Ascends, ascends-in_order}
+use Rattle.codespan_edits.proofs.OrderLemmas.{all-in_order, in_order-permutation, Sourced}
+use Rattle.codespan_edits.proofs.OrderLemmas.{same_order}
 
 -- whether the edit at one place is before that at another one
 abbrev place_before : List TextEdit → Place → Place → Bool
@@ -30,7 +35,8 @@ ascends-sorted : (edits : List TextEdit) (ps : List Place)
 ascends-sorted edits [] far = tt
 ascends-sorted edits (p ∷ ps) far = (
   none-sorted edits p ps (λ j h. far 0 (suc j) p (omega arith) (omega (arith, h))),
-  ascends-sorted edits ps (λ i j d h k. far (suc i) (suc j) d (omega (arith, h)) (omega (arith, k))),
+  ascends-sorted edits ps (λ i j d h k. far (suc i) (suc j) d (omega (arith, h))
+      (omega (arith, k))),
 )
 
 -- the edits at places have the list's replacements

@@ -1,17 +1,22 @@
 -- Lists with the same edits make the same, for the clause of `laws::order_matters_to_insertions`.
-use Rattle.std.proofs.Common.{◌≡◌, ℕ, zero, suc, ◌+◌, ◌<◌, ◌≤◌, Bool, true, false, cond, List, [], ◌∷◌, ◌++◌, length, get_or, map, None, inl, inr, if◌then◌else◌, refl, sym, ap, ◌∙◌, subst, arith}
+use Rattle.std.proofs.Common.{◌≡◌, ℕ, zero, suc, ◌+◌, ◌<◌, ◌≤◌, Bool, true}
+use Rattle.std.proofs.Common.{false, cond, List, [], ◌∷◌, ◌++◌, length, get_or, map, None}
+use Rattle.std.proofs.Common.{inl, inr, if◌then◌else◌, refl, sym, ap, ◌∙◌, subst, arith}
 use Rattle.std.specs.Prelude.{nat_lt, ◌⊎◌, ◌==◌, ◌&&◌, slice_range}
 use Rattle.std.specs.List.{AllByRecursion, Contains, filter}
 use Rattle.std.specs.List.Sorted.{IsPermutation}
 use Rattle.std.specs.Ordering.{nat_cmp, ordering_then, is_lt}
 use Rattle.std.proofs.lemmas.Bool.{true≢false}
 use Rattle.std.proofs.lemmas.Bool.Decides.{nat_tests}
-use Rattle.std.proofs.lemmas.List.Sorted.{Contains-permutation, IsPermutation-sym, IsPermutation-trans, IsPermutation-map}
+use Rattle.std.proofs.lemmas.List.Sorted.{Contains-permutation, IsPermutation-sym}
+use Rattle.std.proofs.lemmas.List.Sorted.{IsPermutation-trans, IsPermutation-map}
 use Rattle.std.proofs.lemmas.Map.Keys.{IsDistinct-IsPermutation}
 use Rattle.codespan_core.specs.Lines.{is_char_boundary}
-use Rattle.codespan_edits.specs.Edits.{TextEdit, ListedEdit, is_before, insert_in_order, in_order, listed, listed_from, edited_from}
+use Rattle.codespan_edits.specs.Edits.{TextEdit, ListedEdit, is_before, insert_in_order, in_order}
+use Rattle.codespan_edits.specs.Edits.{listed, listed_from, edited_from}
 use Rattle.codespan_edits.specs.Faults.{own_fault, first_own_fault, fault}
-use Rattle.codespan_edits.specs.EditLaws.{are_overlapping, is_insertion_at, OrderMattersToInsertions}
+use Rattle.codespan_edits.specs.EditLaws.{are_overlapping, is_insertion_at}
+use Rattle.codespan_edits.specs.EditLaws.{OrderMattersToInsertions}
 use Rattle.codespan_edits.specs.Private.Places.{FitFrom}
 use Rattle.codespan_edits.proofs.OrderLemmas.{all-in_order, in_order-permutation}
 use Rattle.codespan_edits.proofs.FitLemmas.{tests-pass, neither, fit-in_order}
@@ -40,7 +45,8 @@ contains-member (f ∷ fs) e (inr m) =
 member-moved : (es fs : List TextEdit) → IsPermutation es fs → (e : TextEdit) → IsMember e es
     → IsMember e fs
 member-moved es fs moved e m =
-    let c = Contains-permutation es fs e moved (contains-member es e m) in member-at fs e c.0 c.1 c.2
+    let c = Contains-permutation es fs e moved (contains-member es e m) in member-at fs e c.0 c.1
+    c.2
 
 -- an edit that passes a test is one of those that pass it
 member-filter : (test : TextEdit → Bool) (e : TextEdit) (es : List TextEdit) → test e ≡ true
@@ -86,7 +92,8 @@ member-after byte (f ∷ fs) e up (inr m) =
     let r = member-after f.end fs e up.2 m in (omega (arith, up.0, up.1, r.0), r.1)
 
 -- an insertion passes the test for its byte
-passes : (e : TextEdit) (byte : ℕ) → e.start ≡ byte → e.end ≡ byte → is_insertion_at byte e ≡ true
+passes : (e : TextEdit) (byte : ℕ) → e.start ≡ byte → e.end ≡ byte → is_insertion_at
+    byte e ≡ true
 passes e byte p q = grind (arith, nat_tests, p, q)
 
 -- the first edits that pass a test are the same
@@ -127,7 +134,8 @@ heads-same byte a b cs ds up_a up_b (inr m) (inr n) same =
 -- an edit behind the first one of one list is behind that of the other
 rest-member : (byte : ℕ) (a b : TextEdit) (cs ds : List TextEdit) (e : TextEdit)
     → Rises byte (a ∷ cs) → a ≡ b → (IsMember e (a ∷ cs) → IsMember e (b ∷ ds))
-    → filter (is_insertion_at a.start) cs ≡ filter (is_insertion_at a.start) ds → IsMember e cs
+    → filter (is_insertion_at a.start) cs ≡ filter (is_insertion_at a.start) ds → IsMember e
+    cs
     → IsMember e ds
 rest-member byte a b cs ds e up is to same m = by_member (to (inr m)) where
   by_member : IsMember e (b ∷ ds) → IsMember e ds
@@ -146,7 +154,8 @@ rest-member byte a b cs ds e up is to same m = by_member (to (inr m)) where
 rising-same : (byte : ℕ) (es fs : List TextEdit) → Rises byte es → Rises byte fs
     → ((e : TextEdit) → IsMember e es → IsMember e fs)
     → ((e : TextEdit) → IsMember e fs → IsMember e es)
-    → ((p : ℕ) → filter (is_insertion_at p) es ≡ filter (is_insertion_at p) fs) → es ≡ fs
+    → ((p : ℕ) → filter (is_insertion_at p) es ≡ filter (is_insertion_at p) fs) → es ≡
+    fs
 rising-same byte [] [] up_e up_f to from same = refl
 rising-same byte [] (f ∷ fs) up_e up_f to from same = absurd (from f (inl refl))
 rising-same byte (e ∷ es) [] up_e up_f to from same = absurd (to e (inl refl))
@@ -195,7 +204,8 @@ insert-stable byte x (z ∷ zs) above =
     by_tests rest false bt p pt q qt = refl
     by_tests rest true bt true pt true qt =
         absurd (true≢false (sym qt
-        ∙ insertion-first byte x.edit.start x.edit.end x.index z.edit.start z.edit.end z.index above.0
+        ∙ insertion-first byte x.edit.start x.edit.end x.index z.edit.start z.edit.end z.index
+        above.0
         pt bt))
     by_tests rest true bt true pt false qt = rw (qt, rest, pt) refl
     by_tests rest true bt false pt true qt = rw (qt, rest, pt) refl
@@ -227,7 +237,8 @@ ordered-permutation es =
 
 -- what edits make does not depend on their indices
 edited-same : (text : List ℕ) (byte : ℕ) (xs ys : List ListedEdit)
-    → map (λ z. z.edit) xs ≡ map (λ z. z.edit) ys → edited_from text byte xs ≡ edited_from text byte ys
+    → map (λ z. z.edit) xs ≡ map (λ z. z.edit) ys → edited_from text byte xs ≡ edited_from
+    text byte ys
 edited-same text byte [] [] same = refl
 edited-same text byte [] (y ∷ ys) same = cc
 edited-same text byte (x ∷ xs) [] same = cc
@@ -254,14 +265,16 @@ none-of_member : (text : List ℕ) (i : ℕ) (es : List TextEdit) (e : TextEdit)
     → own_fault text (record { index = 0; edit = e }) ≡ None
 none-of_member text i [] e h m = absurd m
 none-of_member text i (f ∷ fs) e h (inl is) =
-    rw is (own-anywhere text f i 0 (neither (own_fault text (record { index = i; edit = f })) _ h).0)
+    rw is (own-anywhere text f i 0
+    (neither (own_fault text (record { index = i; edit = f })) _ h).0)
 none-of_member text i (f ∷ fs) e h (inr m) =
     none-of_member text (i + 1) fs e
     (neither (own_fault text (record { index = i; edit = f })) _ h).1 m
 
 -- and a list of such edits has none
 none-of_all : (text : List ℕ) (i : ℕ) (es : List TextEdit)
-    → ((e : TextEdit) → IsMember e es → own_fault text (record { index = 0; edit = e }) ≡ None)
+    → ((e : TextEdit) → IsMember e es → own_fault text (record { index = 0; edit = e }) ≡
+    None)
     → first_own_fault text (listed_from i es) ≡ None
 none-of_all text i [] all = refl
 none-of_all text i (e ∷ es) all =
@@ -269,7 +282,8 @@ none-of_all text i (e ∷ es) all =
     (none-of_all text (i + 1) es (λ f m. all f (inr m)))
 
 -- a list with the same edits as one without a fault has none
-none-moved : (text : List ℕ) (es fs : List TextEdit) → IsPermutation es fs → fault text es ≡ None
+none-moved : (text : List ℕ) (es fs : List TextEdit) → IsPermutation es fs → fault text es ≡
+    None
     → fault text fs ≡ None
 none-moved text es fs moved none =
     none-from_apart text fs
@@ -281,7 +295,8 @@ none-moved text es fs moved none =
 pub order-matters-to-insertions : OrderMattersToInsertions
 order-matters-to-insertions text es fs same none =
     let gone : fault text fs ≡ None = none-moved text es fs same.permutation none in
-    let ordered = λ (gs : List TextEdit). map (λ (z : ListedEdit). z.edit) (in_order (listed gs)) in
+    let ordered = λ (gs : List TextEdit). map (λ (z : ListedEdit). z.edit)
+    (in_order (listed gs)) in
     let moved : IsPermutation (ordered fs) (ordered es) =
     IsPermutation-trans (ordered fs) fs (ordered es)
     (IsPermutation-sym fs (ordered fs) (ordered-permutation fs))

@@ -1,5 +1,6 @@
 -- What edits of a list are to each other and to the text that they make.
-use Rattle.std.specs.Prelude.{◌≡◌, ◌↔◌, ℕ, Bool, ◌&&◌, ◌==◌, nat_lt, List, [], ◌∷◌, ◌++◌, take}
+use Rattle.std.specs.Prelude.{◌≡◌, ◌↔◌, ℕ, Bool, ◌&&◌, ◌==◌, nat_lt, List, []}
+use Rattle.std.specs.Prelude.{◌∷◌, ◌++◌, take}
 use Rattle.std.specs.Prelude.{drop, None}
 use Rattle.std.specs.List.{IsDistinct, filter}
 use Rattle.std.specs.List.Sorted.{IsPermutation}
@@ -41,7 +42,8 @@ is_insertion_at byte e = e.start == byte && e.end == byte
 -- two lists have the same edits, and the insertions at a byte in the same order
 pub record HaveSameEdits (es fs : List TextEdit) : Type 0 where
   pub permutation : IsPermutation es fs
-  pub insertions : (byte : ℕ) → filter (is_insertion_at byte) es ≡ filter (is_insertion_at byte) fs
+  pub insertions : (byte : ℕ) → filter (is_insertion_at byte) es ≡ filter
+      (is_insertion_at byte) fs
 
 -- of the order of a list only that of the insertions at a byte matters: where one list has no fault
 -- the other has none, and they make the same

@@ -1,6 +1,7 @@
 //! The text that edits make.
 
-ghost use Rattle.std.specs.Prelude.{◌≡◌, ◌+◌, ◌<◌, IfOk, OnErr, IsErrOf, All, length, string_bytes};
+ghost use Rattle.std.specs.Prelude.{◌≡◌, ◌+◌, ◌<◌, IfOk, OnErr, IsErrOf, All, length};
+ghost use Rattle.std.specs.Prelude.{string_bytes};
 ghost use Rattle.codespan_edits.specs.Edits.{text_edits, edited, edited_from};
 ghost use Rattle.codespan_edits.specs.Faults.{fault, FailsBy};
 ghost use Rattle.codespan_edits.specs.Private.Places.{edits_at, FitFrom};

@@ -1,6 +1,7 @@
 //! The diff that edits make.
 
-ghost use Rattle.std.specs.Prelude.{All, ◌<◌, ◌≡◌, ◌≤◌, ◌++◌, ◌∷◌, [], List, IfOk, OnErr};
+ghost use Rattle.std.specs.Prelude.{All, ◌<◌, ◌≡◌, ◌≤◌, ◌++◌, ◌∷◌, []};
+ghost use Rattle.std.specs.Prelude.{List, IfOk, OnErr};
 ghost use Rattle.std.specs.Prelude.{IsErrOf, length, map};
 ghost use Rattle.std.specs.List.{flat_map};
 ghost use Rattle.codespan_edits.specs.Edits.{text_edits};
@@ -42,6 +43,15 @@ pub struct DiffRow {
 /// # Errors
 ///
 /// Those of [`apply_edits`](crate::apply_edits).
+///
+/// # Examples
+///
+/// ```rust
+/// let edits = [Edit::new(alloc, (), 7..7, "use b;\n")?];
+/// let rows = diff(alloc, "use a;\nfn f() {}\n", &edits)?;
+/// assert_eq!(rt; rows[1].sign, RowSign::Added);
+/// assert_eq!(rt; rows[1].line.as_str(), "use b;\n");
+/// ```
 pub fn diff<FileId>(
     alloc: Global,
     source: &str,
@@ -64,7 +74,8 @@ fn collect_rows<FileId>(
 ) -> Result<Vec<DiffRow>, EditError>
     requires fit { FitFrom source.now 0 (edits_at (text_edits edits.now) places.now) }
     requires listed { All (λ place. place.index < length edits.now) places.now }
-    ensures rows { IfOk result (λ rows. rows_view rows ≡ flat_map block_rows (blocks_from no_change
+    ensures rows { IfOk result (λ rows. rows_view rows
+        ≡ flat_map block_rows (blocks_from no_change
         (pieces_from source.now 0 (edits_at (text_edits edits.now) places.now)))) }
     ensures failed { OnErr result (IsErrOf result EditError.OutOfMemory) }
 {
@@ -211,7 +222,8 @@ fn push_rows(
 fn count_start(old: &[&str], new: &[&str]) -> usize
     ensures of_old { result ≤ length old.now }
     ensures of_new { result ≤ length new.now }
-    ensures count { result ≡ common_start (map (λ l. l.now) old.now) (map (λ l. l.now) new.now) }
+    ensures count { result
+        ≡ common_start (map (λ l. l.now) old.now) (map (λ l. l.now) new.now) }
 {
     let limit = old.len().min(new.len());
     for count in 0..limit {

@@ -14,5 +14,6 @@ put_together-requires-clause-fit g c =
 pub put_together-requires-clause-listed : goal.put_together-requires-clause-listed
 put_together-requires-clause-listed g c =
     rw c.deref.ensures.value
-    (places-listed (text_edits c.args.edits.now) (length c.args.edits.now) c.in_ok-places.places.items
+    (places-listed (text_edits c.args.edits.now) (length c.args.edits.now)
+    c.in_ok-places.places.items
     (rw length-map (omega arith)) c.in_ok-places.ensures.sorted)

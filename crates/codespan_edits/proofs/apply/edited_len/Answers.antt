@@ -9,7 +9,8 @@ use Rattle.codespan_edits.proofs.apply.edited_len.Goals as goal
 pub overflow_sub-place : goal.overflow_sub-place
 overflow_sub-place g c =
     (fit-here c.args.source.now (text_edits c.args.edits.now) c.args.places.now
-    c.loop-place.place-index c.loop-place.byte _ c.loop-place-test.true c.loop-place.invariant.fit).0
+    c.loop-place.place-index c.loop-place.byte _ c.loop-place-test.true
+    c.loop-place.invariant.fit).0
 
 -- the kept text and the replacement are added
 pub loop-place-preserved : goal.loop-place-preserved

@@ -10,13 +10,15 @@ use Rattle.codespan_edits.proofs.apply.put_together.Goals as goal
 pub range-requires-clause-start_le_end : goal.range-requires-clause-start_le_end
 range-requires-clause-start_le_end g c =
     (fit-here c.args.source.now (text_edits c.args.edits.now) c.args.places.now
-    c.loop-place.place-index c.loop-place.byte _ c.loop-place-test.true c.loop-place.invariant.fit).0
+    c.loop-place.place-index c.loop-place.byte _ c.loop-place-test.true
+    c.loop-place.invariant.fit).0
 
 -- it starts at a boundary of characters
 pub range-requires-clause-end_boundary : goal.range-requires-clause-end_boundary
 range-requires-clause-end_boundary g c =
     (fit-here c.args.source.now (text_edits c.args.edits.now) c.args.places.now
-    c.loop-place.place-index c.loop-place.byte _ c.loop-place-test.true c.loop-place.invariant.fit).2
+    c.loop-place.place-index c.loop-place.byte _ c.loop-place-test.true
+    c.loop-place.invariant.fit).2
 
 -- the kept text and the replacement are added
 pub loop-place-preserved : goal.loop-place-preserved
@@ -27,7 +29,8 @@ loop-place-preserved g c =
     let fit = fit-here c.args.source.now (text_edits c.args.edits.now) c.args.places.now
     c.loop-place.place-index c.loop-place.byte none c.loop-place-test.true
     c.loop-place.invariant.fit in
-    let replacement : c.deref.result.now ≡ replacement_at (text_edits c.args.edits.now) place.index =
+    let replacement : c.deref.result.now ≡ replacement_at (text_edits c.args.edits.now)
+    place.index =
     c.deref.ensures
     ∙ replacement-is c.args.edits.now place.index c.index-edits-place.result
     (c.requires.listed c.loop-place.place-index none c.loop-place-test.true) in

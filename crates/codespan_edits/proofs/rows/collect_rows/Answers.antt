@@ -1,9 +1,11 @@
-use Rattle.std.proofs.Common.{[], append-nil, ◌≤◌, ◌≡◌, ◌+◌, ◌++◌, ◌∷◌, length, drop, get_or, map, sym, ap, ◌∙◌, refl}
+use Rattle.std.proofs.Common.{[], append-nil, ◌≤◌, ◌≡◌, ◌+◌, ◌++◌, ◌∷◌}
+use Rattle.std.proofs.Common.{length, drop, get_or, map, sym, ap, ◌∙◌, refl}
 use Rattle.std.specs.Prelude.{slice_range}
 use Rattle.codespan_edits.specs.Edits.{text_edits}
 use Rattle.codespan_edits.specs.Private.Places.{edits_at, replacement_at}
 use Rattle.codespan_edits.specs.Private.Differs.{all_rows, rows_view}
-use Rattle.codespan_edits.specs.Diffs.{Change, kept, lines, pieces_from, block_rows, blocks_from, no_change}
+use Rattle.codespan_edits.specs.Diffs.{Change, kept, lines, pieces_from, block_rows, blocks_from}
+use Rattle.codespan_edits.specs.Diffs.{no_change}
 use Rattle.std.specs.List.{flat_map}
 use Rattle.std.proofs.lemmas.List.{drop_all, length-map}
 use Rattle.std.proofs.lemmas.Result.{IfOk-weaker}
@@ -16,28 +18,33 @@ use Rattle.codespan_edits.proofs.rows.collect_rows.Goals as goal
 pub range-requires-clause-start_le_end : goal.range-requires-clause-start_le_end
 range-requires-clause-start_le_end g c =
     (fit-here c.args.source.now (text_edits c.args.edits.now) c.args.places.now
-    c.loop-place.place-index c.loop-place.byte _ c.loop-place-test.true c.loop-place.invariant.fit).0
+    c.loop-place.place-index c.loop-place.byte _ c.loop-place-test.true
+    c.loop-place.invariant.fit).0
 
 pub range-requires-clause-end_boundary : goal.range-requires-clause-end_boundary
 range-requires-clause-end_boundary g c =
     (fit-here c.args.source.now (text_edits c.args.edits.now) c.args.places.now
-    c.loop-place.place-index c.loop-place.byte _ c.loop-place-test.true c.loop-place.invariant.fit).2
+    c.loop-place.place-index c.loop-place.byte _ c.loop-place-test.true
+    c.loop-place.invariant.fit).2
 
 pub range-replaced-requires-clause-start_le_end : goal.range-replaced-requires-clause-start_le_end
 range-replaced-requires-clause-start_le_end g c =
     (fit-here c.args.source.now (text_edits c.args.edits.now) c.args.places.now
-    c.loop-place.place-index c.loop-place.byte _ c.loop-place-test.true c.loop-place.invariant.fit).1
+    c.loop-place.place-index c.loop-place.byte _ c.loop-place-test.true
+    c.loop-place.invariant.fit).1
 
 pub range-replaced-requires-clause-start_boundary :
     goal.range-replaced-requires-clause-start_boundary
 range-replaced-requires-clause-start_boundary g c = λ _.
     (fit-here c.args.source.now (text_edits c.args.edits.now) c.args.places.now
-    c.loop-place.place-index c.loop-place.byte _ c.loop-place-test.true c.loop-place.invariant.fit).2
+    c.loop-place.place-index c.loop-place.byte _ c.loop-place-test.true
+    c.loop-place.invariant.fit).2
 
 pub range-replaced-requires-clause-end_boundary : goal.range-replaced-requires-clause-end_boundary
 range-replaced-requires-clause-end_boundary g c =
     (fit-here c.args.source.now (text_edits c.args.edits.now) c.args.places.now
-    c.loop-place.place-index c.loop-place.byte _ c.loop-place-test.true c.loop-place.invariant.fit).3
+    c.loop-place.place-index c.loop-place.byte _ c.loop-place-test.true
+    c.loop-place.invariant.fit).3
 
 -- the kept lines and the edit were taken
 pub loop-place-preserved : goal.loop-place-preserved
@@ -69,7 +76,8 @@ loop-place-preserved g c =
           c.deref.result.now (replacement_at edits place.index) c.range-replaced.ensures.value
           replacement)
           ∙ (ap (λ xs. all_rows c.loop-place.differ (pieces_from text c.loop-place.byte xs))
-          (sym (at_place edits c.args.places.now c.loop-place.place-index (c.loop-place.place-index + 1)
+          (sym (at_place edits c.args.places.now c.loop-place.place-index
+          (c.loop-place.place-index + 1)
           none c.loop-place-test.true refl))
           ∙ c.loop-place.invariant.rows))));
     }
@@ -83,8 +91,10 @@ returns-clause-rows g c =
     let total = flat_map block_rows (blocks_from no_change (pieces_from text 0 all)) in
     let whole : all_rows c.keep-2.new.self [] ≡ total =
     c.in_ok-keep-2.ensures.rows []
-    ∙ (ap (λ t. all_rows c.loop-place.differ (map kept (lines t) ++ [])) c.range_from.ensures.value
-    ∙ (ap (all_rows c.loop-place.differ) (append-nil (map kept (lines (drop c.loop-place.byte text))))
+    ∙ (ap (λ t. all_rows c.loop-place.differ (map kept (lines t) ++ []))
+    c.range_from.ensures.value
+    ∙ (ap (all_rows c.loop-place.differ)
+    (append-nil (map kept (lines (drop c.loop-place.byte text))))
     ∙ (ap (λ xs. all_rows c.loop-place.differ (pieces_from text c.loop-place.byte xs))
     (sym (drop_all c.loop-place.place-index all past)) ∙ c.loop-place.invariant.rows))) in
     IfOk-weaker c.finish.result (λ rows. rows_view rows ≡ all_rows c.keep-2.new.self [])

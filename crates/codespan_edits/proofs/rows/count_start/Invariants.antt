@@ -6,4 +6,5 @@ use Rattle.codespan_edits.proofs.rows.count_start.Given as goal
 abbrev pub invariant-loop-count : goal.invariant-loop-count
 invariant-loop-count l =
     common_start (map (λ x. x.now) l.old) (map (λ x. x.now) l.new)
-    ≡ l.count + common_start (drop l.count (map (λ x. x.now) l.old)) (drop l.count (map (λ x. x.now) l.new))
+    ≡ l.count + common_start (drop l.count (map (λ x. x.now) l.old))
+    (drop l.count (map (λ x. x.now) l.new))

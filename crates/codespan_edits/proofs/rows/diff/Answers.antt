@@ -14,5 +14,6 @@ collect_rows-requires-clause-fit g c =
 pub collect_rows-requires-clause-listed : goal.collect_rows-requires-clause-listed
 collect_rows-requires-clause-listed g c =
     rw c.deref.ensures.value
-    (places-listed (text_edits c.args.edits.now) (length c.args.edits.now) c.in_ok-places.places.items
+    (places-listed (text_edits c.args.edits.now) (length c.args.edits.now)
+    c.in_ok-places.places.items
     (rw length-map (omega arith)) c.in_ok-places.ensures.sorted)

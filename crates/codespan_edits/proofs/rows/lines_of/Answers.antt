@@ -1,9 +1,11 @@
-use Rattle.std.proofs.Common.{◌≡◌, ◌++◌, ◌∷◌, [], ℕ, List, length, map, refl, ap, ◌∙◌, arith}
+use Rattle.std.proofs.Common.{◌≡◌, ◌++◌, ◌∷◌, [], ℕ, List, length, map, refl, ap}
+use Rattle.std.proofs.Common.{◌∙◌, arith}
 use Rattle.std.specs.Borrow.{Bor}
 use Rattle.std.proofs.lemmas.List.{map_push}
 use Rattle.std.proofs.lemmas.Str.{IsCharBoundary-start, IsCharBoundary-after_ascii}
 use Rattle.codespan_edits.proofs.DiffLoops.{unbroken-more, lines-more, lines-last, lines-end}
-use Rattle.codespan_edits.proofs.rows.lines_of.Goals.{then-byte-eq10+in_ok-push, else-byte-eq10, then-start-text+in_ok-push-2, else-start-text}
+use Rattle.codespan_edits.proofs.rows.lines_of.Goals.{then-byte-eq10+in_ok-push, else-byte-eq10}
+use Rattle.codespan_edits.proofs.rows.lines_of.Goals.{then-start-text+in_ok-push-2, else-start-text}
 use Rattle.codespan_edits.proofs.rows.lines_of.Goals as goal
 
 -- no line is there yet
@@ -33,18 +35,21 @@ loop-index-preserved c =
     elim c.if-byte-eq10.branch [
       | then-byte-eq10+in_ok-push w ↦
           let newline = rw c.as_bytes-byte-items.ensures.value at w.if-byte-eq10.true in
-          let items : c.if-byte-eq10.lines.items ≡ c.loop-index.lines.items ++ w.range.result ∷ [] =
+          let items : c.if-byte-eq10.lines.items ≡ c.loop-index.lines.items ++ w.range.result ∷
+          [] =
           ap (λ v. v.items) w.lines-is ∙ w.in_ok-push.ensures.items in
           rw w.start-is
           (record {
             before = omega arith;
-            boundary = IsCharBoundary-after_ascii text i c.utf8.text inside (omega (arith, newline));
+            boundary = IsCharBoundary-after_ascii text i c.utf8.text inside
+                (omega (arith, newline));
             unbroken = λ k h. absurd (omega (arith, h));
             lines =
                 lines-more text c.loop-index.start i (map (λ x. x.now) c.loop-index.lines.items)
                 was.before was.unbroken was.lines (map (λ x. x.now) c.if-byte-eq10.lines.items)
                 w.range.result.now inside newline
-                (ap (map (λ x. x.now)) items ∙ map_push (λ x. x.now) c.loop-index.lines.items w.range.result)
+                (ap (map (λ x. x.now)) items ∙ map_push (λ x. x.now) c.loop-index.lines.items
+                w.range.result)
                 w.range.ensures.value;
           })
       | else-byte-eq10 w ↦
@@ -71,13 +76,16 @@ returns-clause-lines c =
           let items : c.if-start-text.lines.items
           ≡ c.loop-index.lines.items ++ w.range_from.result ∷ [] =
           ap (λ v. v.items) w.lines-is ∙ w.in_ok-push-2.ensures.items in
-          lines-last text c.loop-index.start c.loop-index.index done was.before was.unbroken was.lines
+          lines-last text c.loop-index.start c.loop-index.index done was.before was.unbroken
+          was.lines
           (map (λ x. x.now) c.if-start-text.lines.items) w.range_from.result.now
           (omega (arith, size)) w.if-start-text.true
-          (ap (map (λ x. x.now)) items ∙ map_push (λ x. x.now) c.loop-index.lines.items w.range_from.result)
+          (ap (map (λ x. x.now)) items ∙ map_push (λ x. x.now) c.loop-index.lines.items
+          w.range_from.result)
           w.range_from.ensures.value
       | else-start-text w ↦
           ap (λ v. map (λ x. x.now) v.items) w.lines-is
-          ∙ lines-end text c.loop-index.start c.loop-index.index done was.before was.unbroken was.lines
+          ∙ lines-end text c.loop-index.start c.loop-index.index done was.before was.unbroken
+          was.lines
           w.if-start-text.false
     ]

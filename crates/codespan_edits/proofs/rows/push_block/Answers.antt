@@ -17,12 +17,15 @@ returns-clause-rows c =
     olds
     (take (length c.deref-5.result.now - n) (drop n c.deref-5.result.now))
     (take (length olds - (length olds - c.count_end-end.result))
-    (drop (length olds - c.count_end-end.result) olds)) n c.count_end-end.result (rows_view c.args.rows.now)
+    (drop (length olds - c.count_end-end.result) olds)) n c.count_end-end.result
+    (rows_view c.args.rows.now)
     (rows_view c.push_rows.new.rows) (rows_view c.push_rows-2.new.rows)
     (rows_view c.push_rows-3.new.rows) (rows_view c.push_rows-4.new.rows) c.deref.ensures.value
-    c.deref-2.ensures.value c.deref-3.ensures.value (rest-slice n c.deref-4.result.now xs c.deref-4.ensures.value)
+    c.deref-2.ensures.value c.deref-3.ensures.value
+    (rest-slice n c.deref-4.result.now xs c.deref-4.ensures.value)
     (rest-slice n c.deref-5.result.now ys c.deref-5.ensures.value)
     (take_rest olds (length olds - c.count_end-end.result))
-    c.in_ok-old_lines.ensures.lines c.in_ok-new_lines.ensures.lines c.count_start-start.ensures.count
+    c.in_ok-old_lines.ensures.lines c.in_ok-new_lines.ensures.lines
+    c.count_start-start.ensures.count
     c.count_end-end.ensures.count c.in_ok-push_rows.ensures.rows c.in_ok-push_rows-2.ensures.rows
     c.in_ok-push_rows-3.ensures.rows c.in_ok-push_rows-4.ensures.rows

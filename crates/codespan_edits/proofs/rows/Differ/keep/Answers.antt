@@ -11,7 +11,8 @@ loop-line-preserved c =
     λ ps. c.in_ok-push.ensures.rows
     (map kept (map (λ x. x.now) (drop (c.loop-line.line-index + 1) items)) ++ ps)
     ∙ (ap (λ zs. all_rows c.loop-line.self (map kept (map (λ x. x.now) zs) ++ ps))
-    (sym (drop_more items c.loop-line.line-index _ c.loop-line-test.true)) ∙ c.loop-line.invariant ps)
+    (sym (drop_more items c.loop-line.line-index _ c.loop-line-test.true)) ∙ c.loop-line.invariant
+    ps)
 
 -- no line is left
 pub returns-clause-rows : goal.returns-clause-rows

@@ -1,7 +1,8 @@
 use Rattle.std.specs.Prelude.{string_bytes}
 use Rattle.codespan_edits.specs.Private.Differs.{rows_view}
 use Rattle.codespan_edits.proofs.DiffBlocks.{pushed-block, held-first, held-second}
-use Rattle.codespan_edits.proofs.rows.Differ.push.Goals.{else-is_whole_text-via-then-is_whole_text+else-is_whole_text-2, else-is_whole_text-via-else-is_whole_text}
+use Rattle.codespan_edits.proofs.rows.Differ.push.Goals.{else-is_whole_text-via-then-is_whole_text+else-is_whole_text-2}
+use Rattle.codespan_edits.proofs.rows.Differ.push.Goals.{else-is_whole_text-via-else-is_whole_text}
 use Rattle.codespan_edits.proofs.rows.Differ.push.Goals as goal
 
 -- the piece ends a block
