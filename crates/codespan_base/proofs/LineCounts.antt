@@ -1,14 +1,14 @@
 -- For the law `line_counts_newlines`: a byte's line is the number of newlines before it.
-use Rattle.std.proofs.Common.{◌≡◌, ℕ, suc, ◌+◌, ◌-◌, ◌<◌, ◌≤◌, Bool, true, false, cond, List, [], ◌∷◌, length, get_or, take, Option, refl, ap, sym, ◌∙◌, arith, eqb, inl, inr}
-use Rattle.std.specs.Prelude.{count_by, nat_le, ◌==◌, if◌then◌else◌}
-use Rattle.std.proofs.lemmas.Bool.{cases_lt, le-leb, lt-leb}
-use Rattle.std.proofs.lemmas.List.Sums.{sum_by-cons}
+use Rattle.codespan_core.proofs.Std.{◌≡◌, ℕ, suc, ◌+◌, ◌-◌, ◌<◌, ◌≤◌, Bool, true, false, cond, List}
+use Rattle.codespan_core.proofs.Std.{[], ◌∷◌, length, get_or, take, Option, refl, ap, sym, ◌∙◌}
+use Rattle.codespan_core.proofs.Std.{arith, eqb, inl, inr, count_by, nat_le, ◌==◌, if◌then◌else◌}
+use Rattle.codespan_core.proofs.Std.{cases_lt, le-leb, lt-leb, sum_by-cons}
 use Rattle.std.proofs.Math.Seq.{take-nil}
 use Rattle.codespan_core.specs.FileModel.{line_of}
-use Rattle.codespan_base.specs.FileLaws.{newlines, LineCountsNewlines}
 use Rattle.codespan_core.specs.SimpleModel.{simple_file}
 use Rattle.codespan_core.specs.Lines.{starts_after, line_starts_of}
 use Rattle.codespan_core.specs.Lemmas.Lines.{cuts, count_split}
+use Rattle.codespan_base.specs.FileLaws.{newlines, LineCountsNewlines}
 
 -- one more byte in front
 newlines_more : (b : ℕ) (bs : List ℕ) (n : ℕ)

@@ -1,14 +1,14 @@
 -- For the law `line_starts_end`: what the iterator over line starts returns up to its end.
-use Rattle.std.proofs.Common.{◌≡◌, ℕ, List, refl, sym, ◌∙◌}
+use Rattle.codespan_core.proofs.Std.{◌≡◌, ℕ, List, refl, sym, ◌∙◌, map-id}
 use Rattle.std.proofs.lemmas.Iterator.{items_from_drains}
 use Rattle.std.proofs.lemmas.Iterator.Consumers.{YieldsList-from_first}
-use Rattle.std.proofs.lemmas.List.{map-id}
 use Rattle.std.specs.Iterator.{Drains, YieldsFirst}
 use Rattle.codespan_core.specs.LineStarts.{remaining_starts}
 use Rattle.codespan_core.specs.declared.files.starts.LineStarts.{LineStarts}
 
 -- at its end it has returned the starts that were left
-pub drained : (starts : LineStarts) (items : List ℕ) → Drains (YieldsFirst remaining_starts) starts items
+pub drained : (starts : LineStarts) (items : List ℕ)
+    → Drains (YieldsFirst remaining_starts) starts items
     → items ≡ remaining_starts starts
 drained starts items run =
     sym (map-id items)

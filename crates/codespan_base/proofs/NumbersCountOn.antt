@@ -1,6 +1,6 @@
 -- For the law `set_numbers_count_on`: what setting a line's number does to all lines' numbers.
-use Rattle.std.proofs.Common.{◌≡◌, ℕ, suc, ◌<◌, List, [], ◌∷◌, length, Option, Some, None, refl, arith}
-use Rattle.std.proofs.lemmas.Bool.Decides.{nat_tests}
+use Rattle.codespan_core.proofs.Std.{◌≡◌, ℕ, suc, ◌<◌, List, [], ◌∷◌, length, Option, Some, None}
+use Rattle.codespan_core.proofs.Std.{refl, arith, nat_tests}
 use Rattle.codespan_base.specs.SetLineNumbers.{line_index_at, IsStrictlySorted}
 use Rattle.codespan_base.specs.MappedModel.{nearest_set, with_set_number}
 use Rattle.codespan_base.specs.FileLaws.{nearest_set_after}

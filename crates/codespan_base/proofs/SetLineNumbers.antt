@@ -1,15 +1,19 @@
 -- For the clauses of `search`, `nearest` and `set_line` of `MappedFile`: what a search finds among
 -- set numbers, and what an edit at that index does.
-use Rattle.std.proofs.Common.{◌≡◌, ℕ, zero, suc, ◌+◌, ◌-◌, ◌<◌, ◌≤◌, Bool, true, false, if◌then◌else◌, List, [], ◌∷◌, length, length-set, get_or, set, Some, None, Result, Ok, Err, IfOk, IfErr, refl, sym, ap, subst, arith}
+use Rattle.codespan_core.proofs.Std.{◌≡◌, ℕ, zero, suc, ◌+◌, ◌-◌, ◌<◌, ◌≤◌, Bool, true, false}
+use Rattle.codespan_core.proofs.Std.{if◌then◌else◌, List, [], ◌∷◌, length, get_or, set, Some, None}
+use Rattle.codespan_core.proofs.Std.{Result, Ok, Err, IfOk, IfErr, refl, sym, ap, subst, arith}
+use Rattle.codespan_core.proofs.Std.{nat_cmp, nat_tests, length-map}
+use Rattle.std.proofs.Common.{length-set}
 use Rattle.std.specs.List.{insert}
 use Rattle.std.specs.List.Sorted.{IsSearchInRange, IsBinarySearchResult, IsNonDecreasingBy}
-use Rattle.std.specs.Ordering.{nat_cmp, ordering_index}
+use Rattle.std.specs.Ordering.{ordering_index}
 use Rattle.std.proofs.lemmas.Cmp.{ranked}
 use Rattle.std.proofs.lemmas.List.Sorted.{IsNonDecreasingBy-from_default}
-use Rattle.std.proofs.lemmas.List.Edits.{length-insert, get_or-insert_below, get_or-insert_at, get_or-insert_above}
-use Rattle.std.proofs.lemmas.Bool.Decides.{nat_tests}
-use Rattle.std.proofs.lemmas.List.{length-map}
-use Rattle.codespan_base.specs.SetLineNumbers.{set_number_view, set_number_views, line_index_at, IsStrictlySorted, IsSetAt, IsInsertionPoint}
+use Rattle.std.proofs.lemmas.List.Edits.{length-insert, get_or-insert_below, get_or-insert_at}
+use Rattle.std.proofs.lemmas.List.Edits.{get_or-insert_above}
+use Rattle.codespan_base.specs.SetLineNumbers.{set_number_view, set_number_views, line_index_at}
+use Rattle.codespan_base.specs.SetLineNumbers.{IsStrictlySorted, IsSetAt, IsInsertionPoint}
 use Rattle.codespan_base.specs.declared.files.mapped.SetNumber.{SetNumber}
 use Rattle.codespan_base.specs.MappedModel.{nearest_set, with_set_number}
 
@@ -201,11 +205,13 @@ pub pairs-insert : (l : List SetNumber) (at : ℕ) (s : SetNumber)
     → set_number_views (insert l at s) ≡ insert (set_number_views l) at (set_number_view s)
 pairs-insert l zero s = refl
 pairs-insert [] (suc at) s = refl
-pairs-insert (x ∷ l) (suc at) s = ap (λ (ps : List (ℕ × ℕ)). set_number_view x ∷ ps) (pairs-insert l at s)
+pairs-insert (x ∷ l) (suc at) s = ap (λ (ps : List (ℕ × ℕ)). set_number_view x ∷ ps)
+    (pairs-insert l at s)
 
 -- whether the insert succeeds or fails, the order is kept
 pub sorted_either : (l : List SetNumber) (at : ℕ) (s : SetNumber)
-    → IsInsertionPoint (set_number_views l) s.line_index at → IsStrictlySorted (set_number_views l) → (b : Bool)
+    → IsInsertionPoint (set_number_views l) s.line_index at → IsStrictlySorted (set_number_views l)
+    → (b : Bool)
     (xs : List SetNumber) → xs ≡ (if b then insert l at s else l)
     → IsStrictlySorted (set_number_views xs)
 sorted_either l at s point sorted true xs e =

@@ -1,9 +1,9 @@
 -- For the clauses `value` and `failed` of `line_number` of `SimpleFiles`.
-use Rattle.std.proofs.Common.{◌≡◌, ℕ, ◌+◌, List, Option, Some, None, refl}
-use Rattle.std.specs.Option.{option_map_or}
+use Rattle.codespan_core.proofs.Std.{◌≡◌, ℕ, ◌+◌, List, Option, Some, None, refl, option_map_or}
 use Rattle.codespan_core.specs.FileModel.Lookup.{LineNumber}
 use Rattle.codespan_core.specs.LawfulFiles.{line_number_failure}
-use Rattle.codespan_core.specs.SimpleModel.{simple_file, simple_failure, missing_file, missing_failure}
+use Rattle.codespan_core.specs.SimpleModel.{simple_file, simple_failure, missing_file}
+use Rattle.codespan_core.specs.SimpleModel.{missing_failure}
 
 -- each line's number is its index plus 1, also where the id names no file
 pub numbered : {Name Source : Type 0} (output : Name → Option (List ℕ)) (text : Source → List ℕ)

@@ -1,14 +1,17 @@
 -- For the clauses of `write_all`, and of `set_color` of `Ansi` of `codespan_base`: bytes that a
 -- writer takes, call after call.
-use Rattle.std.proofs.Common.{◌≡◌, ℕ, true, List, [], ◌∷◌, ◌++◌, Option, Result, Ok, Err, sym, ap, subst, ◌∙◌}
+use Rattle.codespan_core.proofs.Std.{◌≡◌, ℕ, true, List, [], ◌∷◌, ◌++◌, Option, Result, Ok, Err}
+use Rattle.codespan_core.proofs.Std.{sym, ap, subst, ◌∙◌, err_from_is_err_and}
 use Rattle.std.specs.Borrow.{GName}
 use Rattle.std.specs.Result.{IsErrAnd}
-use Rattle.std.proofs.lemmas.Result.{err_from_is_err_and}
 use Rattle.codespan_core.specs.declared.term.config.plain_ref.PlainWriterRef.{PlainWriterRef}
-use Rattle.codespan_core.specs.Streams.{byte_stream, plain_spelling}
-use Rattle.codespan_core.specs.WriterLaw.{Frame, Sink, KeepsFrame, Writes, is_known, with_written, are_known, extended, PrefixAppended, AppendsBytes}
-use Rattle.codespan_core.specs.Writers.{fresh_plain_ref_sink, plain_reference, plain_ref_sink, borrowed_writer}
-use Rattle.codespan_core.proofs.KnownBytes.{extended-append, extended-nil, are_known-extended, PrefixAppended-first, PrefixAppended-last, PrefixAppended_first_2, PrefixAppended_first_3}
+use Rattle.codespan_core.specs.{byte_stream, plain_spelling, Frame, Sink, KeepsFrame, Writes}
+use Rattle.codespan_core.specs.{is_known, with_written, are_known, extended, PrefixAppended}
+use Rattle.codespan_core.specs.{AppendsBytes, fresh_plain_ref_sink, plain_reference, plain_ref_sink}
+use Rattle.codespan_core.specs.{borrowed_writer}
+use Rattle.codespan_core.proofs.KnownBytes.{extended-append, extended-nil, are_known-extended}
+use Rattle.codespan_core.proofs.KnownBytes.{PrefixAppended-first, PrefixAppended-last}
+use Rattle.codespan_core.proofs.KnownBytes.{PrefixAppended_first_2, PrefixAppended_first_3}
 use Rattle.codespan_core.proofs.Writes.{spelled-byte_stream}
 
 -- calls that write bytes, one after another
@@ -95,7 +98,8 @@ pub written_to_plain_ref : {W E : Type 0} (contents_of : W → Option (List ℕ)
     (before after : PlainWriterRef W) (name : GName) (contents : Option (List ℕ)) (x : W)
     (bs : List ℕ) (r : Result (Unit {0}) E)
     → plain_ref_sink contents_of before ≡ fresh_plain_ref_sink name contents
-    → Writes (plain_ref_sink contents_of before) (byte_stream bs) r (plain_ref_sink contents_of after)
+    → Writes (plain_ref_sink contents_of before) (byte_stream bs) r
+    (plain_ref_sink contents_of after)
     → (name ≡ plain_reference after → x ≡ borrowed_writer after)
     → AppendsBytes contents bs r (contents_of x)
 unfolding with_written is_known

@@ -1,11 +1,12 @@
 -- For the clause of `put_pair`, and of each function that writes a row: calls that write one after
 -- another, each where the one before it succeeded.
-use Rattle.std.proofs.Common.{◌≡◌, true, ◌++◌, ap, sym, subst, ◌∙◌, Result, Ok, Err}
+use Rattle.codespan_core.proofs.Std.{◌≡◌, true, ◌++◌, ap, sym, subst, ◌∙◌, Result, Ok, Err}
+use Rattle.codespan_core.proofs.Std.{err_from_is_err_and}
 use Rattle.std.specs.Result.{IsErrAnd}
-use Rattle.std.proofs.lemmas.Result.{err_from_is_err_and}
-use Rattle.codespan_core.specs.Streams.{Stream}
-use Rattle.codespan_core.specs.WriterLaw.{Sink, with_written, is_known, PrefixWritten, Writes, failed_frame}
-use Rattle.codespan_core.proofs.Writes.{is_known-with_written, with_written-append, PrefixWritten-first, PrefixWritten-last}
+use Rattle.codespan_core.specs.{Stream, Sink, with_written, is_known, PrefixWritten, Writes}
+use Rattle.codespan_core.specs.{failed_frame}
+use Rattle.codespan_core.proofs.Writes.{is_known-with_written, with_written-append}
+use Rattle.codespan_core.proofs.Writes.{PrefixWritten-first, PrefixWritten-last}
 
 -- the stream was written
 abbrev pub WroteStream : Sink → Stream → Sink → Type 0

@@ -1,18 +1,15 @@
 -- For the clause `value` of `column_index`, and of `column_number`, `location` and their defaults.
-use Rattle.std.proofs.lemmas.Bool.Decides.{nat_tests}
-use Rattle.std.proofs.lemmas.Bool.{false_from_ne_true, lt-ltb}
-use Rattle.std.proofs.lemmas.List.{map-id, drop_more}
-use Rattle.std.proofs.lemmas.List.Sums.{sum_by-cons}
+use Rattle.codespan_core.proofs.Std.{nat_tests, lt-ltb, map-id, drop_more, sum_by-cons, ◌≡◌, ℕ}
+use Rattle.codespan_core.proofs.Std.{zero, suc, ◌+◌, ◌-◌, ◌<◌, ◌≤◌, Bool, true, false, cond, List}
+use Rattle.codespan_core.proofs.Std.{length, get_or, take, drop, refl, ap, arith, count_by}
+use Rattle.codespan_core.proofs.Std.{range_with_len, IsCharBoundary}
+use Rattle.std.proofs.lemmas.Bool.{false_from_ne_true}
 use Rattle.std.proofs.lemmas.List.FromFn.{sum_by-map-range_with_len_more}
-use Rattle.std.proofs.Common.{◌≡◌, ℕ, zero, suc, ◌+◌, ◌-◌, ◌<◌, ◌≤◌, Bool, true, false, cond, List, length, get_or, take, drop, refl, ap, arith}
-use Rattle.std.specs.Prelude.{count_by}
-use Rattle.std.specs.List.{range_with_len}
-use Rattle.std.specs.Str.{IsCharBoundary}
 use Rattle.std.specs.declared.ops.Range.{Range}
 use Rattle.codespan_core.specs.declared.files.Location.{Location}
-use Rattle.codespan_core.specs.FileModel.{FileModel, line_of}
-use Rattle.codespan_core.specs.LawfulFiles.{IsLineRange, column_index_on, location_of}
-use Rattle.codespan_core.specs.Lines.{begins_char, is_char_boundary, column_index_of}
+use Rattle.codespan_core.specs.FileModel.{FileModel}
+use Rattle.codespan_core.specs.{line_of, IsLineRange, column_index_on, location_of, begins_char}
+use Rattle.codespan_core.specs.{is_char_boundary, column_index_of}
 use Rattle.codespan_core.specs.Lemmas.Lines.{ne-eqb}
 
 -- the test is true of a boundary

@@ -1,8 +1,9 @@
 -- For `AppendsBytes`, `Writes` and `Put`: known bytes of a writer, and more that are appended to
 -- them.
-use Rattle.std.proofs.Common.{◌≡◌, ℕ, List, [], ◌++◌, Option, None, Some, is_some, append-nil, append_assoc, refl, sym, ap, ◌∙◌}
+use Rattle.codespan_core.proofs.Std.{◌≡◌, ℕ, List, [], ◌++◌, Option, None, Some, is_some}
+use Rattle.codespan_core.proofs.Std.{append-nil, append_assoc, refl, sym, ap, ◌∙◌}
 use Rattle.std.specs.Io.KnownBytes.{append_known}
-use Rattle.codespan_core.specs.WriterLaw.{are_known, extended, PrefixAppended}
+use Rattle.codespan_core.specs.{are_known, extended, PrefixAppended}
 
 -- bytes are appended to known bytes, and then more
 pub append_known-append : (o : Option (List ℕ)) (a b : List ℕ)

@@ -1,3 +1,5 @@
+-- what proofs take of std
+pub mod Std
 -- texts and lists of diagnostics
 pub mod TextLemmas
 -- line starts, columns, and lines past the end

@@ -1,9 +1,11 @@
 -- For the clauses of `put_all`, `put_spaces` and `put_runs`: a loop that writes a stream piece by
 -- piece.
-use Rattle.std.proofs.Common.{◌≡◌, true, [], ◌++◌, refl, sym, ap, subst, ◌∙◌, append_assoc, append-nil, Result, Ok, Err}
-use Rattle.codespan_core.specs.Streams.{Stream}
-use Rattle.codespan_core.specs.WriterLaw.{Sink, with_written, is_known, PrefixWritten, Writes, failed_frame}
-use Rattle.codespan_core.proofs.Writes.{is_known-with_written, with_written-append, with_written-nil, PrefixWritten-first, PrefixWritten-last}
+use Rattle.codespan_core.proofs.Std.{◌≡◌, true, [], ◌++◌, refl, sym, ap, subst, ◌∙◌, append_assoc}
+use Rattle.codespan_core.proofs.Std.{append-nil, Result, Ok, Err}
+use Rattle.codespan_core.specs.{Stream, Sink, with_written, is_known, PrefixWritten, Writes}
+use Rattle.codespan_core.specs.{failed_frame}
+use Rattle.codespan_core.proofs.Writes.{is_known-with_written, with_written-append}
+use Rattle.codespan_core.proofs.Writes.{with_written-nil, PrefixWritten-first, PrefixWritten-last}
 
 -- of the whole stream, which began at s, the rest is still to be written
 pub record WrittenSoFar (s : Sink) (whole rest : Stream) (t : Sink) : Type 0 where

@@ -1,16 +1,19 @@
 -- For the clauses `kept` and `ended` of `search`, and `first` of `take_newline`, by which `next` of
 -- `LineStarts` meets its law: the mask of the newlines in a block of a text.
-use Rattle.std.proofs.Common.{◌≡◌, ℕ, zero, suc, ◌+◌, ◌-◌, ◌*◌, ◌/◌, ◌^◌, ◌<◌, ◌≤◌, Bool, true, false, cond, List, [], ◌∷◌, length, map, take, drop, get_or, refl, sym, ap, ◌∙◌, arith, pow_mono, shr-shr}
-use Rattle.std.specs.Prelude.{◌≢◌, not, slice_index}
-use Rattle.std.specs.List.{prefix_len}
-use lib.Count.{count_trailing_zeros}
+use Rattle.codespan_core.proofs.Std.{◌≡◌, ℕ, zero, suc, ◌+◌, ◌-◌, ◌*◌, ◌/◌, ◌^◌, ◌<◌, ◌≤◌, Bool}
+use Rattle.codespan_core.proofs.Std.{true, false, cond, List, [], ◌∷◌, length, map, take, drop}
+use Rattle.codespan_core.proofs.Std.{get_or, refl, sym, ap, ◌∙◌, arith, ◌≢◌, not, prefix_len}
+use Rattle.codespan_core.proofs.Std.{eqb-true, eq-eqb, false≢true, length-map, drop-map, drop-drop}
+use Rattle.std.proofs.Common.{pow_mono, shr-shr}
+use Rattle.std.specs.Prelude.{slice_index}
 use Rattle.std.specs.Simd.Lanes.{chunk, mask_l}
 use Rattle.std.proofs.lemmas.Nat.{shr_le}
-use Rattle.std.proofs.lemmas.Bool.{eqb-true, eq-eqb, false≢true}
-use Rattle.std.proofs.lemmas.List.{length-map, drop-map, drop-take, drop-drop}
-use Rattle.std.proofs.lemmas.Simd.{length-chunk, mask_l-lt, trailing_mask_l, none_from_empty_mask, run_in_chunk_le, run_in_chunk_fails, run_in_chunk_stops}
-use Rattle.codespan_core.specs.Lines.{is_newline, starts_after}
+use Rattle.std.proofs.lemmas.List.{drop-take}
+use Rattle.std.proofs.lemmas.Simd.{length-chunk, mask_l-lt, trailing_mask_l, none_from_empty_mask}
+use Rattle.std.proofs.lemmas.Simd.{run_in_chunk_le, run_in_chunk_fails, run_in_chunk_stops}
+use Rattle.codespan_core.specs.{is_newline, starts_after}
 use Rattle.codespan_core.specs.Lemmas.Lines.{starts_after_run, starts_after_newline}
+use lib.Count.{count_trailing_zeros}
 
 -- the mask of at most n bytes has at most n bits
 pub newline_mask_lt : (bs : List ℕ) (n : ℕ) → length bs ≤ n → mask_l (map is_newline bs) < 2 ^ n

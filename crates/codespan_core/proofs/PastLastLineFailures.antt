@@ -1,14 +1,12 @@
 -- For the clauses `failed` of the file databases: a line past the last fails, and the line of a
 -- byte is never past the last.
-use Rattle.std.proofs.Common.{◌≡◌, ◌≢◌, ℕ, suc, ◌-◌, ◌^◌, ◌<◌, ◌≤◌, List, length, refl, ap, arith, Option, Some, None}
-use Rattle.std.proofs.lemmas.Bool.{lt-leb, le-leb, ne_eqb}
+use Rattle.codespan_core.proofs.Std.{◌≡◌, ◌≢◌, ℕ, suc, ◌-◌, ◌^◌, ◌<◌, ◌≤◌, List, length, refl, ap}
+use Rattle.codespan_core.proofs.Std.{arith, Option, Some, None, lt-leb, le-leb, ne_eqb}
 use Rattle.codespan_core.specs.declared.files.error.Error.{Error}
 use Rattle.codespan_core.specs.declared.files.error.Error.TheVariants.{LineTooLarge, OutOfMemory}
-use Rattle.codespan_core.specs.FileModel.{line_of}
-use Rattle.codespan_core.specs.LawfulFiles.{line_number_failure}
-use Rattle.codespan_core.specs.Lines.{line_starts_of}
+use Rattle.codespan_core.specs.{line_of, line_number_failure, line_starts_of}
+use Rattle.codespan_core.specs.{past_last_line_failure}
 use Rattle.codespan_core.specs.Lemmas.Lines.{line_of_below}
-use Rattle.codespan_core.specs.SimpleModel.{past_last_line_failure}
 
 -- a line that is not below the number of lines fails, with the index of the last line
 pub past_last_line_failure_late : (text : List ℕ) (i n : ℕ) → n ≡ length (line_starts_of text)

@@ -1,11 +1,10 @@
 -- For the clauses of `put_all` and `forward_put`: a loop of `put`.
-use Rattle.std.proofs.Common.{◌≡◌, ℕ, ◌<◌, true, ltb, List, [], ◌∷◌, ◌++◌, length, take, drop, refl, sym, ap, ◌∙◌, arith, Option, None, Some, is_some, suc, zero}
+use Rattle.codespan_core.proofs.Std.{◌≡◌, ℕ, ◌<◌, true, ltb, List, [], ◌∷◌, ◌++◌, length, take}
+use Rattle.codespan_core.proofs.Std.{drop, refl, sym, ap, ◌∙◌, arith, Option, None, Some, is_some}
+use Rattle.codespan_core.proofs.Std.{suc, zero, ne_eqb, false≢true, nat_tests, take-append-drop}
 use Rattle.std.specs.Io.KnownBytes.{append_known, Appends, Keeps}
-use Rattle.std.proofs.lemmas.Bool.{ne_eqb, false≢true}
-use Rattle.std.proofs.lemmas.Bool.Decides.{nat_tests}
-use Rattle.std.proofs.lemmas.List.{take-append-drop}
-use Rattle.codespan_core.specs.Streams.{byte_stream}
-use Rattle.codespan_core.specs.WriterLaw.{Frame, Sink, failed_frame, after_put, with_written, is_known, are_known, extended, PrefixWritten}
+use Rattle.codespan_core.specs.{byte_stream, Frame, Sink, failed_frame, after_put, with_written}
+use Rattle.codespan_core.specs.{is_known, are_known, extended, PrefixWritten}
 use Rattle.codespan_core.proofs.StyleMarks.{sink-by}
 use Rattle.codespan_core.proofs.KnownBytes.{append_known-nil}
 use Rattle.codespan_core.proofs.Writes.{spelled-byte_stream, byte_stream-append}
@@ -69,8 +68,10 @@ put-failed s bs t p = (
 )
 
 -- the bytes that were taken, and those that are left
-pub byte_stream-take : (n : ℕ) (bs : List ℕ) → byte_stream bs ≡ byte_stream (take n bs) ++ byte_stream (drop n bs)
-byte_stream-take n bs = ap byte_stream (sym (take-append-drop n bs)) ∙ byte_stream-append (take n bs) (drop n bs)
+pub byte_stream-take : (n : ℕ) (bs : List ℕ) → byte_stream bs ≡ byte_stream (take n bs)
+    ++ byte_stream (drop n bs)
+byte_stream-take n bs = ap byte_stream (sym (take-append-drop n bs))
+    ∙ byte_stream-append (take n bs) (drop n bs)
 
 -- ---- a `put` that is one `write` of the inner writer
 

@@ -1,15 +1,16 @@
 -- For the clauses of `put_spaces`, `put_repeated`, `put_runs`, `fill` and `write_digits`: spaces,
 -- repeated characters and numbers, part by part.
-use Rattle.std.proofs.Common.{◌≡◌, ℕ, zero, suc, get_or, ◌+◌, ◌-◌, ◌*◌, ◌/◌, ◌%◌, ◌^◌, ◌<◌, ◌≤◌, List, [], ◌∷◌, ◌++◌, length, take, drop, replicate, refl, sym, ap, ◌∙◌, append_assoc, append-nil, arith, mul-le-mul_right}
+use Rattle.codespan_core.proofs.Std.{◌≡◌, ℕ, zero, suc, get_or, ◌+◌, ◌-◌, ◌*◌, ◌/◌, ◌%◌, ◌^◌, ◌<◌}
+use Rattle.codespan_core.proofs.Std.{◌≤◌, List, [], ◌∷◌, ◌++◌, length, take, drop, replicate, refl}
+use Rattle.codespan_core.proofs.Std.{sym, ap, ◌∙◌, append_assoc, append-nil, arith, repeat}
+use Rattle.codespan_core.proofs.Std.{encode_utf8, common_steps, take-append_seam, length-append}
+use Rattle.codespan_core.proofs.Std.{length-drop}
+use Rattle.std.proofs.Common.{mul-le-mul_right}
 use Rattle.std.specs.Fmt.{decimal}
-use Rattle.std.specs.List.{repeat}
-use Rattle.std.specs.Char.{encode_utf8}
 use Rattle.std.proofs.lemmas.Fmt.{decimal_digit, decimal_nonempty, decimal_step, length-decimal-le}
-use Rattle.std.proofs.lemmas.Grind.{common_steps}
-use Rattle.std.proofs.Math.Seq.{take-append_seam}
-use Rattle.std.proofs.lemmas.List.{drop-set, length-append, length-drop, replicate-append-replicate, take-replicate, take-take}
+use Rattle.std.proofs.lemmas.List.{drop-set, replicate-append-replicate, take-replicate, take-take}
 use Rattle.std.specs.Prelude.{slice_set}
-use Rattle.codespan_core.specs.Streams.{Stream, byte_stream, spaces, repeated, glyph}
+use Rattle.codespan_core.specs.{Stream, byte_stream, spaces, repeated, glyph}
 use Rattle.codespan_core.proofs.Writes.{byte_stream-append}
 
 -- ---- spaces
@@ -47,10 +48,12 @@ unfolding byte_stream
 byte_stream-nil = refl
 
 -- bytes that are repeated, as a stream
-pub byte_stream-repeat : (n : ℕ) (bs : List ℕ) → byte_stream (repeat n bs) ≡ repeat n (byte_stream bs)
+pub byte_stream-repeat : (n : ℕ) (bs : List ℕ) → byte_stream (repeat n bs)
+    ≡ repeat n (byte_stream bs)
 byte_stream-repeat zero bs = byte_stream-nil
 byte_stream-repeat (suc n) bs =
-    byte_stream-append bs (repeat n bs) ∙ ap (λ (l : Stream). byte_stream bs ++ l) (byte_stream-repeat n bs)
+    byte_stream-append bs (repeat n bs) ∙ ap (λ (l : Stream). byte_stream bs ++ l)
+    (byte_stream-repeat n bs)
 
 -- the number of bytes of k copies
 length-repeat : (k : ℕ) (bs : List ℕ) → length (repeat k bs) ≡ k * length bs

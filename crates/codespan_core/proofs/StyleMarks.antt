@@ -1,9 +1,12 @@
 -- For the clauses of the style marks of each `WriteStyle`: a style mark as the bytes that spell it,
 -- and bytes that a writer of colors writes.
-use Rattle.std.proofs.Common.{◌≡◌, ℕ, Bool, true, List, [], Option, append-nil, Result, Ok, Err, MatchResult, refl, sym, ap, ◌∙◌}
-use Rattle.codespan_core.specs.Streams.{style_mark, byte_stream}
+use Rattle.codespan_core.proofs.Std.{◌≡◌, ℕ, Bool, true, List, [], Option, append-nil, Result, Ok}
+use Rattle.codespan_core.proofs.Std.{Err, refl, sym, ap, ◌∙◌}
+use Rattle.std.proofs.Common.{MatchResult}
+use Rattle.codespan_core.specs.{style_mark, byte_stream, Frame, Sink, is_known, are_known, extended}
+use Rattle.codespan_core.specs.{PrefixAppended, AppendsBytes, with_written, with_failed}
+use Rattle.codespan_core.specs.{PrefixWritten, Writes}
 use Rattle.codespan_core.specs.declared.term.config.style_mark.StyleMark.{StyleMark}
-use Rattle.codespan_core.specs.WriterLaw.{Frame, Sink, is_known, are_known, extended, PrefixAppended, AppendsBytes, with_written, with_failed, PrefixWritten, Writes}
 use Rattle.codespan_core.proofs.KnownBytes.{extended-nil}
 use Rattle.codespan_core.proofs.Writes.{spelled-byte_stream}
 

@@ -1,10 +1,11 @@
 -- For `display_text` and `with_note`: texts that a value was written to. For `clone_labels` and
 -- `clone_notes`: the views of a list with one more item.
-use Rattle.std.proofs.Common.{◌≡◌, ℕ, ◌+◌, ◌<◌, List, [], ◌∷◌, ◌++◌, length, get_or, take, map, Option, Some, None, IfSome, string_bytes, refl, sym, ap, ◌∙◌}
+use Rattle.codespan_core.proofs.Std.{◌≡◌, ℕ, ◌+◌, ◌<◌, List, [], ◌∷◌, ◌++◌, length, get_or, take}
+use Rattle.codespan_core.proofs.Std.{map, Option, Some, None, IfSome, string_bytes, refl, sym, ap}
+use Rattle.codespan_core.proofs.Std.{◌∙◌, map-append, take_more}
 use Rattle.std.specs.Prelude.{String}
 use Rattle.std.specs.Global.{Global}
 use Rattle.std.specs.Fmt.{WritesText}
-use Rattle.std.proofs.lemmas.List.{map-append, take_more}
 use Rattle.std.proofs.lemmas.Fmt.{contents_after_writes}
 use Rattle.codespan_core.specs.declared.diagnostic.text.DisplayBuffer.{DisplayBuffer}
 

@@ -1,7 +1,8 @@
 -- For `Loops`, `Put`, `Chains` and each clause `Writes`: calls that write, one after another.
-use Rattle.std.proofs.Common.{◌≡◌, ℕ, List, [], ◌∷◌, ◌++◌, refl, sym, ap, ◌∙◌, append_assoc, Option}
-use Rattle.codespan_core.specs.Streams.{Stream, Byte, Mark, Slot, Spelling, spelled, byte_stream}
-use Rattle.codespan_core.specs.WriterLaw.{Sink, with_written, is_known, extended, PrefixWritten}
+use Rattle.codespan_core.proofs.Std.{◌≡◌, ℕ, List, [], ◌∷◌, ◌++◌, refl, sym, ap, ◌∙◌, append_assoc}
+use Rattle.codespan_core.proofs.Std.{Option}
+use Rattle.codespan_core.specs.{Stream, Byte, Mark, Slot, Spelling, spelled, byte_stream, Sink}
+use Rattle.codespan_core.specs.{with_written, is_known, extended, PrefixWritten}
 use Rattle.codespan_core.proofs.KnownBytes.{extended-append, extended-nil, are_known-extended}
 
 -- what two streams spell, one after the other

@@ -1,19 +1,15 @@
 -- The rows of a diff have the lines of the old text and of the new one, for the clause of
 -- `laws::diff_has_all_lines`.
-use Rattle.std.proofs.Common.{◌≡◌, ℕ, ◌+◌, ◌-◌, ◌≤◌, Bool, true, false, cond}
-use Rattle.std.proofs.Common.{List, [], ◌∷◌, ◌++◌, length, take, drop, map, reverse, refl}
-use Rattle.std.proofs.Common.{sym, ap, ◌∙◌, arith, append_assoc, append-nil, length-drop}
-use Rattle.std.specs.Prelude.{◌&&◌, ◌==◌, slice_range, if◌then◌else◌}
-use Rattle.std.specs.List.{flat_map, filter}
-use Rattle.std.specs.Str.{bytes_eq}
-use Rattle.std.proofs.lemmas.Bool.Decides.{nat_tests}
+use Rattle.codespan_core.proofs.Std.{◌≡◌, ℕ, ◌+◌, ◌-◌, ◌≤◌, Bool, true, false, cond, List, [], ◌∷◌}
+use Rattle.codespan_core.proofs.Std.{◌++◌, length, take, drop, map, reverse, refl, sym, ap, ◌∙◌}
+use Rattle.codespan_core.proofs.Std.{arith, append_assoc, append-nil, length-drop, ◌&&◌, ◌==◌}
+use Rattle.codespan_core.proofs.Std.{slice_range, if◌then◌else◌, flat_map, filter, bytes_eq}
+use Rattle.codespan_core.proofs.Std.{nat_tests, take-append_seam, take-append-drop, map-append}
+use Rattle.codespan_core.proofs.Std.{reverse-append, drop-drop, nil_from_length, filter-append}
 use Rattle.std.proofs.Math.Numerals.{one-add}
-use Rattle.std.proofs.Math.Seq.{take-append_seam}
 use Rattle.std.proofs.lemmas.Slice.Eq.{bytes_eq-Decides}
-use Rattle.std.proofs.lemmas.List.{take-append-drop, map-append, reverse-append, reverse-reverse}
-use Rattle.std.proofs.lemmas.List.{length-reverse, drop-drop, nil_from_length}
+use Rattle.std.proofs.lemmas.List.{reverse-reverse, length-reverse}
 use Rattle.std.proofs.lemmas.List.Concat.{flat_map-append}
-use Rattle.std.proofs.lemmas.List.Elements.{filter-append}
 use Rattle.codespan_edits.specs.Edits.{ListedEdit, in_order, listed, edited_from}
 use Rattle.codespan_edits.specs.Diffs.{lines, is_whole, Change, no_change, followed_by, kept}
 use Rattle.codespan_edits.specs.Diffs.{pieces_from, is_block, blocks_from, Row, rows_with}

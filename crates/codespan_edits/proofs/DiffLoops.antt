@@ -1,15 +1,12 @@
 -- Facts on the loops that make the rows of a diff, for the clauses of `rows`.
-use Rattle.std.proofs.Common.{inl, inr, ◌≡◌, ◌≢◌, ℕ, zero, suc, ◌+◌, ◌-◌}
-use Rattle.std.proofs.Common.{◌<◌, ◌≤◌, Bool, true, false, cond, List, [], ◌∷◌}
-use Rattle.std.proofs.Common.{◌++◌, length, get_or, take, drop, map, reverse, min, refl, sym}
-use Rattle.std.proofs.Common.{ap, ◌∙◌, subst, arith, append_assoc, append-nil, length-drop}
-use Rattle.std.specs.Prelude.{◌==◌, not, slice_range, slice_get, Some}
+use Rattle.codespan_core.proofs.Std.{inl, inr, ◌≡◌, ◌≢◌, ℕ, zero, suc, ◌+◌, ◌-◌, ◌<◌, ◌≤◌, Bool}
+use Rattle.codespan_core.proofs.Std.{true, false, cond, List, [], ◌∷◌, ◌++◌, length, get_or, take}
+use Rattle.codespan_core.proofs.Std.{drop, map, reverse, min, refl, sym, ap, ◌∙◌, subst, arith}
+use Rattle.codespan_core.proofs.Std.{append_assoc, append-nil, length-drop, ◌==◌, not, slice_range}
+use Rattle.codespan_core.proofs.Std.{slice_get, Some, bytes_eq, cases_lt, nat_tests, drop_more}
+use Rattle.codespan_core.proofs.Std.{drop_all, get_or-map, get_or-drop, drop-drop, length-map}
 use Rattle.std.specs.Borrow.{Bor}
-use Rattle.std.specs.Str.{bytes_eq}
-use Rattle.std.proofs.lemmas.Bool.{cases_lt}
-use Rattle.std.proofs.lemmas.Bool.Decides.{nat_tests}
-use Rattle.std.proofs.lemmas.List.{drop_more, drop_all, get_or-map, get_or-drop, drop-drop}
-use Rattle.std.proofs.lemmas.List.{get_or-reverse, length-map}
+use Rattle.std.proofs.lemmas.List.{get_or-reverse}
 use Rattle.codespan_edits.specs.Diffs.{byte_before, lines, is_whole, common_start}
 
 -- two lists of lines, and the test whether the lines at an index differ

@@ -1,11 +1,9 @@
 -- Facts on the loops that look for a fault, for the clauses of `order`.
-use Rattle.std.proofs.Common.{◌≡◌, ℕ, ◌+◌, ◌-◌, ◌<◌, ◌≤◌, List, []}
-use Rattle.std.proofs.Common.{◌∷◌, length, get_or, drop, map, Some, None, refl, sym, ap}
-use Rattle.std.proofs.Common.{◌∙◌, arith, length-drop}
+use Rattle.codespan_core.proofs.Std.{◌≡◌, ℕ, ◌+◌, ◌-◌, ◌<◌, ◌≤◌, List, [], ◌∷◌, length, get_or}
+use Rattle.codespan_core.proofs.Std.{drop, map, Some, None, refl, sym, ap, ◌∙◌, arith, length-drop}
+use Rattle.codespan_core.proofs.Std.{lt-ltb, le-ltb, drop_more, drop-map}
 use Rattle.std.specs.Option.{option_or}
 use Rattle.std.proofs.Math.ListN.{length-map}
-use Rattle.std.proofs.lemmas.Bool.{lt-ltb, le-ltb}
-use Rattle.std.proofs.lemmas.List.{drop_more, drop-map}
 use Rattle.codespan_edits.specs.Edits.{TextEdit, ListedEdit, text_edit, text_edits, listed_from}
 use Rattle.codespan_edits.specs.Faults.{own_fault, first_own_fault, neighbor_fault}
 use Rattle.codespan_edits.specs.Private.Places.{edit_at, edits_at}

@@ -1,13 +1,9 @@
 -- Edits without a fault fit their text, for what `put_together` requires.
-use Rattle.std.proofs.Common.{◌≡◌, ℕ, zero, suc, ◌+◌, ◌<◌, ◌≤◌, Bool, true}
-use Rattle.std.proofs.Common.{false, List, [], ◌∷◌, length, Option, Some, None}
-use Rattle.std.proofs.Common.{if◌then◌else◌, refl, sym, subst, arith}
-use Rattle.std.specs.Prelude.{All, nat_lt, not}
-use Rattle.std.specs.List.{AllByRecursion}
+use Rattle.codespan_core.proofs.Std.{◌≡◌, ℕ, zero, suc, ◌+◌, ◌<◌, ◌≤◌, Bool, true, false, List, []}
+use Rattle.codespan_core.proofs.Std.{◌∷◌, length, Option, Some, None, if◌then◌else◌, refl, sym}
+use Rattle.codespan_core.proofs.Std.{subst, arith, All, nat_lt, not, AllByRecursion, IsCharBoundary}
+use Rattle.codespan_core.proofs.Std.{nat_tests, ltb-false}
 use Rattle.std.specs.Option.{option_or}
-use Rattle.std.specs.Str.{IsCharBoundary}
-use Rattle.std.proofs.lemmas.Bool.Decides.{nat_tests}
-use Rattle.std.proofs.lemmas.Bool.{ltb-false}
 use Rattle.codespan_core.specs.Lines.{is_char_boundary}
 use Rattle.codespan_edits.specs.Edits.{TextEdit, ListedEdit, in_order, listed, listed_from}
 use Rattle.codespan_edits.specs.Faults.{own_fault, first_own_fault, neighbor_fault, fault}

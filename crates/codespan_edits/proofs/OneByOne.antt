@@ -1,9 +1,8 @@
 -- Edits one after another make the same, for the clause of `laws::edits_are_one_by_one`.
-use Rattle.std.proofs.Common.{◌≡◌, ℕ, ◌-◌, ◌≤◌, List, [], ◌∷◌, ◌++◌}
-use Rattle.std.proofs.Common.{length, take, drop, sym, ap, ◌∙◌, arith, append_assoc}
+use Rattle.codespan_core.proofs.Std.{◌≡◌, ℕ, ◌-◌, ◌≤◌, List, [], ◌∷◌, ◌++◌, length, take, drop, sym}
+use Rattle.codespan_core.proofs.Std.{ap, ◌∙◌, arith, append_assoc, slice_range, take-append-drop}
 use Rattle.std.proofs.Common.{length-take}
-use Rattle.std.specs.Prelude.{slice_range}
-use Rattle.std.proofs.lemmas.List.{take-append-le, take-append-drop}
+use Rattle.std.proofs.lemmas.List.{take-append-le}
 use Rattle.std.proofs.Math.Seq.{drop-append_seam, take-add}
 use Rattle.codespan_edits.specs.Edits.{ListedEdit, in_order, listed, edited_from}
 use Rattle.codespan_edits.specs.EditLaws.{edited_backwards, EditsAreOneByOne}

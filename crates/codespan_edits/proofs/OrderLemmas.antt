@@ -1,16 +1,12 @@
 -- A list in order is determined by its members, for the clause `sorted` of `sorted_places` and for
 -- the laws.
-use Rattle.std.proofs.Common.{◌≡◌, ℕ, ◌+◌, Bool, true, false, List, [], ◌∷◌}
-use Rattle.std.proofs.Common.{if◌then◌else◌, refl, sym, ap, ◌∙◌, arith}
-use Rattle.std.specs.Prelude.{sum_by}
-use Rattle.std.specs.List.{AllByRecursion}
-use Rattle.std.specs.Cmp.{IsStrictWeakOrder, IsTotalOrder, then_total, on_total, nat_cmp_total}
-use Rattle.std.specs.List.Sorted.{IsPermutation}
-use Rattle.std.specs.Ordering.{nat_cmp, ordering_then, is_lt}
-use Rattle.std.proofs.lemmas.Bool.Decides.{nat_tests}
-use Rattle.std.proofs.lemmas.List.Sorted.{ranks_by, IsPermutation-refl, IsPermutation-trans}
-use Rattle.std.proofs.lemmas.List.Sorted.{IsPermutation-cons, IsPermutation-middle}
-use Rattle.std.proofs.lemmas.List.Sums.{sum_by-cons}
+use Rattle.codespan_core.proofs.Std.{◌≡◌, ℕ, ◌+◌, Bool, true, false, List, [], ◌∷◌, if◌then◌else◌}
+use Rattle.codespan_core.proofs.Std.{refl, sym, ap, ◌∙◌, arith, sum_by, AllByRecursion}
+use Rattle.codespan_core.proofs.Std.{IsStrictWeakOrder, IsPermutation, nat_cmp, ordering_then}
+use Rattle.codespan_core.proofs.Std.{is_lt, nat_tests, ranks_by, IsPermutation-refl}
+use Rattle.codespan_core.proofs.Std.{IsPermutation-trans, IsPermutation-cons, sum_by-cons}
+use Rattle.std.specs.Cmp.{IsTotalOrder, then_total, on_total, nat_cmp_total}
+use Rattle.std.proofs.lemmas.List.Sorted.{IsPermutation-middle}
 use Rattle.codespan_edits.specs.Edits.{TextEdit, ListedEdit, compare, is_before, insert_in_order}
 use Rattle.codespan_edits.specs.Edits.{in_order}
 use Rattle.codespan_edits.specs.Private.Places.{replacement_at}

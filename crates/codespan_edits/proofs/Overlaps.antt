@@ -1,12 +1,8 @@
 -- Overlaps are between neighbors if anywhere, for the clause of `laws::overlaps_are_found`.
-use Rattle.std.proofs.Common.{◌≡◌, ℕ, ◌+◌, ◌≤◌, Bool, true, false, List, []}
-use Rattle.std.proofs.Common.{◌∷◌, None, refl, arith}
-use Rattle.std.specs.Prelude.{nat_lt, ◌&&◌}
-use Rattle.std.specs.List.{AllByRecursion, IsDistinct}
-use Rattle.std.specs.Ordering.{nat_cmp, ordering_then, is_lt}
-use Rattle.std.proofs.lemmas.Bool.Decides.{nat_tests}
-use Rattle.std.proofs.lemmas.Bool.{le-ltb}
-use Rattle.std.proofs.lemmas.List.Sorted.{IsPermutation-sym}
+use Rattle.codespan_core.proofs.Std.{◌≡◌, ℕ, ◌+◌, ◌≤◌, Bool, true, false, List, [], ◌∷◌, None, refl}
+use Rattle.codespan_core.proofs.Std.{arith, nat_lt, ◌&&◌, AllByRecursion, nat_cmp, ordering_then}
+use Rattle.codespan_core.proofs.Std.{is_lt, nat_tests, le-ltb, IsPermutation-sym}
+use Rattle.std.specs.List.{IsDistinct}
 use Rattle.std.proofs.lemmas.Map.Keys.{IsDistinct-IsPermutation}
 use Rattle.codespan_edits.specs.Edits.{TextEdit, ListedEdit, in_order, listed, listed_from}
 use Rattle.codespan_edits.specs.Faults.{first_own_fault, neighbor_fault, fault}

@@ -1,15 +1,12 @@
 -- Lists with the same edits make the same, for the clause of `laws::order_matters_to_insertions`.
-use Rattle.std.proofs.Common.{◌≡◌, ℕ, zero, suc, ◌+◌, ◌<◌, ◌≤◌, Bool, true}
-use Rattle.std.proofs.Common.{false, cond, List, [], ◌∷◌, ◌++◌, length, get_or, map, None}
-use Rattle.std.proofs.Common.{inl, inr, if◌then◌else◌, refl, sym, ap, ◌∙◌, subst, arith}
-use Rattle.std.specs.Prelude.{nat_lt, ◌⊎◌, ◌==◌, ◌&&◌, slice_range}
-use Rattle.std.specs.List.{AllByRecursion, Contains, filter}
-use Rattle.std.specs.List.Sorted.{IsPermutation}
-use Rattle.std.specs.Ordering.{nat_cmp, ordering_then, is_lt}
-use Rattle.std.proofs.lemmas.Bool.{true≢false}
-use Rattle.std.proofs.lemmas.Bool.Decides.{nat_tests}
-use Rattle.std.proofs.lemmas.List.Sorted.{Contains-permutation, IsPermutation-sym}
-use Rattle.std.proofs.lemmas.List.Sorted.{IsPermutation-trans, IsPermutation-map}
+use Rattle.codespan_core.proofs.Std.{◌≡◌, ℕ, zero, suc, ◌+◌, ◌<◌, ◌≤◌, Bool, true, false, cond}
+use Rattle.codespan_core.proofs.Std.{List, [], ◌∷◌, ◌++◌, length, get_or, map, None, inl, inr}
+use Rattle.codespan_core.proofs.Std.{if◌then◌else◌, refl, sym, ap, ◌∙◌, subst, arith, nat_lt, ◌⊎◌}
+use Rattle.codespan_core.proofs.Std.{◌==◌, ◌&&◌, slice_range, AllByRecursion, Contains, filter}
+use Rattle.codespan_core.proofs.Std.{IsPermutation, nat_cmp, ordering_then, is_lt, true≢false}
+use Rattle.codespan_core.proofs.Std.{nat_tests, IsPermutation-sym, IsPermutation-trans}
+use Rattle.codespan_core.proofs.Std.{IsPermutation-map}
+use Rattle.std.proofs.lemmas.List.Sorted.{Contains-permutation}
 use Rattle.std.proofs.lemmas.Map.Keys.{IsDistinct-IsPermutation}
 use Rattle.codespan_core.specs.Lines.{is_char_boundary}
 use Rattle.codespan_edits.specs.Edits.{TextEdit, ListedEdit, is_before, insert_in_order, in_order}

@@ -1,6 +1,7 @@
 -- For `chars_change_no_row_length`: the length of rows does not depend on the characters that they
 -- are rendered with.
-use Rattle.std.proofs.Common.{◌≡◌, ℕ, ◌-◌, Bool, true, false, List, [], ◌∷◌, ◌++◌, flat_map, Option, Some, None, if◌then◌else◌, refl, sym, ap, ◌∙◌, arith}
+use Rattle.std.proofs.Common.{◌≡◌, ℕ, ◌-◌, Bool, true, false, List, [], ◌∷◌, ◌++◌, flat_map, Option}
+use Rattle.std.proofs.Common.{Some, None, if◌then◌else◌, refl, sym, ap, ◌∙◌, arith}
 use Rattle.std.specs.List.{list_any}
 use Rattle.codespan_base.specs.declared.diagnostic.Severity.{Severity}
 use Rattle.codespan_base.specs.declared.diagnostic.LabelStyle.{LabelStyle}
@@ -8,16 +9,31 @@ use Rattle.codespan_base.specs.declared.term.config.chars.Chars.{Chars}
 use Rattle.codespan_base.specs.Labels.{LabelModel, LaneMark, MultiLabel, Top, Left, Bottom}
 use Rattle.codespan_base.specs.Streams.{Stream, style_mark, byte_stream, glyph, repeated, space}
 use Rattle.codespan_base.specs.declared.term.config.style_mark.StyleMark.{StyleMark}
-use Rattle.codespan_base.specs.declared.term.config.style_mark.StyleMark.TheVariants.{NoteBullet, SourceBorder, Label, Reset}
-use Rattle.codespan_picture.specs.RowLaws.{row_length, character_count, CharsChangeNoRowLength}
+use Rattle.codespan_base.specs.declared.term.config.style_mark.StyleMark.TheVariants.{NoteBullet}
+use Rattle.codespan_base.specs.declared.term.config.style_mark.StyleMark.TheVariants.{SourceBorder}
+use Rattle.codespan_base.specs.declared.term.config.style_mark.StyleMark.TheVariants.{Label, Reset}
 use Rattle.codespan_base.specs.SnippetStarts.{start_text}
+use Rattle.codespan_picture.specs.RowLaws.{row_length, character_count, CharsChangeNoRowLength}
 use Rattle.codespan_picture.specs.declared.char_metrics.Metrics.{Metrics}
 use Rattle.codespan_picture.specs.Carets.{style_under, max_label_end}
 use Rattle.codespan_picture.specs.Lanes.{label_glyph}
-use Rattle.codespan_picture.specs.Rows.{RowContext, Locus, Lanes, Line, Row, HeaderRow, SnippetStartRow, EmptyRow, BreakRow, SourceRow, CaretRow, PointerRow, HangingRow, UnderlineRow, FirstNoteRow, LaterNoteRow, FinalRow, hanging_labels, trailing_label}
-use Rattle.codespan_picture.specs.RowParts.{outer_gutter, outer_gutter_number, border_left, border_left_break, style_change, styled, lanes_in, snippet_locus, line_metrics, line_metrics_to_end, inner_gutter, colored_text, caret_glyphs, carets, trailing_message, label_message, starts_in, max_label_start, spaces_up_to, pointer_style, pointer_at, pointers, metrics_before, underline, underline_message}
-use Rattle.codespan_picture.specs.RowStreams.{stream_of, snippet_start_row, empty_row, break_row, source_row, row_start, caret_row, pointer_row, hanging_row, underline_row, first_note_row}
-use Rattle.codespan_picture.proofs.Texts.{row_length-append, row_length-glyph, row_length-repeated, text_of-byte_stream}
+use Rattle.codespan_picture.specs.Rows.{RowContext, Locus, Lanes, Line, Row, HeaderRow}
+use Rattle.codespan_picture.specs.Rows.{SnippetStartRow, EmptyRow, BreakRow, SourceRow, CaretRow}
+use Rattle.codespan_picture.specs.Rows.{PointerRow, HangingRow, UnderlineRow, FirstNoteRow}
+use Rattle.codespan_picture.specs.Rows.{LaterNoteRow, FinalRow, hanging_labels, trailing_label}
+use Rattle.codespan_picture.specs.RowParts.{outer_gutter, outer_gutter_number, border_left}
+use Rattle.codespan_picture.specs.RowParts.{border_left_break, style_change, styled, lanes_in}
+use Rattle.codespan_picture.specs.RowParts.{snippet_locus, line_metrics, line_metrics_to_end}
+use Rattle.codespan_picture.specs.RowParts.{inner_gutter, colored_text, caret_glyphs, carets}
+use Rattle.codespan_picture.specs.RowParts.{trailing_message, label_message, starts_in}
+use Rattle.codespan_picture.specs.RowParts.{max_label_start, spaces_up_to, pointer_style}
+use Rattle.codespan_picture.specs.RowParts.{pointer_at, pointers, metrics_before, underline}
+use Rattle.codespan_picture.specs.RowParts.{underline_message}
+use Rattle.codespan_picture.specs.RowStreams.{stream_of, snippet_start_row, empty_row, break_row}
+use Rattle.codespan_picture.specs.RowStreams.{source_row, row_start, caret_row, pointer_row}
+use Rattle.codespan_picture.specs.RowStreams.{hanging_row, underline_row, first_note_row}
+use Rattle.codespan_picture.proofs.Texts.{row_length-append, row_length-glyph, row_length-repeated}
+use Rattle.codespan_picture.proofs.Texts.{text_of-byte_stream}
 use Rattle.codespan_laws.proofs.LaneWidths.{row_length-lanes_in, row_length-label_glyph}
 
 -- two streams have equally many characters
@@ -45,11 +61,13 @@ flat_as_long f g e (x ∷ xs) =
 
 -- ---- single characters
 
-texts : (a b : List ℕ) → character_count a ≡ character_count b → AreAsLong (byte_stream a) (byte_stream b)
+texts : (a b : List ℕ) → character_count a ≡ character_count b
+    → AreAsLong (byte_stream a) (byte_stream b)
 texts a b e =
     record {
       same =
-          ap character_count (text_of-byte_stream a) ∙ e ∙ sym (ap character_count (text_of-byte_stream b));
+          ap character_count (text_of-byte_stream a) ∙ e
+          ∙ sym (ap character_count (text_of-byte_stream b));
     }
 
 glyphs : (c d : ℕ) → AreAsLong (glyph c) (glyph d)
@@ -115,7 +133,8 @@ module _ (context : RowContext) (chars : Chars) where
       → (previous : Option LabelStyle) (cs : List Metrics)
       → AreAsLong (styled context.severity style shown previous cs)
       (styled context.severity style shown' previous cs)
-  styled_as_long style shown shown' e previous [] = as_long (style_change context.severity previous None)
+  styled_as_long style shown shown' e previous [] = as_long
+      (style_change context.severity previous None)
   styled_as_long style shown shown' e previous (c ∷ cs) =
       joined (style_change context.severity previous (style c) ++ shown c)
       (style_change context.severity previous (style c) ++ shown' c) _ _
@@ -152,7 +171,8 @@ module _ (context : RowContext) (chars : Chars) where
       flat_as_long _ _
       (λ c. pointed (list_any (starts_in c) (hanging_labels labels))
       (pointer_style (hanging_labels labels) c)
-      (spaces_up_to (max_label_start labels) c (c.unicode_width - 1)) (spaces_up_to (max_label_start labels) c c.unicode_width)) cs
+      (spaces_up_to (max_label_start labels) c (c.unicode_width - 1))
+      (spaces_up_to (max_label_start labels) c c.unicode_width)) cs
 
   underline_as_long : (style : LabelStyle) (cs : List Metrics) (multi_label : MultiLabel)
       → AreAsLong (underline chars style cs multi_label)
@@ -220,7 +240,8 @@ module _ (context : RowContext) (chars : Chars) where
       (lanes_as_long _ _ _ _ line.lanes)))
       (underline_as_long m.style (line_metrics context line) m.multi_label))
   rows_as_long e (FirstNoteRow note_line) =
-      same_before _ _ (byte_stream note_line) (same_before _ _ space (same_before _ _ (style_mark Reset)
+      same_before _ _ (byte_stream note_line)
+      (same_before _ _ space (same_before _ _ (style_mark Reset)
       (same_after (outer_gutter context.padding ++ style_mark NoteBullet) (glyph chars.note_bullet)
       (glyph context.chars.note_bullet) (glyphs chars.note_bullet context.chars.note_bullet))))
   rows_as_long e (LaterNoteRow note_line) = as_long _

@@ -1,21 +1,26 @@
 -- For `lanes_take_two_characters`: each lane takes two characters.
-use Rattle.std.proofs.Common.{◌≡◌, ℕ, zero, suc, ◌+◌, ◌*◌, ◌++◌, flat_map, Option, Some, None, refl, ◌∙◌, arith}
+use Rattle.std.proofs.Common.{◌≡◌, ℕ, zero, suc, ◌+◌, ◌*◌, ◌++◌, flat_map, Option, Some, None, refl}
+use Rattle.std.proofs.Common.{◌∙◌, arith}
+use Rattle.std.specs.List.{range_with_len}
 use Rattle.codespan_base.specs.declared.diagnostic.Severity.{Severity}
 use Rattle.codespan_base.specs.declared.diagnostic.LabelStyle.{LabelStyle}
 use Rattle.codespan_base.specs.declared.term.config.chars.Chars.{Chars}
 use Rattle.codespan_base.specs.declared.diagnostic.LabelStyle.TheVariants.{Primary}
 use Rattle.codespan_base.specs.Labels.{LaneMark, MultiLabel}
-use Rattle.std.specs.List.{range_with_len}
 use Rattle.codespan_base.specs.Streams.{Stream, style_mark, glyph, repeated}
 use Rattle.codespan_base.specs.declared.term.config.style_mark.StyleMark.{StyleMark}
 use Rattle.codespan_base.specs.declared.term.config.style_mark.StyleMark.TheVariants.{Label, Reset}
 use Rattle.codespan_picture.specs.RowLaws.{row_length}
 use Rattle.codespan_picture.specs.declared.lane_shapes.Shape.{Shape}
-use Rattle.codespan_picture.specs.declared.lane_shapes.Shape.TheVariants.{Space, Bar, TopCorner, BottomCorner}
-use Rattle.codespan_picture.specs.Lanes.{underline_char, crossing_characters, label_glyph, lane_mark_in, lane_characters}
+use Rattle.codespan_picture.specs.declared.lane_shapes.Shape.TheVariants.{Space, Bar, TopCorner}
+use Rattle.codespan_picture.specs.declared.lane_shapes.Shape.TheVariants.{BottomCorner}
+use Rattle.codespan_picture.specs.Lanes.{underline_char, crossing_characters, label_glyph}
+use Rattle.codespan_picture.specs.Lanes.{lane_mark_in, lane_characters}
 use Rattle.codespan_picture.specs.Rows.{RowContext, Lanes}
 use Rattle.codespan_picture.specs.RowParts.{inner_gutter_column, lanes_in}
-use Rattle.codespan_picture.proofs.Texts.{row_length-append, row_length-glyph, row_length-style_mark, row_length-repeated, row_length-spaces}
+use Rattle.codespan_picture.proofs.Texts.{row_length-append, row_length-glyph}
+use Rattle.codespan_picture.proofs.Texts.{row_length-style_mark, row_length-repeated}
+use Rattle.codespan_picture.proofs.Texts.{row_length-spaces}
 
 -- a stream between two style marks is as long as it is alone
 row_length-between_style_marks : (m : StyleMark) (s : Stream)
@@ -48,9 +53,11 @@ row_length-label_glyph severity style c =
 -- a character of the crossing, or a space, and the lane's own character
 filled_and_own : (severity : Severity) (chars : Chars) (crossing : Option LaneMark)
     (style : LabelStyle) (own : ℕ)
-    → row_length (crossing_characters severity chars crossing 1 ++ label_glyph severity style own) ≡ 2
+    → row_length (crossing_characters severity chars crossing 1 ++ label_glyph severity style own)
+    ≡ 2
 filled_and_own severity chars crossing style own =
-    row_length-append (crossing_characters severity chars crossing 1) (label_glyph severity style own)
+    row_length-append (crossing_characters severity chars crossing 1)
+    (label_glyph severity style own)
     ∙ omega (
       arith,
       row_length-crossing_characters severity chars crossing 1,

@@ -1,14 +1,17 @@
 -- For `reordering_changes_nothing`: two orders of a file's labels that its snippet shows alike have
 -- the same labels.
-use Rattle.std.proofs.Common.{◌≡◌, ℕ, min, Bool, true, false, not, ◌==◌, ◌&&◌, ◌||◌, nat_le, cond, List, [], ◌∷◌, map, filter, fold, reverse, ⊎_elim, refl, sym, ap, ◌∙◌, arith}
+use Rattle.std.proofs.Common.{◌≡◌, ℕ, min, Bool, true, false, not, ◌==◌, ◌&&◌, ◌||◌, nat_le, cond}
+use Rattle.std.proofs.Common.{List, [], ◌∷◌, map, filter, fold, reverse, ⊎_elim, refl, sym, ap, ◌∙◌}
+use Rattle.std.proofs.Common.{arith}
 use Rattle.std.specs.List.{list_any}
 use Rattle.std.proofs.Math.Bool.{or-false, or_assoc}
 use Rattle.std.proofs.lemmas.Bool.{cases_Bool, eq-eqb, or_right}
 use Rattle.std.proofs.lemmas.Bool.Decides.{nat_tests}
 use Rattle.codespan_base.specs.FileModel.{FileModel}
-use Rattle.codespan_base.specs.Labels.{LabelModel, is_primary, is_single, first_line, drawn_label, multi_line_labels, single_labels}
-use Rattle.codespan_laws.specs.OrderLaws.{has_drawn_range}
+use Rattle.codespan_base.specs.Labels.{LabelModel, is_primary, is_single, first_line, drawn_label}
+use Rattle.codespan_base.specs.Labels.{multi_line_labels, single_labels}
 use Rattle.codespan_picture.specs.Snippets.{least, if_any, locus_byte_of}
+use Rattle.codespan_laws.specs.OrderLaws.{has_drawn_range}
 use Rattle.codespan_picture.proofs.OrderSorts.{has_range, sorted-same}
 use Rattle.codespan_picture.proofs.HangingStarts.{any-filter}
 use Rattle.codespan_picture.proofs.RefillLemmas.{any-map, filter-map}

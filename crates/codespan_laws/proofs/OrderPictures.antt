@@ -1,7 +1,8 @@
 -- For `reordering_changes_nothing`: a reordering of labels that keeps the orders that a rich output
 -- shows changes nothing in it.
-use Rattle.std.proofs.Common.{◌≡◌, ℕ, ◌+◌, ◌-◌, max, Bool, true, ◌&&◌, ◌||◌, nat_lt, List, [], ◌∷◌, ◌++◌, map, filter, fold, flat_map, length, None, refl, sym, ap, ap₂, ◌∙◌, true, false}
-use mathlib.Core.Path.{fun_ext}
+use Rattle.std.proofs.Common.{◌≡◌, ℕ, ◌+◌, ◌-◌, max, Bool, true, ◌&&◌, ◌||◌, nat_lt, List, [], ◌∷◌}
+use Rattle.std.proofs.Common.{◌++◌, map, filter, fold, flat_map, length, None, refl, sym, ap, ap₂}
+use Rattle.std.proofs.Common.{◌∙◌, false}
 use Rattle.std.specs.Cmp.{IsEquivalence, first_so, second_so}
 use Rattle.std.specs.Cmp.Lexicographic.{pointwise}
 use Rattle.std.specs.List.{range_with_len, enumerate_from, filter_map}
@@ -11,18 +12,25 @@ use Rattle.codespan_base.specs.declared.term.config.DisplayStyle.TheVariants.{Ri
 use Rattle.codespan_base.specs.declared.term.config.Layout.{Layout}
 use Rattle.codespan_base.specs.declared.term.config.Layout.TheVariants.{Classic, Unbroken}
 use Rattle.codespan_base.specs.FileModel.{FileModel, line_count, line_text}
-use Rattle.codespan_base.specs.Labels.{LabelModel, first_line, last_line, first_seen, multi_label_on, lane_mark_of}
+use Rattle.codespan_base.specs.Labels.{LabelModel, first_line, last_line, first_seen}
+use Rattle.codespan_base.specs.Labels.{multi_label_on, lane_mark_of}
 use Rattle.codespan_picture.specs.CharMetrics.{text_without_line_end}
 use Rattle.codespan_picture.specs.LineLaws.{shown_lines}
 use Rattle.codespan_picture.specs.Lines.{shows, is_shown, drawn_lines}
-use Rattle.codespan_laws.specs.OrderLaws.{ReorderingChangesNothing}
 use Rattle.codespan_picture.specs.Padding.{spans, spanned_lines, numbered_lines, digits_of}
 use Rattle.codespan_picture.specs.OutputStreams.{context_of, rendered, snippet_locus_byte}
 use Rattle.codespan_picture.specs.RowStreams.{stream_of_rows}
-use Rattle.codespan_picture.specs.Rows.{Locus, HeaderText, Lanes, Line, HeaderRow, SnippetStartRow, EmptyRow, FinalRow}
-use Rattle.codespan_picture.specs.Snippets.{LabeledFileModel, LabelInFile, labeled_file_model, empty_lanes, line_at, rows_of_drawn, rows_of_shown, labeled_file_models, snippet, has_any, empty_row_after, snippets, note_rows}
+use Rattle.codespan_picture.specs.Rows.{Locus, HeaderText, Lanes, Line, HeaderRow, SnippetStartRow}
+use Rattle.codespan_picture.specs.Rows.{EmptyRow, FinalRow}
+use Rattle.codespan_picture.specs.Snippets.{LabeledFileModel, LabelInFile, labeled_file_model}
+use Rattle.codespan_picture.specs.Snippets.{empty_lanes, line_at, rows_of_drawn, rows_of_shown}
+use Rattle.codespan_picture.specs.Snippets.{labeled_file_models, snippet, has_any, empty_row_after}
+use Rattle.codespan_picture.specs.Snippets.{snippets, note_rows}
+use mathlib.Core.Path.{fun_ext}
+use Rattle.codespan_laws.specs.OrderLaws.{ReorderingChangesNothing}
 use Rattle.codespan_picture.proofs.FillLemmas.{rows_of_shown_lines}
-use Rattle.codespan_laws.proofs.OrderMembers.{AreEqual, SameTests, same-tests, locus-same, singles-same}
+use Rattle.codespan_laws.proofs.OrderMembers.{AreEqual, SameTests, same-tests, locus-same}
+use Rattle.codespan_laws.proofs.OrderMembers.{singles-same}
 
 -- ---- one file
 
@@ -86,7 +94,9 @@ module _ (f : FileModel) (xs ys : List LabelModel) (equal : AreEqual f xs ys) wh
 
   drawn-same : (view_config : Config) → drawn_lines view_config f xs ≡ drawn_lines view_config f ys
   drawn-same view_config =
-      ap (λ (shown : ℕ → Bool). filter (λ l. shown l || (nat_lt 0 l && shown (l - 1) && shown (l + 1))) (range_with_len 0 (line_count f))) (fun_ext (shown-same view_config))
+      ap (λ (shown : ℕ → Bool). filter
+      (λ l. shown l || (nat_lt 0 l && shown (l - 1) && shown (l + 1)))
+      (range_with_len 0 (line_count f))) (fun_ext (shown-same view_config))
 
   start-same : snippet_locus_byte s ≡ snippet_locus_byte t
   start-same = ap {B = FileModel × ℕ} (λ n. (f, n)) (locus-same xs ys tests)
@@ -158,7 +168,8 @@ module _ {Id : Type 0} (view_config : Config) (g h : Id → LabeledFileModel)
   snippets-same has_notes (p ∷ ps) (i ∷ ids) =
       ap₂ (λ a b. a ++ b)
       (followed-same (has_any (map g ids) || has_notes) p i
-      ∙ ap (λ b. snippet view_config p (h i) ++ empty_row_after b (h i)) (is_followed-same has_notes ids))
+      ∙ ap (λ b. snippet view_config p (h i) ++ empty_row_after b (h i))
+      (is_followed-same has_notes ids))
       (snippets-same has_notes ps ids)
 
   digits-same : (ids : List Id)
@@ -172,7 +183,8 @@ module _ {Id : Type 0} (view_config : Config) (g h : Id → LabeledFileModel)
       → rendered Rich renderer_config view_config severity header_text ps (map g ids)
       notes ≡ rendered Rich renderer_config view_config severity header_text ps (map h ids) notes
   rich-same renderer_config severity header_text ps notes ids =
-      ap₂ (λ padding rows. stream_of_rows (context_of renderer_config severity padding) ((HeaderRow None header_text ∷ rows) ++ note_rows notes ++ (FinalRow ∷ [])))
+      ap₂ (λ padding rows. stream_of_rows (context_of renderer_config severity padding)
+      ((HeaderRow None header_text ∷ rows) ++ note_rows notes ++ (FinalRow ∷ [])))
       (ap (fold max 0) (digits-same ids)) (snippets-same (has_any notes) ps ids)
 
 -- ---- equal ids

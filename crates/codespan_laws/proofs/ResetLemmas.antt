@@ -1,18 +1,22 @@
 -- For `rows_end_reset`: the last style mark of a row is a reset.
-use Rattle.std.proofs.Common.{◌≡◌, ℕ, zero, suc, ◌+◌, ◌-◌, Bool, true, false, List, [], ◌∷◌, ◌++◌, flat_map, Option, Some, None, refl, ap, ◌∙◌}
+use Rattle.std.proofs.Common.{◌≡◌, ℕ, zero, suc, ◌+◌, ◌-◌, Bool, true, false, List, [], ◌∷◌, ◌++◌}
+use Rattle.std.proofs.Common.{flat_map, Option, Some, None, refl, ap, ◌∙◌}
 use Rattle.std.specs.List.{repeat, range_with_len}
 use Rattle.codespan_base.specs.declared.diagnostic.Severity.{Severity}
 use Rattle.codespan_base.specs.declared.diagnostic.LabelStyle.{LabelStyle}
 use Rattle.codespan_base.specs.declared.diagnostic.LabelStyle.TheVariants.{Primary, Secondary}
 use Rattle.codespan_base.specs.declared.term.config.chars.Chars.{Chars}
 use Rattle.codespan_base.specs.Labels.{LaneMark, MultiLabel}
-use Rattle.codespan_base.specs.Streams.{Stream, Byte, Mark, Slot, byte_stream, style_mark, spaces, repeated, glyph}
+use Rattle.codespan_base.specs.Streams.{Stream, Byte, Mark, Slot, byte_stream, style_mark, spaces}
+use Rattle.codespan_base.specs.Streams.{repeated, glyph}
 use Rattle.codespan_base.specs.declared.term.config.style_mark.StyleMark.{StyleMark}
 use Rattle.codespan_base.specs.declared.term.config.style_mark.StyleMark.TheVariants.{Label, Reset}
 use Rattle.codespan_picture.specs.declared.char_metrics.Metrics.{Metrics}
 use Rattle.codespan_picture.specs.declared.lane_shapes.Shape.{Shape}
-use Rattle.codespan_picture.specs.declared.lane_shapes.Shape.TheVariants.{Space, Bar, TopCorner, BottomCorner}
-use Rattle.codespan_picture.specs.Lanes.{crossing_characters, label_glyph, lane_characters, lane_mark_in}
+use Rattle.codespan_picture.specs.declared.lane_shapes.Shape.TheVariants.{Space, Bar, TopCorner}
+use Rattle.codespan_picture.specs.declared.lane_shapes.Shape.TheVariants.{BottomCorner}
+use Rattle.codespan_picture.specs.Lanes.{crossing_characters, label_glyph, lane_characters}
+use Rattle.codespan_picture.specs.Lanes.{lane_mark_in}
 use Rattle.codespan_picture.specs.Rows.{RowContext, Lanes}
 use Rattle.codespan_picture.specs.RowParts.{style_change, styled, inner_gutter_column, lanes_in}
 use Rattle.codespan_picture.specs.RowLaws.{is_reset, ends_reset}
@@ -39,7 +43,8 @@ unfolding style_mark
 closes-reset s = record { closed = ends_reset-append true s (Mark Reset ∷ []) }
 
 -- text changes nothing
-pub ends_reset-byte_stream : (closed : Bool) (bs : List ℕ) → ends_reset closed (byte_stream bs) ≡ closed
+pub ends_reset-byte_stream : (closed : Bool) (bs : List ℕ) → ends_reset closed (byte_stream bs)
+    ≡ closed
 unfolding byte_stream
 ends_reset-byte_stream closed [] = refl
 ends_reset-byte_stream closed (b ∷ bs) = ends_reset-byte_stream closed bs
@@ -62,7 +67,8 @@ closes-in_style m s = closes-reset (style_mark m ++ s)
 
 -- ---- lanes
 
-closes-crossing_characters : (severity : Severity) (chars : Chars) (crossing : Option LaneMark) (n : ℕ)
+closes-crossing_characters : (severity : Severity) (chars : Chars) (crossing : Option LaneMark)
+    (n : ℕ)
     → Closes (crossing_characters severity chars crossing n)
 unfolding crossing_characters
 closes-crossing_characters severity chars None n = record { closed = ends_reset-spaces true n }
@@ -140,12 +146,14 @@ pub ends_reset-styled : (severity : Severity) (style : Metrics → Option LabelS
     → ((closed : Bool) (c : Metrics) → ends_reset closed (shown c) ≡ closed)
     → (previous : Option LabelStyle) (cs : List Metrics)
     → ends_reset (is_none previous) (styled severity style shown previous cs) ≡ true
-ends_reset-styled severity style shown plain previous [] = ends_reset-style_change severity previous None
+ends_reset-styled severity style shown plain previous [] = ends_reset-style_change severity previous
+    None
 ends_reset-styled severity style shown plain previous (c ∷ cs) =
     let rest = styled severity style shown (style c) cs in
     let first = style_change severity previous (style c) in
     ends_reset-append (is_none previous) (first ++ shown c) rest
     ∙ ap (λ o. ends_reset o rest)
     (ends_reset-append (is_none previous) first (shown c)
-    ∙ plain (ends_reset (is_none previous) first) c ∙ ends_reset-style_change severity previous (style c))
+    ∙ plain (ends_reset (is_none previous) first) c ∙ ends_reset-style_change severity previous
+    (style c))
     ∙ ends_reset-styled severity style shown plain (style c) cs

@@ -1,5 +1,6 @@
 -- For `rows_end_reset`: the rows of an output.
-use Rattle.std.proofs.Common.{◌≡◌, ℕ, ◌+◌, ◌-◌, nat_le, nat_lt, Bool, true, false, List, [], ◌++◌, Option, Some, None, refl}
+use Rattle.std.proofs.Common.{◌≡◌, ℕ, ◌+◌, ◌-◌, nat_le, nat_lt, Bool, true, false, List, [], ◌++◌}
+use Rattle.std.proofs.Common.{Option, Some, None, refl}
 use Rattle.std.specs.Prelude.{◌==◌, if◌then◌else◌}
 use Rattle.std.specs.List.{list_any}
 use Rattle.codespan_base.specs.declared.diagnostic.Severity.{Severity}
@@ -11,11 +12,26 @@ use Rattle.codespan_base.specs.declared.term.config.style_mark.StyleMark.TheVari
 use Rattle.codespan_picture.specs.declared.char_metrics.Metrics.{Metrics}
 use Rattle.codespan_picture.specs.Carets.{style_under, max_label_end}
 use Rattle.codespan_picture.specs.Lanes.{label_glyph}
-use Rattle.codespan_picture.specs.Rows.{Locus, RowContext, Line, Row, HeaderRow, SnippetStartRow, EmptyRow, BreakRow, SourceRow, CaretRow, PointerRow, HangingRow, UnderlineRow, FirstNoteRow, LaterNoteRow, FinalRow, hanging_labels}
-use Rattle.codespan_picture.specs.RowParts.{inner_gutter, source_glyph, source_style, colored_text, caret_glyphs, carets, trailing_message, label_message, spaces_up_to, pointer_at, pointer_style, pointers, starts_in, max_label_start, outer_gutter, outer_gutter_number, border_left, border_left_break, snippet_locus, line_metrics}
-use Rattle.codespan_picture.specs.RowStreams.{stream_of, header_row, snippet_start_row, empty_row, break_row, source_row, row_start, caret_row, pointer_row, hanging_row, underline_row, first_note_row, later_note_row}
+use Rattle.codespan_picture.specs.Rows.{Locus, RowContext, Line, Row, HeaderRow, SnippetStartRow}
+use Rattle.codespan_picture.specs.Rows.{EmptyRow, BreakRow, SourceRow, CaretRow, PointerRow}
+use Rattle.codespan_picture.specs.Rows.{HangingRow, UnderlineRow, FirstNoteRow, LaterNoteRow}
+use Rattle.codespan_picture.specs.Rows.{FinalRow, hanging_labels}
+use Rattle.codespan_picture.specs.RowParts.{inner_gutter, source_glyph, source_style, colored_text}
+use Rattle.codespan_picture.specs.RowParts.{caret_glyphs, carets, trailing_message, label_message}
+use Rattle.codespan_picture.specs.RowParts.{spaces_up_to, pointer_at, pointer_style, pointers}
+use Rattle.codespan_picture.specs.RowParts.{starts_in, max_label_start, outer_gutter}
+use Rattle.codespan_picture.specs.RowParts.{outer_gutter_number, border_left, border_left_break}
+use Rattle.codespan_picture.specs.RowParts.{snippet_locus, line_metrics}
+use Rattle.codespan_picture.specs.RowStreams.{stream_of, header_row, snippet_start_row, empty_row}
+use Rattle.codespan_picture.specs.RowStreams.{break_row, source_row, row_start, caret_row}
+use Rattle.codespan_picture.specs.RowStreams.{pointer_row, hanging_row, underline_row}
+use Rattle.codespan_picture.specs.RowStreams.{first_note_row, later_note_row}
 use Rattle.codespan_picture.specs.RowLaws.{ends_reset, RowsEndReset}
-use Rattle.codespan_laws.proofs.ResetLemmas.{Closes, closes-append, closes-reset, ends_reset-byte_stream, ends_reset-spaces, ends_reset-repeated, closes-in_style, closes-label_glyph, closes-flat_map, closes-lanes_in, ends_reset-styled}
+use Rattle.codespan_laws.proofs.ResetLemmas.{Closes, closes-append, closes-reset}
+use Rattle.codespan_laws.proofs.ResetLemmas.{ends_reset-byte_stream, ends_reset-spaces}
+use Rattle.codespan_laws.proofs.ResetLemmas.{ends_reset-repeated, closes-in_style}
+use Rattle.codespan_laws.proofs.ResetLemmas.{closes-label_glyph, closes-flat_map, closes-lanes_in}
+use Rattle.codespan_laws.proofs.ResetLemmas.{ends_reset-styled}
 
 -- ---- rows
 
@@ -62,7 +78,8 @@ unfolding colored_text
 closes-colored_text context line =
     record {
       closed =
-          ends_reset-styled context.severity (source_style line) source_glyph ends_reset-source_glyph None
+          ends_reset-styled context.severity (source_style line) source_glyph
+          ends_reset-source_glyph None
           (line_metrics context line);
     }
 
@@ -132,7 +149,8 @@ unfolding snippet_locus
 closes-locus p =
     closes-append _ _
     (closes-append _ _
-    (closes-append _ _ (closes-append _ _ (closes-byte_stream _) (closes-byte_stream _)) (closes-byte_stream _))
+    (closes-append _ _ (closes-append _ _ (closes-byte_stream _) (closes-byte_stream _))
+    (closes-byte_stream _))
     (closes-byte_stream _))
     (closes-byte_stream _)
 
@@ -149,7 +167,8 @@ unfolding header_row snippet_start_row empty_row break_row source_row caret_row 
     hanging_row underline_row first_note_row later_note_row inner_gutter
 closes-row context (HeaderRow at header_text) = closes-reset _
 closes-row context (SnippetStartRow at) =
-    closes-append _ (snippet_locus at) (closes-append _ space (closes-reset _) (closes-byte_stream _))
+    closes-append _ (snippet_locus at)
+    (closes-append _ space (closes-reset _) (closes-byte_stream _))
     (closes-locus at)
 closes-row context (EmptyRow lanes) =
     closes-append _ _ (closes-append _ _ (closes-outer_gutter _) (closes-border_left _))
@@ -177,7 +196,8 @@ closes-row context (HangingRow line x) =
     (closes-label_message context.severity x.style x.message)
 closes-row context (UnderlineRow line m) = closes-reset _
 closes-row context (FirstNoteRow note_line) =
-    closes-append _ (byte_stream note_line) (closes-append _ space (closes-reset _) (closes-byte_stream _))
+    closes-append _ (byte_stream note_line)
+    (closes-append _ space (closes-reset _) (closes-byte_stream _))
     (closes-byte_stream note_line)
 closes-row context (LaterNoteRow note_line) =
     closes-append _ (byte_stream note_line)

@@ -1,8 +1,12 @@
 -- Facts on a line cut after a prefix, for the value of `position_to_byte_index` and for the laws.
-use Rattle.std.proofs.Common.{◌≡◌, ℕ, ◌+◌, ◌-◌, ◌<◌, ◌≤◌, List, ◌++◌, length, take, drop, Result, Ok, Err, ap, sym, ◌∙◌, refl, subst, arith, append_assoc, length-append, length-take}
+use Rattle.std.proofs.Common.{◌≡◌, ℕ, ◌+◌, ◌-◌, ◌<◌, ◌≤◌, List, ◌++◌, length, take, drop, Result}
+use Rattle.std.proofs.Common.{Ok, Err, ap, sym, ◌∙◌, refl, subst, arith, append_assoc}
+use Rattle.std.proofs.Common.{length-append, length-take}
 use Rattle.std.specs.Prelude.{encode_utf8_all, slice_range, IfOk}
 use Rattle.std.proofs.lemmas.List.{take_at, take-append-drop, drop-drop}
-use Rattle.std.proofs.lemmas.Str.{chars-encodes, encodes-append, encodes-chars, scalars-chars, IsUtf8-append, IsUtf8-drop, IsUtf8-between, IsCharBoundary-at_seam, IsCharBoundary-from_rest}
+use Rattle.std.proofs.lemmas.Str.{chars-encodes, encodes-append, encodes-chars, scalars-chars}
+use Rattle.std.proofs.lemmas.Str.{IsUtf8-append, IsUtf8-drop, IsUtf8-between}
+use Rattle.std.proofs.lemmas.Str.{IsCharBoundary-at_seam, IsCharBoundary-from_rest}
 use Rattle.std.specs.Str.{chars, IsUtf8, IsCharBoundary}
 use Rattle.codespan_base.specs.FileModel.{FileModel, line_count, line_start, line_text}
 use Rattle.codespan_base.specs.LawfulFiles.{IsLawful, line_end}
@@ -66,7 +70,8 @@ prefix-is_prefix_at encoding text start end n utf8 order from to =
     ≡ encode_utf8_all front =
     ap (λ k. take k (drop start text)) same
     ∙ (ap (take (length (encode_utf8_all front))) all_is
-    ∙ take_at (encode_utf8_all front) (encode_utf8_all cut.back ++ drop end text) (length (encode_utf8_all front)) refl) in
+    ∙ take_at (encode_utf8_all front) (encode_utf8_all cut.back ++ drop end text)
+    (length (encode_utf8_all front)) refl) in
     let size : length line ≤ end - start =
     omega (arith, length-take (end - start) (drop start text)) in
     record {
@@ -121,8 +126,10 @@ module _ (encoding : PositionEncoding) (f : FileModel) (law : IsLawful f) (p : P
       let here : byte ≡ line_start f p.line
       + length
       (encode_utf8_all (prefix_within encoding p.character (chars (line_text f p.line)))) =
-      at ∙ (ap (λ s. s + length (encode_utf8_all (prefix_within encoding p.character (chars line)))) start_is
-      ∙ ap (λ l. line_start f p.line + length (encode_utf8_all (prefix_within encoding p.character (chars l)))) line_is) in
+      at ∙ (ap (λ s. s + length (encode_utf8_all (prefix_within encoding p.character (chars line))))
+      start_is
+      ∙ ap (λ l. line_start f p.line
+      + length (encode_utf8_all (prefix_within encoding p.character (chars l)))) line_is) in
       subst (IsByteAt encoding f p) (sym here)
       (prefix-is-at
       (ap (λ l. total_units encoding (prefix_within encoding p.character (chars l)))

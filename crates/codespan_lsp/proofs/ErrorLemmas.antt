@@ -1,11 +1,13 @@
 -- The error of a character of a line, case by case, for the clauses of `byte_of_character`.
-use Rattle.std.proofs.Common.{◌≡◌, ℕ, ◌+◌, ◌<◌, List, length, ap, sym, ◌∙◌, refl, arith, inl, inr, length-append}
+use Rattle.std.proofs.Common.{◌≡◌, ℕ, ◌+◌, ◌<◌, List, length, ap, sym, ◌∙◌, refl, arith, inl, inr}
+use Rattle.std.proofs.Common.{length-append}
 use Rattle.std.specs.Prelude.{encode_utf8_all, Some, None}
 use Rattle.std.proofs.lemmas.Bool.{cases_lt, lt-ltb, le-ltb, eq-eqb, ne_eqb}
 use Rattle.std.proofs.lemmas.List.Sums.{sum_by-append}
 use Rattle.std.proofs.lemmas.Str.{encodes-append, encodes-chars, scalars-chars}
 use Rattle.std.specs.Str.{chars, IsUtf8}
-use Rattle.codespan_base.specs.declared.files.Error.TheVariants.{ColumnTooLarge, InvalidCharBoundary}
+use Rattle.codespan_base.specs.declared.files.Error.TheVariants.{ColumnTooLarge}
+use Rattle.codespan_base.specs.declared.files.Error.TheVariants.{InvalidCharBoundary}
 use Rattle.codespan_lsp.specs.Units.{char_units, total_units, code_units, prefix_within}
 use Rattle.codespan_lsp.specs.Positions.{character_failure}
 use Rattle.codespan_lsp.specs.declared.encoding.PositionEncoding.{PositionEncoding}

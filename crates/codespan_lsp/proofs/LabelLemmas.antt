@@ -1,15 +1,19 @@
 -- Facts on a loop that makes something of each label that passes a test, for the clauses of
 -- `diagnostics`.
-use Rattle.std.proofs.Common.{◌≡◌, ℕ, ◌+◌, ◌<◌, ◌≤◌, true, false, Bool, List, [], ◌∷◌, ◌++◌, length, get_or, drop, map, Option, Some, None, ap, sym, ◌∙◌, refl, subst, append_assoc, append-nil}
+use Rattle.std.proofs.Common.{◌≡◌, ℕ, ◌+◌, ◌<◌, ◌≤◌, true, false, Bool, List, [], ◌∷◌, ◌++◌, length}
+use Rattle.std.proofs.Common.{get_or, drop, map, Option, Some, None, ap, sym, ◌∙◌, refl, subst}
+use Rattle.std.proofs.Common.{append_assoc, append-nil}
 use Rattle.std.specs.Prelude.{filter, string_bytes}
 use Rattle.std.proofs.lemmas.List.{drop_all, drop_more, map_push}
-use Rattle.codespan_base.specs.FileModel.{FileDatabase, or_failure}
 use Rattle.std.specs.Option.{option_map}
+use Rattle.codespan_base.specs.FileModel.{FileDatabase, or_failure}
 use Rattle.codespan_base.specs.declared.diagnostic.Diagnostic.{Diagnostic}
 use Rattle.codespan_base.specs.declared.diagnostic.Label.{Label}
 use Rattle.codespan_base.specs.declared.files.Error.{Error}
 use Rattle.codespan_lsp.specs.Positions.{first_failure}
-use Rattle.codespan_lsp.specs.LspDiagnostics.{RelatedView, related_view, related_information_of, related_information_for, label_range, lsp_diagnostic_for}
+use Rattle.codespan_lsp.specs.LspDiagnostics.{RelatedView, related_view, related_information_of}
+use Rattle.codespan_lsp.specs.LspDiagnostics.{related_information_for, label_range}
+use Rattle.codespan_lsp.specs.LspDiagnostics.{lsp_diagnostic_for}
 use Rattle.codespan_lsp.specs.Messages.{full_message}
 use Rattle.codespan_lsp.specs.Severities.{lsp_severity}
 use Rattle.codespan_lsp.specs.declared.severity.DiagnosticSeverity.{DiagnosticSeverity}
@@ -85,7 +89,8 @@ pub lsp-same : {FileId : Type 0} (encoding : PositionEncoding) (database : FileD
     (related : List (RelatedView FileId))
     → range ≡ label_range encoding database label → severity ≡ lsp_severity d.severity
     → code ≡ option_map string_bytes d.code
-    → message ≡ full_message d label → related ≡ related_information_of encoding database d.labels.items
+    → message ≡ full_message d label → related ≡ related_information_of encoding database
+    d.labels.items
     → lsp_diagnostic_for encoding database d label ≡ record {
       file_id = label.file_id;
       range = range;

@@ -1,9 +1,12 @@
 -- The laws of positions, for the clauses of `laws`.
-use Rattle.std.proofs.Common.{◌≡◌, ℕ, ◌+◌, ◌-◌, ◌<◌, ◌≤◌, List, ◌∷◌, ◌++◌, length, take, drop, ap, sym, ◌∙◌, refl, subst, arith, inl, inr, length-append, length-take, length-drop}
+use Rattle.std.proofs.Common.{◌≡◌, ℕ, ◌+◌, ◌-◌, ◌<◌, ◌≤◌, List, ◌∷◌, ◌++◌, length, take, drop, ap}
+use Rattle.std.proofs.Common.{sym, ◌∙◌, refl, subst, arith, inl, inr, length-append, length-take}
+use Rattle.std.proofs.Common.{length-drop}
 use Rattle.std.specs.Prelude.{Some, None, slice_range, encode_utf8, encode_utf8_all}
 use Rattle.std.proofs.lemmas.Bool.{cases_order, cases_eq}
 use Rattle.std.proofs.lemmas.List.{take-append-drop, take-take, drop-take, drop-drop}
-use Rattle.std.proofs.lemmas.Str.{IsUtf8-between, chars-append, chars_past_char, encodes-chars, length-encode, len_utf8_bounds}
+use Rattle.std.proofs.lemmas.Str.{IsUtf8-between, chars-append, chars_past_char, encodes-chars}
+use Rattle.std.proofs.lemmas.Str.{length-encode, len_utf8_bounds}
 use Rattle.std.specs.Str.{chars, IsUtf8, IsCharBoundary}
 use Rattle.codespan_base.specs.FileModel.{FileModel, line_count, line_of, line_start, line_text}
 use Rattle.codespan_base.specs.LawfulFiles.{IsLawful, line_end}
@@ -11,14 +14,17 @@ use Rattle.codespan_base.specs.Lemmas.Lines.{line_of_below, line_of-rises}
 use Rattle.codespan_base.specs.declared.files.Error.TheVariants.{InvalidCharBoundary}
 use Rattle.codespan_lsp.specs.Units.{total_units, code_units, prefix_within}
 use Rattle.codespan_lsp.specs.Positions.{units_before, position_of, IsByteAt, character_failure}
-use Rattle.codespan_lsp.specs.PositionLaws.{IsOnLine, RoundTrip, IsEarlierPosition, IsInside, PositionsReturn, PositionsAscend, ErrorsHaveNoByte, InsideIsNoBoundary}
+use Rattle.codespan_lsp.specs.PositionLaws.{IsOnLine, RoundTrip, IsEarlierPosition, IsInside}
+use Rattle.codespan_lsp.specs.PositionLaws.{PositionsReturn, PositionsAscend, ErrorsHaveNoByte}
+use Rattle.codespan_lsp.specs.PositionLaws.{InsideIsNoBoundary}
 use Rattle.codespan_lsp.specs.declared.encoding.PositionEncoding.{PositionEncoding}
 use Rattle.codespan_lsp.specs.declared.positions.Position.{Position}
 use Rattle.codespan_lsp.proofs.UnitLemmas.{code_units-append, code_units-some}
 use Rattle.codespan_lsp.proofs.LineLemmas.{line_of-start}
 use Rattle.codespan_lsp.proofs.PrefixLemmas.{prefix-exact, prefix-inside}
 use Rattle.codespan_lsp.proofs.CutLemmas.{prefix-is-at}
-use Rattle.codespan_lsp.proofs.ErrorLemmas.{character_failure-none, character_failure-past, character_failure-inside}
+use Rattle.codespan_lsp.proofs.ErrorLemmas.{character_failure-none, character_failure-past}
+use Rattle.codespan_lsp.proofs.ErrorLemmas.{character_failure-inside}
 
 -- a part of a text in two
 slice-parts : (text : List ℕ) (start a b : ℕ) → start ≤ a → a ≤ b

@@ -1,15 +1,24 @@
 -- What the call does, for the clause of `emit`: where an argument is invalid, where the output is
 -- rendered, and where an allocation fails.
-use Rattle.std.proofs.Common.{◌≡◌, ◌≢◌, ◌≤◌, ◌⊎◌, ◌∙◌, ℕ, List, inl, inr, refl, sym, ap, subst, arith}
+use Rattle.std.proofs.Common.{◌≡◌, ◌≢◌, ◌≤◌, ◌⊎◌, ◌∙◌, ℕ, List, inl, inr, refl, sym, ap, subst}
+use Rattle.std.proofs.Common.{arith}
 use Rattle.std.proofs.lemmas.Bool.{cases_order}
 use Rattle.codespan_native.specs.declared.error.Argument.{Argument}
-use Rattle.codespan_native.specs.declared.error.Argument.TheVariants.{Abi, DisplayStyle, Layout, Spelling, Characters, SnippetStart, Character, Color, FileName, FileSource, FileLines, FileLocations, Severity, Code, Message, LabelStyle, LabelMessage, LabelFile, Note}
+use Rattle.codespan_native.specs.declared.error.Argument.TheVariants.{Abi, DisplayStyle, Layout}
+use Rattle.codespan_native.specs.declared.error.Argument.TheVariants.{Spelling, Characters}
+use Rattle.codespan_native.specs.declared.error.Argument.TheVariants.{SnippetStart, Character}
+use Rattle.codespan_native.specs.declared.error.Argument.TheVariants.{Color, FileName, FileSource}
+use Rattle.codespan_native.specs.declared.error.Argument.TheVariants.{FileLines, FileLocations}
+use Rattle.codespan_native.specs.declared.error.Argument.TheVariants.{Severity, Code, Message}
+use Rattle.codespan_native.specs.declared.error.Argument.TheVariants.{LabelStyle, LabelMessage}
+use Rattle.codespan_native.specs.declared.error.Argument.TheVariants.{LabelFile, Note}
 use Rattle.codespan_native.specs.declared.raw.RawConfig.{RawConfig}
 use Rattle.codespan_native.specs.declared.raw.RawDiagnostic.{RawDiagnostic}
 use Rattle.codespan_native.specs.declared.raw.RawFile.{RawFile}
 use Rattle.codespan_native.specs.Results.{IsTooSmall, IsWritten}
 use Rattle.codespan_native.specs.Statuses.{OK, TOO_SMALL, OUT_OF_MEMORY, FILE_MISSING, INVALID}
-use Rattle.codespan_native.specs.Validity.{AreValid, FirstInvalidIs, IsFirstInvalid, argument_number, no_detail, status_for}
+use Rattle.codespan_native.specs.Validity.{AreValid, FirstInvalidIs, IsFirstInvalid}
+use Rattle.codespan_native.specs.Validity.{argument_number, no_detail, status_for}
 use Rattle.codespan_native.specs.EmitCalls.{EmitsToBuffer}
 use Rattle.codespan_native.specs.Meaning.{Means, output_bytes}
 use Rattle.codespan_native.proofs.LookupsFound.{none_fails}

@@ -1,14 +1,24 @@
 -- Searches for what is invalid, for the clauses of `first_invalid`.
-use Rattle.std.proofs.Common.{◌≡◌, ℕ, zero, suc, ◌+◌, ◌<◌, ◌≤◌, Bool, List, [], ◌∷◌, get_or, length, Option, None, Some, inl, inr, arith, refl, subst}
+use Rattle.std.proofs.Common.{◌≡◌, ℕ, zero, suc, ◌+◌, ◌<◌, ◌≤◌, Bool, List, [], ◌∷◌, get_or, length}
+use Rattle.std.proofs.Common.{Option, None, Some, inl, inr, arith, refl, subst}
 use Rattle.std.specs.Prelude.{IsTrue, MatchOption}
 use Rattle.std.proofs.lemmas.Bool.{cases_lt}
 use Rattle.std.specs.List.{HoldsAt}
 use Rattle.codespan_native.specs.declared.error.Argument.{Argument}
-use Rattle.codespan_native.specs.declared.error.Argument.TheVariants.{Abi, DisplayStyle, Layout, Spelling, Characters, SnippetStart, Character, Color, FileName, FileSource, FileLines, FileLocations, Severity, Code, Message, LabelStyle, LabelMessage, LabelFile, Note}
+use Rattle.codespan_native.specs.declared.error.Argument.TheVariants.{Abi, DisplayStyle, Layout}
+use Rattle.codespan_native.specs.declared.error.Argument.TheVariants.{Spelling, Characters}
+use Rattle.codespan_native.specs.declared.error.Argument.TheVariants.{SnippetStart, Character}
+use Rattle.codespan_native.specs.declared.error.Argument.TheVariants.{Color, FileName, FileSource}
+use Rattle.codespan_native.specs.declared.error.Argument.TheVariants.{FileLines, FileLocations}
+use Rattle.codespan_native.specs.declared.error.Argument.TheVariants.{Severity, Code, Message}
+use Rattle.codespan_native.specs.declared.error.Argument.TheVariants.{LabelStyle, LabelMessage}
+use Rattle.codespan_native.specs.declared.error.Argument.TheVariants.{LabelFile, Note}
 use Rattle.codespan_native.specs.declared.raw.RawConfig.{RawConfig}
 use Rattle.codespan_native.specs.declared.raw.RawDiagnostic.{RawDiagnostic}
 use Rattle.codespan_native.specs.declared.raw.RawFile.{RawFile}
-use Rattle.codespan_native.specs.Validity.{FindsFirstInvalid, FindsFirstWithout, HoldsIfAt, IsFirstInvalid, IsFirstInvalidIndex, IsValidAt, argument_number}
+use Rattle.codespan_native.specs.Validity.{FindsFirstInvalid, FindsFirstWithout, HoldsIfAt}
+use Rattle.codespan_native.specs.Validity.{IsFirstInvalid, IsFirstInvalidIndex, IsValidAt}
+use Rattle.codespan_native.specs.Validity.{argument_number}
 
 -- what a search among values found, by their indices
 pub by_index : {X : Type 0} (P : X → Type 0) (xs : List X) (r : Option ℕ)
@@ -106,7 +116,13 @@ numbered = (
                 refl,
                 (
                   refl,
-                  (refl, (refl, (refl, (refl, (refl, (refl, (refl, (refl, (refl, (refl, tt)))))))))),
+                  (
+                    refl,
+                    (
+                      refl,
+                      (refl, (refl, (refl, (refl, (refl, (refl, (refl, (refl, tt)))))))),
+                    ),
+                  ),
                 ),
               ),
             ),

@@ -1,20 +1,30 @@
 -- No lookup of a known file fails, for the clause `found` of `emit`.
-use Rattle.std.proofs.Common.{◌≡◌, ℕ, zero, suc, ◌+◌, ◌<◌, Bool, true, false, cond, List, [], ◌∷◌, ◌++◌, map, length, Option, None, Some, IsSome, All, refl, sym, ◌∙◌, ap, subst, arith}
+use Rattle.std.proofs.Common.{◌≡◌, ℕ, zero, suc, ◌+◌, ◌<◌, Bool, true, false, cond, List, [], ◌∷◌}
+use Rattle.std.proofs.Common.{◌++◌, map, length, Option, None, Some, IsSome, All, refl, sym, ◌∙◌}
+use Rattle.std.proofs.Common.{ap, subst, arith}
 use Rattle.std.specs.Prelude.{◌&&◌, not, nat_le, filter, flat_map, slice_get, if◌then◌else◌}
 use Rattle.std.specs.List.{range_with_len, slice_index_or}
 use Rattle.std.specs.Option.{option_map_or}
 use Rattle.std.proofs.lemmas.Bool.{le-leb, lt-leb}
 use Rattle.std.proofs.lemmas.List.{length-map}
 use Rattle.codespan_base.specs.FileModel.{FileDatabase, FileModel, Lookup, line_count}
-use Rattle.codespan_base.specs.FileModel.Lookup.{Name, Source, LineIndex, LineNumber, LocationAt, LineRange}
+use Rattle.codespan_base.specs.FileModel.Lookup.{Name, Source, LineIndex, LineNumber, LocationAt}
+use Rattle.codespan_base.specs.FileModel.Lookup.{LineRange}
 use Rattle.codespan_base.specs.Labels.{LabelModel, first_seen, is_primary, last_line}
 use Rattle.codespan_base.specs.declared.files.Error.TheVariants.{FileMissing}
 use Rattle.codespan_base.specs.SimpleModel.{missing_file}
-use Rattle.codespan_picture.specs.OutputStreams.{labels_of}
-use Rattle.codespan_picture.specs.Types.{Config, Diagnostic, Error, DisplayStyle, Rich, Medium, Short, Layout, Classic, Unbroken}
-use Rattle.codespan_picture.specs.Lookups.{AllSucceed, looked_up_lines, lookups_of_file, early_lookups, ends_context_lines, file_at, filled_lines, header_lookups_of, is_looked_up, label_lookups, late_lookups, locus_lookups, lookup_past_end, lookups_in, numbers_for_padding, filled_line_lookups, label_line_lookups, line_lookups, snippet_lookups}
-use Rattle.codespan_picture.specs.Snippets.{LabelInFile, file_ids, locus_byte_of, primary_of}
 use Rattle.codespan_base.specs.Diagnostics.{DiagnosticView, LabelView}
+use Rattle.codespan_picture.specs.OutputStreams.{labels_of}
+use Rattle.codespan_picture.specs.Types.{Config, Diagnostic, Error, DisplayStyle, Rich, Medium}
+use Rattle.codespan_picture.specs.Types.{Short, Layout, Classic, Unbroken}
+use Rattle.codespan_picture.specs.Lookups.{AllSucceed, looked_up_lines, lookups_of_file}
+use Rattle.codespan_picture.specs.Lookups.{early_lookups, ends_context_lines, file_at, filled_lines}
+use Rattle.codespan_picture.specs.Lookups.{header_lookups_of, is_looked_up, label_lookups}
+use Rattle.codespan_picture.specs.Lookups.{late_lookups, locus_lookups, lookup_past_end, lookups_in}
+use Rattle.codespan_picture.specs.Lookups.{numbers_for_padding, filled_line_lookups}
+use Rattle.codespan_picture.specs.Lookups.{label_line_lookups, line_lookups, snippet_lookups}
+use Rattle.codespan_picture.specs.Snippets.{LabelInFile, file_ids, locus_byte_of, primary_of}
+use Rattle.codespan_picture.specs.ViewPictures.{label_of_view}
 use Rattle.codespan_native.specs.declared.error.Argument.TheVariants.{LabelFile}
 use Rattle.codespan_native.specs.declared.raw.RawConfig.{RawConfig}
 use Rattle.codespan_native.specs.declared.raw.RawDiagnostic.{RawDiagnostic}
@@ -23,9 +33,9 @@ use Rattle.codespan_native.specs.declared.raw.RawLabel.{RawLabel}
 use Rattle.codespan_native.specs.Meaning.{NoLookupFails}
 use Rattle.codespan_native.specs.Converted.{converted_label, converted_file}
 use Rattle.codespan_native.specs.Validity.{AreValid}
-use Rattle.codespan_picture.specs.ViewPictures.{label_of_view}
 use Rattle.codespan_picture.proofs.ViewPictures.{labels-of_view}
-use Rattle.codespan_native.specs.SourceTexts.{NativeFileView, native_database, native_failure, native_file_model}
+use Rattle.codespan_native.specs.SourceTexts.{NativeFileView, native_database, native_failure}
+use Rattle.codespan_native.specs.SourceTexts.{native_file_model}
 
 -- ---- facts of each element of a list
 
@@ -69,8 +79,11 @@ each_of_range a (suc n) =
 each_first_seen : {X : Type 0} (same : X → X → Bool) (P : X → Type 0) (xs : List X) → Each P xs
     → Each P (first_seen same xs)
 each_first_seen same P [] all = tt
-each_first_seen same P (x ∷ xs) all =
-    (all.0, each_filter (λ other. not (same x other)) P (first_seen same xs) (each_first_seen same P xs all.1))
+each_first_seen same P (x ∷ xs) all = (
+  all.0,
+  each_filter (λ other. not (same x other)) P (first_seen same xs)
+      (each_first_seen same P xs all.1),
+)
 
 at_index : {X : Type 0} (P : X → Type 0) (xs : List X) (k : ℕ) (d : X) → k < length xs → Each P xs
     → P (slice_index_or xs k d)
@@ -110,7 +123,8 @@ module _ (failure : Lookup → Option Error) (f : FileModel) (a : LookupsSucceed
       → Each (λ i. i < line_count f) (filter test (range_with_len 0 (line_count f)))
   of_lines test =
       each_filter test (λ i. i < line_count f) (range_with_len 0 (line_count f))
-      (let e : 0 + line_count f ≡ line_count f = omega arith in rw e at (each_of_range 0 (line_count f)))
+      (let e : 0 + line_count f ≡ line_count f = omega arith in rw e at
+      (each_of_range 0 (line_count f)))
 
   nothing_past : (b c : Bool) (ls : List Lookup) → c ≡ true
       → Each Found (if b && not c then ls else [])
@@ -123,10 +137,12 @@ module _ (failure : Lookup → Option Error) (f : FileModel) (a : LookupsSucceed
     a.line_index x.start,
     (
       a.line_index x.end,
-      each_append Found (flat_map line_lookups (looked_up_lines config f x)) (lookup_past_end config f failure x)
+      each_append Found (flat_map line_lookups (looked_up_lines config f x))
+          (lookup_past_end config f failure x)
           (each_flat_map line_lookups Found (λ i. i < line_count f) (looked_up_lines config f x)
           (λ i h. (a.line_range i h, (a.line_number i, tt))) (of_lines (is_looked_up config f x)))
-          (nothing_past (nat_le (line_count f) (last_line f x + config.after_label_lines)) _ _ a.past_end),
+          (nothing_past (nat_le (line_count f) (last_line f x + config.after_label_lines)) _ _
+          a.past_end),
     ),
   )
 
@@ -168,7 +184,8 @@ module _ (ss : List NativeFileView) where
 
   lookups_are_found : (id : ℕ) (ls : List Lookup) → Each (λ l. fails id l ≡ None) ls
       → Each IsFound (lookups_of_file id ls)
-  lookups_are_found id ls all = each_map (λ l. (id, l)) IsFound (λ l. fails id l ≡ None) ls (λ l e. e) all
+  lookups_are_found id ls all = each_map (λ l. (id, l)) IsFound (λ l. fails id l ≡ None) ls
+      (λ l e. e) all
 
   abbrev InKnown : LabelInFile ℕ → Type 0
   InKnown x = IsKnown x.file_id
@@ -199,7 +216,8 @@ module _ (ss : List NativeFileView) where
         → Each IsFound
         (flat_map (λ id. lookups_of_file id (lookups_for id)) (file_ids files.same xs))
     of_ids lookups_for each =
-        each_flat_map (λ id. lookups_of_file id (lookups_for id)) IsFound IsKnown (file_ids files.same xs)
+        each_flat_map (λ id. lookups_of_file id (lookups_for id)) IsFound IsKnown
+        (file_ids files.same xs)
         (λ id h. lookups_are_found id (lookups_for id) (each id h)) ids_known
 
     padding_found : (layout : Layout) (id : ℕ) → IsKnown id
@@ -217,7 +235,8 @@ module _ (ss : List NativeFileView) where
       each_flat_map (filled_line_lookups config.layout) (λ l. fails id l ≡ None)
           (λ i. i < line_count (files.file id))
           (filled_lines config (file_at files xs id))
-          (of_filled_found (fails id) (files.file id) (lookups_succeed_at id h) config config.layout)
+          (of_filled_found (fails id) (files.file id) (lookups_succeed_at id h) config
+          config.layout)
           (of_lines (fails id) (files.file id) (lookups_succeed_at id h) config _),
     )
 
@@ -230,7 +249,8 @@ module _ (ss : List NativeFileView) where
         (each_append IsFound (label_lookups config files xs)
         (flat_map (λ id. lookups_of_file id (numbers_for_padding files xs config config.layout id))
         (file_ids files.same xs))
-        labels_found (of_ids (numbers_for_padding files xs config config.layout) (padding_found config.layout)))
+        labels_found (of_ids (numbers_for_padding files xs config config.layout)
+        (padding_found config.layout)))
         (of_ids (locus_lookups files xs)
         (λ id h. (
           (lookups_succeed_at id h).name,

@@ -1,11 +1,16 @@
 -- Valid arguments have valid parts, as the calls of `output_of` require.
 use Rattle.std.proofs.Common.{◌≡◌, All, List, arith}
-use Rattle.codespan_native.specs.declared.error.Argument.TheVariants.{Characters, SnippetStart, Character, FileName, FileSource, FileLines, FileLocations, Code, Message, LabelMessage, Note}
+use Rattle.codespan_native.specs.declared.error.Argument.TheVariants.{Characters, SnippetStart}
+use Rattle.codespan_native.specs.declared.error.Argument.TheVariants.{Character, FileName}
+use Rattle.codespan_native.specs.declared.error.Argument.TheVariants.{FileSource, FileLines}
+use Rattle.codespan_native.specs.declared.error.Argument.TheVariants.{FileLocations, Code, Message}
+use Rattle.codespan_native.specs.declared.error.Argument.TheVariants.{LabelMessage, Note}
 use Rattle.codespan_native.specs.declared.raw.RawConfig.{RawConfig}
 use Rattle.codespan_native.specs.declared.raw.RawDiagnostic.{RawDiagnostic}
 use Rattle.codespan_native.specs.declared.raw.RawFile.{RawFile}
 use Rattle.codespan_native.specs.Validity.{AreValid}
-use Rattle.codespan_native.specs.ValidParts.{AreCustomChars, AreValidChars, IsValidDiagnostic, IsValidFile}
+use Rattle.codespan_native.specs.ValidParts.{AreCustomChars, AreValidChars, IsValidDiagnostic}
+use Rattle.codespan_native.specs.ValidParts.{IsValidFile}
 
 module _ (files : List RawFile) (d : RawDiagnostic) (c : RawConfig) (valid : AreValid files d c)
   where

@@ -1,5 +1,6 @@
 -- What is rendered, for the clauses of `render` and of `output_of`.
-use Rattle.std.proofs.Common.{◌≡◌, ℕ, true, List, [], ◌++◌, map, IsSome, None, Some, Result, Ok, Err, OnOk, IfOk, Vec, Global, refl, sym, subst, ◌∙◌, ap}
+use Rattle.std.proofs.Common.{◌≡◌, ℕ, true, List, [], ◌++◌, map, IsSome, None, Some, Result, Ok}
+use Rattle.std.proofs.Common.{Err, OnOk, IfOk, Vec, Global, refl, sym, subst, ◌∙◌, ap}
 use Rattle.std.specs.List.{slice_get}
 use Rattle.std.specs.Option.{option_map_or}
 use Rattle.codespan_base.specs.declared.diagnostic.Diagnostic.{Diagnostic}
@@ -14,16 +15,17 @@ use Rattle.codespan_base.specs.WriterLaw.{Sink, is_known, with_written, are_know
 use Rattle.codespan_base.specs.Writers.{fresh_sink}
 use Rattle.codespan_picture.specs.RichLaws.{MeansLabels}
 use Rattle.codespan_picture.specs.StatedNames.{NamesAreStated}
-use Rattle.codespan_picture.proofs.StatedNames.{output_stated}
 use Rattle.codespan_picture.specs.ViewPictures.{picture_of_diagnostic_view}
-use Rattle.codespan_picture.proofs.ViewPictures.{picture-of_view}
 use Rattle.codespan_views.specs.WriteCalls.{WritesStyled}
+use Rattle.codespan_picture.proofs.StatedNames.{output_stated}
+use Rattle.codespan_picture.proofs.ViewPictures.{picture-of_view}
 use Rattle.codespan_native.specs.declared.error.OutOfMemory.{OutOfMemory}
 use Rattle.codespan_native.specs.declared.raw.RawConfig.{RawConfig}
 use Rattle.codespan_native.specs.declared.raw.RawDiagnostic.{RawDiagnostic}
 use Rattle.codespan_native.specs.declared.raw.RawFile.{RawFile}
 use Rattle.codespan_native.specs.Meaning.{Means, output_bytes}
-use Rattle.codespan_native.specs.Converted.{converted_config, display_style_of, converted_file, spelling_of, converted_diagnostic}
+use Rattle.codespan_native.specs.Converted.{converted_config, display_style_of, converted_file}
+use Rattle.codespan_native.specs.Converted.{spelling_of, converted_diagnostic}
 use Rattle.codespan_native.specs.SourceTexts.{NativeFileView, native_database, native_file_model}
 use Rattle.codespan_native.specs.RenderedStreams.{IsSpelledOutput, stream_of_output}
 
@@ -78,7 +80,8 @@ output_is expected config ss ts d v alike same viewed =
     (λ ss. picture_of_diagnostic_view expected (native_database ss).same (native_database ss).file
     (diagnostic_view d))
     same
-    ∙ ap (λ v. picture_of_diagnostic_view expected (native_database ts).same (native_database ts).file v)
+    ∙ ap (λ v. picture_of_diagnostic_view expected (native_database ts).same
+    (native_database ts).file v)
     viewed
 
 -- the bytes that are rendered are those that the structs describe

@@ -1,24 +1,26 @@
 -- What the binary searches of lines and locations find, for `StatedText::line_index` and
 -- `NativeFile::stated_location`, and the locations of which `locations_ascend` looks at one.
-use Rattle.std.proofs.Common.{◌≡◌, ◌≢◌, ℕ, zero, suc, ◌+◌, ◌-◌, ◌<◌, ◌≤◌, Bool, true, false, List, [], ◌∷◌, length, Some, None, Result, Ok, Err, drop, get_or, refl, sym, ap, ◌∙◌, arith, inl, inr, lt-ltb, le-leb}
+use Rattle.std.proofs.Common.{◌≡◌, ◌≢◌, ℕ, zero, suc, ◌+◌, ◌-◌, ◌<◌, ◌≤◌, Bool, true, false, List}
+use Rattle.std.proofs.Common.{[], ◌∷◌, length, Some, None, Result, Ok, Err, drop, get_or, refl, sym}
+use Rattle.std.proofs.Common.{ap, ◌∙◌, arith, inl, inr, lt-ltb, le-leb, eq-eqb}
 use Rattle.std.specs.Prelude.{◌&&◌, ◌==◌, nat_lt, nat_le, slice_index, MatchResult}
 use Rattle.std.specs.Ordering.{nat_cmp, ordering_index}
 use Rattle.std.proofs.lemmas.Cmp.{ranked}
-use Rattle.std.proofs.Common.{eq-eqb}
-use Rattle.std.proofs.lemmas.Bool.Decides.{eqb_tells}
+use Rattle.std.proofs.lemmas.Bool.Decides.{eqb_tells, nat_tests}
 use Rattle.std.specs.List.{slice_index_or}
-use Rattle.std.specs.List.Sorted.{IsBinarySearchResult, IsNonDecreasingBy, IsPartitionedBy, IsPartitionPoint, IsSearchInRange}
+use Rattle.std.specs.List.Sorted.{IsBinarySearchResult, IsNonDecreasingBy, IsPartitionedBy}
+use Rattle.std.specs.List.Sorted.{IsPartitionPoint, IsSearchInRange}
 use Rattle.std.proofs.lemmas.Bool.{and_parts, cases_lt}
-use Rattle.std.proofs.lemmas.Bool.Decides.{nat_tests}
 use Rattle.std.proofs.lemmas.List.{drop_more, length-map}
 use Rattle.std.proofs.lemmas.List.Sorted.{IsNonDecreasingBy-from_default, IsPartitionedBy-leb}
 use Rattle.codespan_base.specs.declared.files.Location.{Location}
 use Rattle.codespan_base.specs.FileModel.{line_of}
 use Rattle.codespan_base.specs.Lemmas.Lines.{count_split}
+use Rattle.codespan_base.specs.Lines.{is_char_boundary}
 use Rattle.codespan_native.specs.declared.raw.RawLine.{RawLine}
 use Rattle.codespan_native.specs.declared.raw.RawLocation.{RawLocation}
-use Rattle.codespan_base.specs.Lines.{is_char_boundary}
-use Rattle.codespan_native.specs.StatedLines.{are_next_lines, bytes_ascend_from, location_at, locations_ascend, starts_of}
+use Rattle.codespan_native.specs.StatedLines.{are_next_lines, bytes_ascend_from, location_at}
+use Rattle.codespan_native.specs.StatedLines.{locations_ascend, starts_of}
 
 -- ---- lines
 

@@ -1,18 +1,21 @@
 -- For `bars_are_labels`: the bars of source rows and break rows.
-use Rattle.std.proofs.Common.{◌≡◌, ℕ, zero, suc, ◌+◌, ◌-◌, ◌<◌, ◌↔◌, Bool, true, false, ◌==◌, nat_lt, nat_le, ◌&&◌, if◌then◌else◌, List, [], ◌∷◌, filter_map, Option, Some, None, slice_get, add-zero, zero-add, refl, sym, ap, ◌∙◌, arith}
-use Rattle.std.specs.List.{enumerate_from, cons_option}
-use Rattle.std.proofs.lemmas.Bool.Decides.{nat_tests}
+use Rattle.codespan_core.proofs.Std.{◌≡◌, ℕ, zero, suc, ◌+◌, ◌-◌, ◌<◌, Bool, true, false, ◌==◌}
+use Rattle.codespan_core.proofs.Std.{nat_lt, nat_le, ◌&&◌, if◌then◌else◌, List, [], ◌∷◌, filter_map}
+use Rattle.codespan_core.proofs.Std.{Option, Some, None, slice_get, add-zero, zero-add, refl, sym}
+use Rattle.codespan_core.proofs.Std.{ap, ◌∙◌, arith, enumerate_from, cons_option, nat_tests}
+use Rattle.std.proofs.Common.{◌↔◌}
 use Rattle.codespan_core.specs.FileModel.{FileModel, line_start, line_text}
-use Rattle.codespan_core.specs.declared.term.config.Layout.{Layout}
-use Rattle.codespan_core.specs.Labels.{LabelModel, first_line, last_line, multi_label_on, lane_mark_of, lane_marks_on, multi_line_labels, LaneMark, MultiLabel, Top, Left, Bottom}
+use Rattle.codespan_core.specs.Labels.{LabelModel, first_line, last_line, multi_label_on}
+use Rattle.codespan_core.specs.Labels.{lane_mark_of, lane_marks_on, multi_line_labels, LaneMark}
+use Rattle.codespan_core.specs.Labels.{MultiLabel, Top, Left, Bottom}
+use Rattle.codespan_core.specs.Streams.{Stream}
+use Rattle.codespan_picture.specs.Types.{Layout}
 use Rattle.codespan_picture.specs.declared.lane_shapes.Shape.{Shape}
 use Rattle.codespan_picture.specs.declared.lane_shapes.Shape.TheVariants.{Space, Bar, TopCorner}
-use Rattle.codespan_picture.specs.Lanes.{source_shape, empty_or_break_shape, lane_mark_in, shape_of}
-use Rattle.codespan_picture.specs.LaneLaws.{shape_in, HasLane, IsBarLine}
-use Rattle.codespan_picture.specs.Rows.{SourceRow, BreakRow}
-use Rattle.codespan_picture.specs.CharMetrics.{leading_whitespace, text_without_line_end}
-use Rattle.codespan_core.specs.Streams.{Stream}
-use Rattle.codespan_picture.specs.Snippets.{LabeledFileModel, line_at}
+use Rattle.codespan_picture.specs.{source_shape, empty_or_break_shape, lane_mark_in, shape_of}
+use Rattle.codespan_picture.specs.{shape_in, HasLane, IsBarLine, SourceRow, BreakRow}
+use Rattle.codespan_picture.specs.{leading_whitespace, text_without_line_end, LabeledFileModel}
+use Rattle.codespan_picture.specs.{line_at}
 
 -- ---- the multi-line label mark of a lane
 
@@ -131,7 +134,8 @@ bars_are_labels layout s l lane x has several = (
   rw lane_mark_is
       (bar_of (source_shape (leading_whitespace (text_without_line_end (line_text s.file l))))
       (no_bar_in_top _) refl (λ _ _. refl) s.file l lane x several),
-  rw lane_mark_is (bar_of empty_or_break_shape (λ start bar. cc) refl (λ _ _. refl) s.file l lane x several),
+  rw lane_mark_is (bar_of empty_or_break_shape (λ start bar. cc) refl (λ _ _. refl) s.file l lane x
+      several),
 )
   where
     lane_mark_is : lane_mark_in (lane_marks_on s.file s.labels l) lane ≡ lane_mark_of lane x

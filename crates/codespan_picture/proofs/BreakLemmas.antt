@@ -1,14 +1,16 @@
 -- For `breaks_replace_lines`: there are break rows where shown lines are three or more apart.
-use Rattle.std.proofs.Common.{◌≡◌, ℕ, ◌+◌, Bool, true, false, cond, ◌==◌, nat_le, List, [], ◌∷◌, ◌++◌, map, filter, filter_map, reverse, Some, None, refl, ap, ap₂, ◌∙◌, arith}
-use Rattle.std.proofs.lemmas.List.Elements.{filter_map-append}
-use Rattle.std.proofs.lemmas.Bool.Decides.{nat_tests}
-use Rattle.codespan_core.specs.declared.term.config.Config.{Config}
+use Rattle.codespan_core.proofs.Std.{◌≡◌, ℕ, ◌+◌, Bool, true, false, cond, ◌==◌, nat_le, List, []}
+use Rattle.codespan_core.proofs.Std.{◌∷◌, ◌++◌, map, filter, filter_map, reverse, Some, None, refl}
+use Rattle.codespan_core.proofs.Std.{ap, ap₂, ◌∙◌, arith, filter_map-append, nat_tests}
 use Rattle.codespan_core.specs.Labels.{LabelModel, LaneMark}
-use Rattle.codespan_picture.specs.CharMetrics.{leading_whitespace}
-use Rattle.codespan_picture.specs.Rows.{Row, Lanes, Line, SourceRow, HangingRow, UnderlineRow, BreakRow, caret_rows, pointer_and_hanging_rows, underline_rows, rows_of, hanging_labels, has_underline}
-use Rattle.codespan_picture.specs.Sequences.{gap_between}
-use Rattle.codespan_picture.specs.Snippets.{LabeledFileModel, line_at, line_rows, break_rows, rows_of_shown}
-use Rattle.codespan_picture.specs.LineLaws.{break_lanes, lines_after_breaks, shown_lines, BreaksReplaceLines, RowsAreOfShownLines}
+use Rattle.codespan_picture.specs.Types.{Config}
+use Rattle.codespan_picture.specs.{leading_whitespace, Row, Line, SourceRow, HangingRow}
+use Rattle.codespan_picture.specs.{UnderlineRow, BreakRow, caret_rows, pointer_and_hanging_rows}
+use Rattle.codespan_picture.specs.{underline_rows, rows_of, hanging_labels, has_underline}
+use Rattle.codespan_picture.specs.{gap_between, LabeledFileModel, line_at, line_rows, break_rows}
+use Rattle.codespan_picture.specs.{rows_of_shown, break_lanes, lines_after_breaks, shown_lines}
+use Rattle.codespan_picture.specs.{BreaksReplaceLines, RowsAreOfShownLines}
+use Rattle.codespan_picture.specs.Rows.{Lanes}
 
 -- ---- rows that are not breaks
 

@@ -1,11 +1,10 @@
 -- For `carets_are_cells` and the carets of `rows`: how far the labels of a line reach.
-use Rattle.std.proofs.Common.{◌≡◌, ℕ, ◌<◌, ◌≤◌, max, min, Bool, true, false, ◌&&◌, List, [], ◌∷◌, fold, Some, refl, arith, ltb-true, ⊎_elim, ◌+◌}
-use Rattle.std.specs.List.{list_any}
-use Rattle.std.proofs.lemmas.Bool.{and_parts, or_cases}
-use Rattle.codespan_core.specs.declared.diagnostic.LabelStyle.{LabelStyle}
+use Rattle.codespan_core.proofs.Std.{◌≡◌, ℕ, ◌<◌, ◌≤◌, max, min, Bool, true, false, ◌&&◌, List, []}
+use Rattle.codespan_core.proofs.Std.{◌∷◌, fold, Some, refl, arith, ltb-true, ⊎_elim, ◌+◌, list_any}
+use Rattle.codespan_core.proofs.Std.{and_parts, or_cases}
 use Rattle.codespan_core.specs.Labels.{LabelModel, is_primary}
-use Rattle.codespan_picture.specs.declared.char_metrics.Metrics.{Metrics}
-use Rattle.codespan_picture.specs.Carets.{covers, style_under, max_label_end}
+use Rattle.codespan_picture.specs.Types.{LabelStyle, Metrics}
+use Rattle.codespan_picture.specs.{covers, style_under, max_label_end}
 
 -- a label over a character ends past the index at which that begins
 covers-below : (x : LabelModel) (c : Metrics) → covers x c ≡ true → c.byte_index < x.end

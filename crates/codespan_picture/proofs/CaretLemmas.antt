@@ -1,23 +1,21 @@
 -- For `carets_are_cells`: the text of a caret row is its caret cells.
-use Rattle.std.proofs.Common.{◌≡◌, ℕ, zero, suc, suc-add, zero-add, ap₂, chars, ◌+◌, ◌<◌, ◌≤◌, Bool, true, false, cond, nat_lt, List, [], ◌∷◌, ◌++◌, map, filter, flat_map, replicate, Option, Some, None, encode_utf8_all, refl, sym, ap, ◌∙◌, arith, add-zero, lt-ltb}
-use Rattle.std.specs.List.{range_with_len}
-use Rattle.std.specs.Char.{len_utf8}
-use Rattle.std.proofs.lemmas.Bool.Decides.{nat_tests}
-use Rattle.std.proofs.lemmas.List.{map-append}
-use Rattle.std.proofs.lemmas.List.Sums.{sum_by-cons}
-use Rattle.codespan_core.specs.declared.diagnostic.Severity.{Severity}
-use Rattle.codespan_core.specs.declared.diagnostic.LabelStyle.{LabelStyle}
-use Rattle.codespan_core.specs.declared.diagnostic.LabelStyle.TheVariants.{Primary, Secondary}
-use Rattle.codespan_core.specs.declared.term.config.chars.Chars.{Chars}
+use Rattle.codespan_core.proofs.Std.{◌≡◌, ℕ, zero, suc, zero-add, ap₂, chars, ◌+◌, ◌<◌, ◌≤◌, Bool}
+use Rattle.codespan_core.proofs.Std.{true, false, cond, nat_lt, List, [], ◌∷◌, ◌++◌, map, filter}
+use Rattle.codespan_core.proofs.Std.{flat_map, replicate, Option, Some, None, encode_utf8_all, refl}
+use Rattle.codespan_core.proofs.Std.{sym, ap, ◌∙◌, arith, add-zero, lt-ltb, range_with_len}
+use Rattle.codespan_core.proofs.Std.{len_utf8, nat_tests, map-append, sum_by-cons}
+use Rattle.std.proofs.Common.{suc-add}
 use Rattle.codespan_core.specs.Labels.{LabelModel}
 use Rattle.codespan_core.specs.Streams.{Stream, spaces, text_of}
-use Rattle.codespan_picture.specs.declared.char_metrics.Metrics.{Metrics}
-use Rattle.codespan_picture.specs.CharMetrics.{metrics_then, placeholder, width_of, width_at}
+use Rattle.codespan_picture.specs.Types.{Severity, LabelStyle, Primary, Secondary, Chars, Metrics}
+use Rattle.codespan_picture.specs.{metrics_then, placeholder, width_of, width_at, style_under}
+use Rattle.codespan_picture.specs.{caret_for, max_label_end, occupies, style_at, caret_cells}
+use Rattle.codespan_picture.specs.{RowContext, Line, line_metrics_to_end, style_change, styled}
+use Rattle.codespan_picture.specs.{caret_glyphs, carets}
 use Rattle.codespan_picture.proofs.CaretEnds.{style_under-below}
-use Rattle.codespan_picture.specs.Carets.{style_under, caret_for, max_label_end, occupies, style_at, caret_cells}
-use Rattle.codespan_picture.proofs.Texts.{text_of-append, encode_utf8_all-append, encode_utf8_all-spaces, text_of-spaces, text_of-style_mark, text_of-repeated}
-use Rattle.codespan_picture.specs.Rows.{RowContext, Line}
-use Rattle.codespan_picture.specs.RowParts.{line_metrics_to_end, style_change, styled, caret_glyphs, carets}
+use Rattle.codespan_picture.proofs.Texts.{text_of-append, encode_utf8_all-append}
+use Rattle.codespan_picture.proofs.Texts.{encode_utf8_all-spaces, text_of-spaces}
+use Rattle.codespan_picture.proofs.Texts.{text_of-style_mark, text_of-repeated}
 
 pub text_of-style_change : (severity : Severity) (previous now : Option LabelStyle)
     → text_of (style_change severity previous now) ≡ []
@@ -168,7 +166,8 @@ caret_codes chars labels byte_index column (c ∷ cs) adjacent =
         ∙ ap₂ (λ xs ys. xs ++ ys)
         (map-range_with_len at_cell (λ _. caret_for chars (style_under labels c)) column
         c.unicode_width
-        (λ k low high. let same = adjacent.1 in simp (occupies-inside k c (omega arith) (omega arith)))
+        (λ k low high. let same = adjacent.1 in simp
+        (occupies-inside k c (omega arith) (omega arith)))
         ∙ map-constant (caret_for chars (style_under labels c)) column c.unicode_width)
         (map-range_with_len at_cell (λ k. caret_for chars (style_at labels cs k))
         (column + c.unicode_width) (width_of later)

@@ -1,19 +1,17 @@
 -- For `write_carets`: the carets under a line, run by run.
-use Rattle.std.proofs.Common.{◌≡◌, ℕ, ◌+◌, ◌<◌, ◌≤◌, Bool, true, false, List, [], ◌∷◌, ◌++◌, Option, None, Some, refl, sym, ap, ◌∙◌, append_assoc, append-nil, add-zero, arith, le-ltb, lt-ltb}
-use Rattle.std.specs.Prelude.{nat_lt, if◌then◌else◌}
-use Rattle.codespan_core.specs.declared.diagnostic.Severity.{Severity}
-use Rattle.codespan_core.specs.declared.diagnostic.LabelStyle.{LabelStyle}
-use Rattle.codespan_core.specs.declared.term.config.chars.Chars.{Chars}
+use Rattle.codespan_core.proofs.Std.{◌≡◌, ℕ, ◌+◌, ◌<◌, ◌≤◌, Bool, true, false, List, [], ◌∷◌, ◌++◌}
+use Rattle.codespan_core.proofs.Std.{Option, None, Some, refl, sym, ap, ◌∙◌, append_assoc}
+use Rattle.codespan_core.proofs.Std.{append-nil, add-zero, arith, le-ltb, lt-ltb, nat_lt}
+use Rattle.codespan_core.proofs.Std.{if◌then◌else◌}
 use Rattle.codespan_core.specs.Labels.{LabelModel}
 use Rattle.codespan_core.specs.Streams.{Stream, spaces, byte_stream, repeated}
-use Rattle.codespan_picture.specs.declared.char_metrics.Metrics.{Metrics}
-use Rattle.codespan_picture.specs.Carets.{style_under, caret_for, max_label_end}
-use Rattle.codespan_picture.specs.Rows.{RowContext}
-use Rattle.codespan_picture.specs.RowParts.{style_change, styled, caret_glyphs, carets}
-use Rattle.codespan_picture.specs.Private.Runs.{caret_run}
+use Rattle.codespan_picture.specs.Types.{Severity, LabelStyle, Chars, Metrics}
+use Rattle.codespan_picture.specs.{style_under, caret_for, max_label_end, RowContext, style_change}
+use Rattle.codespan_picture.specs.{styled, caret_glyphs, carets}
+use Rattle.codespan_picture.specs.Private.{caret_run, AreContiguous}
 use Rattle.codespan_picture.proofs.CaretEnds.{style_under-below}
-use Rattle.codespan_picture.proofs.RowEquations.{spaces-add, repeated-add, style_change-same, regroup}
-use Rattle.codespan_picture.specs.Private.CharCursors.{AreContiguous}
+use Rattle.codespan_picture.proofs.RowEquations.{spaces-add, repeated-add, style_change-same}
+use Rattle.codespan_picture.proofs.RowEquations.{regroup}
 
 -- the carets of the remaining characters
 abbrev glyphs_left : RowContext → List LabelModel → Option LabelStyle → List Metrics → Stream
@@ -89,7 +87,8 @@ goes_on context labels run c cs =
 
 unchanged : (chars : Chars) (severity : Severity) (previous style : Option LabelStyle) (run : ℕ)
     → previous ≡ style
-    → caret_run chars previous run ++ style_change severity previous style ≡ caret_run chars style run
+    → caret_run chars previous run ++ style_change severity previous style
+    ≡ caret_run chars style run
 unchanged chars severity previous style run e =
     rw (e, style_change-same severity style) (append-nil (caret_run chars style run))
 
@@ -119,7 +118,8 @@ begins : (context : RowContext) (labels : List LabelModel) (c : Metrics) (cs : L
     ≡ carets_left context labels (style_under labels c)
     (0 + caret_count (max_label_end labels) (style_under labels c) c) cs
 begins context labels c cs =
-    ap (λ (l : Stream). l ++ (caret_glyphs context.chars (max_label_end labels) (style_under labels c) c ++ glyphs_left context labels (style_under labels c) cs))
+    ap (λ (l : Stream). l ++ (caret_glyphs context.chars (max_label_end labels)
+    (style_under labels c) c ++ glyphs_left context labels (style_under labels c) cs))
     (sym (none-run context.chars (style_under labels c)))
     ∙ goes_on context labels 0 c cs
 
@@ -128,7 +128,8 @@ pub carets-turn : (context : RowContext) (labels : List LabelModel)
     (previous style : Option LabelStyle) (run count : ℕ) (c : Metrics) (left cs : List Metrics)
     → left ≡ c ∷ cs → style ≡ style_under labels c
     → count ≡ caret_count (max_label_end labels) style c
-    → carets_left context labels previous run left ≡ caret_run context.chars previous run ++ style_change
+    → carets_left context labels previous run left ≡ caret_run context.chars previous run
+    ++ style_change
     context.severity previous style ++ carets_left context labels style (0 + count) cs
 carets-turn context labels previous style run count c left cs l s n =
     rw (l, n, s)
@@ -145,7 +146,8 @@ carets-turn context labels previous style run count c left cs l s n =
 pub carets-end : (context : RowContext) (labels : List LabelModel) (previous : Option LabelStyle)
     (run : ℕ) (left : List Metrics)
     → left ≡ []
-    → caret_run context.chars previous run ++ style_change context.severity previous None ≡ carets_left
+    → caret_run context.chars previous run ++ style_change context.severity previous None
+    ≡ carets_left
     context labels previous run left
 carets-end context labels previous run left e = rw e refl
 
@@ -178,7 +180,12 @@ glyphs_left-past : (context : RowContext) (labels : List LabelModel) (previous :
 glyphs_left-past context labels previous byte_index [] follow past = refl
 glyphs_left-past context labels previous byte_index (c ∷ cs) follow past =
     let there : max_label_end labels ≤ c.byte_index = omega (arith, follow.0) in
-    rw (none-past labels c there, glyphs-past context.chars (max_label_end labels) c there, glyphs_left-past context labels None (byte_index + c.bytes) cs follow.2 (omega arith), style_change-same context.severity None)
+    rw (
+      none-past labels c there,
+      glyphs-past context.chars (max_label_end labels) c there,
+      glyphs_left-past context labels None (byte_index + c.bytes) cs follow.2 (omega arith),
+      style_change-same context.severity None,
+    )
     (append-nil (style_change context.severity previous None ++ [])
     ∙ append-nil (style_change context.severity previous None))
 
@@ -186,7 +193,8 @@ glyphs_left-past context labels previous byte_index (c ∷ cs) follow past =
 pub carets-past : (context : RowContext) (labels : List LabelModel) (previous : Option LabelStyle)
     (run byte_index : ℕ) (left : List Metrics)
     → AreContiguous byte_index left → max_label_end labels ≤ byte_index
-    → caret_run context.chars previous run ++ style_change context.severity previous None ≡ carets_left
+    → caret_run context.chars previous run ++ style_change context.severity previous None
+    ≡ carets_left
     context labels previous run left
 carets-past context labels previous run byte_index left follow past =
     ap (λ (l : Stream). caret_run context.chars previous run ++ l)

@@ -1,11 +1,13 @@
 -- For `leading_whitespace` and `write_colored_text`: a step over one character of a text.
-use Rattle.std.proofs.Common.{◌≡◌, ℕ, ◌+◌, ◌-◌, ◌≤◌, true, false, cond, List, [], ◌∷◌, ◌++◌, length, drop, length-append, length-drop, ap, ◌∙◌, arith}
-use Rattle.std.specs.Prelude.{sum_by, take_while}
-use Rattle.std.specs.Char.{encode_utf8, len_utf8, is_whitespace}
-use Rattle.std.specs.Str.{IsUtf8, chars}
-use Rattle.std.proofs.lemmas.List.Sums.{sum_by-cons, take_while-cons}
-use Rattle.std.proofs.lemmas.Str.{chars_past_char, chars-nil, length-encode}
-use Rattle.codespan_picture.specs.CharMetrics.{leading_whitespace}
+use Rattle.codespan_core.proofs.Std.{◌≡◌, ℕ, ◌+◌, ◌-◌, ◌≤◌, true, false, cond, List, [], ◌∷◌, ◌++◌}
+use Rattle.codespan_core.proofs.Std.{length, drop, length-append, length-drop, ap, ◌∙◌, arith}
+use Rattle.codespan_core.proofs.Std.{sum_by, encode_utf8, len_utf8, IsUtf8, chars, sum_by-cons}
+use Rattle.codespan_core.proofs.Std.{length-encode}
+use Rattle.std.specs.Prelude.{take_while}
+use Rattle.std.specs.Char.{is_whitespace}
+use Rattle.std.proofs.lemmas.List.Sums.{take_while-cons}
+use Rattle.std.proofs.lemmas.Str.{chars_past_char, chars-nil}
+use Rattle.codespan_picture.specs.{leading_whitespace}
 
 -- a remaining character fits in the text
 pub bytes_left : (text rest : List ℕ) (byte_index c : ℕ)

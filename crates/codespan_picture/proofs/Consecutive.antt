@@ -1,10 +1,9 @@
 -- For `pointers_are_cells` and the cached pointers of `codespan_renderer`: the characters of a
 -- line, one after another.
-use Rattle.std.proofs.Common.{◌≡◌, ℕ, ◌+◌, ◌<◌, ◌≤◌, Bool, false, List, [], ◌∷◌, filter, refl, arith}
-use Rattle.std.specs.Char.{len_utf8}
-use Rattle.std.proofs.lemmas.Str.{len_utf8_bounds}
-use Rattle.codespan_picture.specs.declared.char_metrics.Metrics.{Metrics}
-use Rattle.codespan_picture.specs.CharMetrics.{metrics_then, width_at}
+use Rattle.codespan_core.proofs.Std.{◌≡◌, ℕ, ◌+◌, ◌<◌, ◌≤◌, Bool, false, List, [], ◌∷◌, filter}
+use Rattle.codespan_core.proofs.Std.{refl, arith, len_utf8, len_utf8_bounds}
+use Rattle.codespan_picture.specs.Types.{Metrics}
+use Rattle.codespan_picture.specs.{metrics_then, width_at}
 
 -- they begin at this byte index and this column, each has a byte, and each follows the one before
 abbrev pub AreConsecutive : ℕ → ℕ → List Metrics → Type 0

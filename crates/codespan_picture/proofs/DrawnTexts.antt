@@ -1,21 +1,23 @@
 -- For `outputs_are_utf8`: the rendered texts of lines, and the lines of notes, are texts.
-use Rattle.std.proofs.Common.{◌≡◌, ℕ, zero, suc, ◌+◌, ◌-◌, ◌<◌, ◌≤◌, Bool, true, false, ◌&&◌, ◌==◌, cond, List, [], ◌∷◌, ◌++◌, length, take, drop, get_or, encode_utf8_all, refl, sym, ap, ◌∙◌, subst, arith, append_assoc, append-nil, ⊎_elim}
-use Rattle.std.specs.Char.{encode_utf8}
-use Rattle.std.specs.List.{AllByRecursion, onto_first, slice_split, suffix_len}
-use Rattle.std.specs.Str.{IsUtf8, IsCharBoundary, all_scalars}
+use Rattle.codespan_core.proofs.Std.{◌≡◌, ℕ, zero, suc, ◌+◌, ◌-◌, ◌<◌, ◌≤◌, Bool, true, false, ◌&&◌}
+use Rattle.codespan_core.proofs.Std.{◌==◌, cond, List, [], ◌∷◌, ◌++◌, length, take, drop, get_or}
+use Rattle.codespan_core.proofs.Std.{encode_utf8_all, refl, sym, ap, ◌∙◌, subst, arith}
+use Rattle.codespan_core.proofs.Std.{append_assoc, append-nil, ⊎_elim, encode_utf8, AllByRecursion}
+use Rattle.codespan_core.proofs.Std.{slice_split, IsUtf8, IsCharBoundary, cases_Bool, cases_lt}
+use Rattle.codespan_core.proofs.Std.{cond_both, nat_tests, take_all, recursion_from_All, IsUtf8-nil}
+use Rattle.std.specs.List.{onto_first, suffix_len}
+use Rattle.std.specs.Str.{all_scalars}
 use Rattle.std.specs.Str.Lines.{lines, lines_of_parts, strip_carriage_return}
 use Rattle.std.proofs.Math.Utf8.{scalar}
-use Rattle.std.proofs.lemmas.Bool.{cases_Bool, cases_lt, cond_both}
-use Rattle.std.proofs.lemmas.Bool.Decides.{nat_tests}
-use Rattle.std.proofs.lemmas.List.{get_or_past, take_all}
-use Rattle.std.proofs.lemmas.List.Elements.{recursion_from_All}
+use Rattle.std.proofs.lemmas.List.{get_or_past}
 use Rattle.std.proofs.lemmas.List.Sums.{suffix_len-take_no, suffix_len-take_yes}
-use Rattle.std.proofs.lemmas.Str.{IsCharBoundary-before_ascii, IsCharBoundary-end, IsUtf8-append, IsUtf8-between, IsUtf8-encode, IsUtf8-nil, IsUtf8-take, encode_ascii, inside_one}
+use Rattle.std.proofs.lemmas.Str.{IsCharBoundary-before_ascii, IsCharBoundary-end, IsUtf8-append}
+use Rattle.std.proofs.lemmas.Str.{IsUtf8-between, IsUtf8-encode, IsUtf8-take, encode_ascii}
+use Rattle.std.proofs.lemmas.Str.{inside_one}
 use Rattle.codespan_core.specs.FileModel.{FileModel, line_text}
 use Rattle.codespan_core.specs.LawfulFiles.{IsLawful}
-use Rattle.codespan_picture.specs.CharMetrics.{text_without_line_end, is_line_end}
-use Rattle.codespan_picture.specs.Rows.{LaterNoteRow}
-use Rattle.codespan_picture.specs.Snippets.{note_rows, note_line_rows}
+use Rattle.codespan_picture.specs.{text_without_line_end, is_line_end, LaterNoteRow, note_rows}
+use Rattle.codespan_picture.specs.{note_line_rows}
 use Rattle.codespan_picture.proofs.LaneLineLemmas.{each_map}
 use Rattle.codespan_picture.proofs.LaneTexts.{RowIsUtf8}
 use Rattle.codespan_picture.proofs.ListElements.{all-append}

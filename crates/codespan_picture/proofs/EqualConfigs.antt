@@ -1,22 +1,19 @@
 -- For the clauses `value` of `codespan_native`, and for the outputs of `report`: equal
 -- configurations render the same.
-use Rattle.std.proofs.Common.{◌≡◌, ℕ, List, [], ◌∷◌, ◌++◌, refl, ap, ◌∙◌}
-use Rattle.codespan_core.specs.declared.term.config.Config.{Config}
+use Rattle.codespan_core.proofs.Std.{◌≡◌, ℕ, List, [], ◌∷◌, ◌++◌, refl, ap, ◌∙◌}
 use Rattle.codespan_core.specs.declared.term.config.chars.SnippetStart.{SnippetStart}
-use Rattle.codespan_core.specs.declared.diagnostic.Severity.{Severity}
 use Rattle.codespan_core.specs.SnippetStarts.{start_text}
-use Rattle.codespan_core.specs.declared.term.config.DisplayStyle.{DisplayStyle}
-use Rattle.codespan_core.specs.declared.term.config.DisplayStyle.TheVariants.{Rich, Medium, Short}
 use Rattle.codespan_core.specs.ConfigEquality.{IsEqualConfig}
 use Rattle.codespan_core.specs.Streams.{byte_stream, style_mark, space}
-use Rattle.codespan_core.specs.declared.term.config.style_mark.StyleMark.TheVariants.{SourceBorder, Reset}
-use Rattle.codespan_picture.specs.Rows.{HeaderText, Locus, RowContext, Row, HeaderRow, SnippetStartRow, EmptyRow, BreakRow, SourceRow, CaretRow, PointerRow, HangingRow, UnderlineRow, FirstNoteRow, LaterNoteRow, FinalRow}
-use Rattle.codespan_picture.specs.RowParts.{outer_gutter, snippet_locus}
-use Rattle.codespan_picture.specs.RowStreams.{stream_of, stream_of_rows}
-use Rattle.codespan_picture.specs.RowDefinitions.{row_definitions}
-use Rattle.codespan_picture.specs.Padding.{padding_of}
-use Rattle.codespan_picture.specs.OutputStreams.{context_of, rendered}
-use Rattle.codespan_picture.specs.Snippets.{LabeledFileModel, header_rows, note_rows, rich_rows}
+use Rattle.codespan_core.specs.declared.term.config.style_mark.StyleMark.TheVariants.{SourceBorder}
+use Rattle.codespan_core.specs.declared.term.config.style_mark.StyleMark.TheVariants.{Reset}
+use Rattle.codespan_picture.specs.Types.{Config, Severity, DisplayStyle, Rich, Medium, Short}
+use Rattle.codespan_picture.specs.{HeaderText, Locus, RowContext, Row, HeaderRow, SnippetStartRow}
+use Rattle.codespan_picture.specs.{EmptyRow, BreakRow, SourceRow, CaretRow, PointerRow, HangingRow}
+use Rattle.codespan_picture.specs.{UnderlineRow, FirstNoteRow, LaterNoteRow, FinalRow, outer_gutter}
+use Rattle.codespan_picture.specs.{snippet_locus, stream_of, stream_of_rows, row_definitions}
+use Rattle.codespan_picture.specs.{padding_of, context_of, rendered, LabeledFileModel, header_rows}
+use Rattle.codespan_picture.specs.{note_rows, rich_rows}
 
 -- the configuration with this text before a locus
 abbrev with_start : Config → SnippetStart → Config
@@ -39,7 +36,8 @@ module _ (config : Config) (severity : Severity) (padding : ℕ) (start other : 
   unfolding row_definitions
   row_equal (HeaderRow at header_text) = refl
   row_equal (SnippetStartRow at) =
-      ap (λ text. outer_gutter padding ++ style_mark SourceBorder ++ byte_stream text ++ style_mark Reset ++ space ++ snippet_locus at) same
+      ap (λ text. outer_gutter padding ++ style_mark SourceBorder ++ byte_stream text
+      ++ style_mark Reset ++ space ++ snippet_locus at) same
   row_equal (EmptyRow lanes) = refl
   row_equal (BreakRow lanes) = refl
   row_equal (SourceRow line) = refl

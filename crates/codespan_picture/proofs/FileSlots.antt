@@ -1,19 +1,22 @@
 -- For `messages_appear_once`: sums over the rows of files, for the slots of each label's message.
-use Rattle.std.proofs.Common.{◌≡◌, ℕ, zero, suc, ◌+◌, ◌<◌, ◌≤◌, Bool, true, false, cond, ◌||◌, ◌==◌, nat_lt, nat_le, List, [], ◌∷◌, ◌++◌, map, filter, Option, Some, None, length, refl, ap, ◌∙◌, arith}
-use Rattle.std.specs.Prelude.{sum_by}
-use Rattle.std.specs.List.{list_any, range_with_len}
+use Rattle.codespan_core.proofs.Std.{◌≡◌, ℕ, zero, suc, ◌+◌, ◌<◌, ◌≤◌, Bool, true, false, cond}
+use Rattle.codespan_core.proofs.Std.{◌||◌, ◌==◌, nat_lt, nat_le, List, [], ◌∷◌, ◌++◌, map, filter}
+use Rattle.codespan_core.proofs.Std.{Option, Some, None, length, refl, ap, ◌∙◌, arith, sum_by}
+use Rattle.codespan_core.proofs.Std.{list_any, range_with_len, nat_tests, sum_by-cons}
+use Rattle.codespan_core.proofs.Std.{sum_by-append, count_by-le-length}
 use Rattle.std.specs.Str.Lines.{lines}
-use Rattle.std.proofs.lemmas.Bool.Decides.{nat_tests}
-use Rattle.std.proofs.lemmas.List.Sums.{sum_by-cons, sum_by-append, count_by-le-length}
-use Rattle.codespan_core.specs.declared.term.config.Config.{Config}
 use Rattle.codespan_core.specs.FileModel.{FileModel, line_count, line_of}
 use Rattle.codespan_core.specs.Labels.{LabelModel, first_line, last_line}
-use Rattle.codespan_picture.specs.Lines.{shows, is_drawn, drawn_lines, has_break_between}
-use Rattle.codespan_picture.specs.Rows.{HeaderText, Locus, HeaderRow, SnippetStartRow, EmptyRow, BreakRow, FirstNoteRow, LaterNoteRow, FinalRow, rows_of}
-use Rattle.codespan_picture.specs.Snippets.{LabeledFileModel, empty_lanes, line_at, rows_of_drawn, snippet, has_any, empty_row_after, snippets, note_line_rows, note_rows, rich_rows}
+use Rattle.codespan_picture.specs.Types.{Config}
+use Rattle.codespan_picture.specs.{shows, is_drawn, drawn_lines, has_break_between, HeaderText}
+use Rattle.codespan_picture.specs.{Locus, HeaderRow, SnippetStartRow, EmptyRow, BreakRow}
+use Rattle.codespan_picture.specs.{FirstNoteRow, LaterNoteRow, FinalRow, rows_of, LabeledFileModel}
+use Rattle.codespan_picture.specs.{empty_lanes, line_at, rows_of_drawn, snippet, has_any}
+use Rattle.codespan_picture.specs.{empty_row_after, snippets, note_line_rows, note_rows, rich_rows}
 use Rattle.codespan_picture.proofs.FillLemmas.{breaks_before}
 use Rattle.codespan_picture.proofs.SlotLemmas.{row_slots}
-use Rattle.codespan_picture.proofs.LineSlots.{sum-zero, sum-map, sum-filter_free, sum-flat_map_zero, sum-swap, label_slots, on_line, labels_on_line}
+use Rattle.codespan_picture.proofs.LineSlots.{sum-zero, sum-map, sum-filter_free, sum-flat_map_zero}
+use Rattle.codespan_picture.proofs.LineSlots.{sum-swap, label_slots, on_line, labels_on_line}
 
 -- ---- the lines of a file
 

@@ -1,14 +1,11 @@
 -- For `rows_are_of_shown_lines` and `breaks_replace_lines`: drawn lines with their breaks, from the
 -- shown lines alone. Between two consecutive ones there is nothing, one filled line, or a break.
-use Rattle.std.proofs.Common.{◌≡◌, ℕ, ◌≤◌, Bool, true, false, cond, nat_lt, List, Option, refl, arith}
-use Rattle.std.proofs.lemmas.Bool.Decides.{nat_tests}
-use Rattle.codespan_core.specs.declared.term.config.Config.{Config}
+use Rattle.codespan_core.proofs.Std.{◌≡◌, ℕ, ◌≤◌, Bool, true, false, cond, nat_lt, List, Option}
+use Rattle.codespan_core.proofs.Std.{refl, arith, nat_tests}
 use Rattle.codespan_core.specs.FileModel.{line_count}
-use Rattle.codespan_picture.specs.Lines.{is_shown}
-use Rattle.codespan_picture.specs.LineLaws.{RowsAreOfShownLines}
-use Rattle.codespan_picture.specs.Rows.{Row}
-use Rattle.codespan_picture.specs.Sequences.{before_line, break_between}
-use Rattle.codespan_picture.specs.Snippets.{LabeledFileModel, line_at, line_rows, break_rows}
+use Rattle.codespan_picture.specs.Types.{Config}
+use Rattle.codespan_picture.specs.{is_shown, RowsAreOfShownLines, Row, before_line, break_between}
+use Rattle.codespan_picture.specs.{LabeledFileModel, line_at, line_rows, break_rows}
 use Rattle.codespan_picture.proofs.Filling.{lines-shown}
 
 -- what is before a drawn line

@@ -1,10 +1,11 @@
 -- For `rows_are_of_shown_lines`: lines of which some are shown. The elements of the drawn lines, in
 -- order, are those of the shown lines and of what is between two of them.
-use Rattle.std.proofs.Common.{◌≡◌, ℕ, zero, suc, ◌+◌, ◌-◌, ◌≤◌, Bool, true, false, cond, ◌==◌, nat_lt, nat_le, ◌&&◌, ◌||◌, if◌then◌else◌, List, [], ◌∷◌, ◌++◌, filter, Option, Some, None, refl, sym, ap, ◌∙◌, arith, append_assoc}
-use Rattle.std.specs.List.{range_with_len}
+use Rattle.codespan_core.proofs.Std.{◌≡◌, ℕ, zero, suc, ◌+◌, ◌-◌, ◌≤◌, Bool, true, false, cond}
+use Rattle.codespan_core.proofs.Std.{◌==◌, nat_lt, nat_le, ◌&&◌, ◌||◌, if◌then◌else◌, List, [], ◌∷◌}
+use Rattle.codespan_core.proofs.Std.{◌++◌, filter, Option, Some, None, refl, sym, ap, ◌∙◌, arith}
+use Rattle.codespan_core.proofs.Std.{append_assoc, range_with_len, nat_tests}
 use Rattle.std.proofs.Math.Bool.{and-false}
-use Rattle.std.proofs.lemmas.Bool.Decides.{nat_tests}
-use Rattle.codespan_picture.specs.Sequences.{before_line, break_between, gap_between, in_sequence}
+use Rattle.codespan_picture.specs.{before_line, break_between, gap_between, in_sequence}
 
 -- ---- one line
 
@@ -96,7 +97,9 @@ module _ {X : Type 0} (drawn filled broken : ℕ → List X) where
     lines-skip : (previous : Option ℕ) (a n : ℕ) → is_drawn_among shown a ≡ false
         → lines_from previous a (suc n) ≡ lines_from previous (a + 1) n
     lines-skip previous a n h =
-        ap (λ b. expanded_lines previous (cond b (a ∷ filter (is_drawn_among shown) (range_with_len (a + 1) n)) (filter (is_drawn_among shown) (range_with_len (a + 1) n)))) h
+        ap (λ b. expanded_lines previous
+        (cond b (a ∷ filter (is_drawn_among shown) (range_with_len (a + 1) n))
+        (filter (is_drawn_among shown) (range_with_len (a + 1) n)))) h
 
     -- a drawn line has its own elements
     lines-keep : (previous : Option ℕ) (a n : ℕ) (b : Bool) → is_drawn_among shown a ≡ true
@@ -104,7 +107,9 @@ module _ {X : Type 0} (drawn filled broken : ℕ → List X) where
         → lines_from previous a (suc n) ≡ before_line (break_between broken) previous a ++ cond b
         (drawn a) (filled a) ++ lines_from (Some a) (a + 1) n
     lines-keep previous a n b h k =
-        ap (λ t. expanded_lines previous (cond t (a ∷ filter (is_drawn_among shown) (range_with_len (a + 1) n)) (filter (is_drawn_among shown) (range_with_len (a + 1) n)))) h
+        ap (λ t. expanded_lines previous
+        (cond t (a ∷ filter (is_drawn_among shown) (range_with_len (a + 1) n))
+        (filter (is_drawn_among shown) (range_with_len (a + 1) n)))) h
         ∙ ap
         (λ t. before_line (break_between broken) previous a ++ cond t (drawn a) (filled a)
         ++ lines_from (Some a) (a + 1) n)

@@ -1,7 +1,6 @@
 -- For `padding_fits`: the greatest of some numbers.
-use Rattle.std.proofs.Common.{◌≡◌, ℕ, ◌≤◌, max, List, [], ◌∷◌, ◌++◌, refl, ap, ◌∙◌, arith}
-use Rattle.std.specs.Prelude.{fold}
-use Rattle.std.specs.List.{AllByRecursion}
+use Rattle.codespan_core.proofs.Std.{◌≡◌, ℕ, ◌≤◌, max, List, [], ◌∷◌, ◌++◌, refl, ap, ◌∙◌, arith}
+use Rattle.codespan_core.proofs.Std.{fold, AllByRecursion}
 
 -- ---- the greatest of several lists
 

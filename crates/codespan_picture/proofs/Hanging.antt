@@ -1,19 +1,19 @@
 -- For `Messages::of` and `write_pointer_and_hanging_rows`: which message trails, and which hang.
-use Rattle.std.proofs.Common.{◌||◌, ◌≡◌, ℕ, ◌+◌, ◌-◌, ◌<◌, Bool, true, false, cond, ◌==◌, List, [], ◌∷◌, ◌++◌, length, get_or, take, drop, map, filter, reverse, Option, Some, None, refl, sym, ap, subst, ◌∙◌, arith, length-drop, append_assoc, append-nil, ◌⊎◌, ⊎_elim}
-use Rattle.std.proofs.Math.Seq.{take-length}
-use Rattle.std.specs.Prelude.{not}
-use Rattle.std.specs.List.{list_any, push, remove}
-use Rattle.std.specs.Option.{option_map, option_map_or}
-use Rattle.std.proofs.lemmas.List.{map-append, reverse-append}
-use Rattle.std.proofs.lemmas.List.Elements.{filter-append}
-use Rattle.std.proofs.lemmas.Grind.{flat_map-append}
+use Rattle.codespan_core.proofs.Std.{◌||◌, ◌≡◌, ℕ, ◌+◌, ◌-◌, ◌<◌, Bool, true, false, cond, ◌==◌}
+use Rattle.codespan_core.proofs.Std.{List, [], ◌∷◌, ◌++◌, length, get_or, take, drop, map, filter}
+use Rattle.codespan_core.proofs.Std.{reverse, Option, Some, None, refl, sym, ap, subst, ◌∙◌, arith}
+use Rattle.codespan_core.proofs.Std.{length-drop, append_assoc, append-nil, ◌⊎◌, ⊎_elim}
+use Rattle.codespan_core.proofs.Std.{take-length, not, list_any, remove, option_map, option_map_or}
+use Rattle.codespan_core.proofs.Std.{map-append, reverse-append, filter-append, flat_map-append}
+use Rattle.std.specs.List.{push}
 use Rattle.codespan_core.specs.Labels.{LabelModel, has_message}
 use Rattle.codespan_core.specs.Streams.{Stream, newline}
-use Rattle.codespan_picture.specs.Carets.{max_label_end}
-use Rattle.codespan_picture.specs.Arguments.{SingleLabelTuple, single_label_view, single_label_views}
-use Rattle.codespan_picture.specs.Rows.{RowContext, Line, HangingRow, last_with_end, does_trail, indexed_trailing_label, trailing_label, hanging_labels, pointer_and_hanging_rows}
-use Rattle.codespan_picture.specs.RowStreams.{pointer_row, hanging_row, stream_of, stream_of_rows}
-use Rattle.codespan_picture.specs.Private.RowLabels.{indexed_label_view, AreHanging, hanging_stream}
+use Rattle.codespan_picture.specs.{max_label_end, SingleLabelTuple, single_label_view}
+use Rattle.codespan_picture.specs.{single_label_views, RowContext, Line, HangingRow, last_with_end}
+use Rattle.codespan_picture.specs.{does_trail, indexed_trailing_label, trailing_label}
+use Rattle.codespan_picture.specs.{hanging_labels, pointer_and_hanging_rows, pointer_row}
+use Rattle.codespan_picture.specs.{hanging_row, stream_of, stream_of_rows}
+use Rattle.codespan_picture.specs.Private.{indexed_label_view, AreHanging, hanging_stream}
 use Rattle.codespan_picture.proofs.TrailingLabel.{is_empty_bytes, entry_is, without_at}
 
 -- ---- where one trails
@@ -28,19 +28,22 @@ trails_by xs e is h = rw (is, h) refl
 entry_trails : (xs : List SingleLabelTuple) (k end : ℕ) (d : SingleLabelTuple) → k < length xs
     → end ≡ max_label_end (single_label_views xs)
     → last_with_end end (single_label_views xs) ≡ indexed_label_view xs (Some k)
-    → option_map_or (does_trail (single_label_views xs)) (indexed_label_view xs (Some k)) false ≡ true
+    → option_map_or (does_trail (single_label_views xs)) (indexed_label_view xs (Some k)) false
+    ≡ true
     → indexed_trailing_label (single_label_views xs) ≡ Some (k, single_label_view (get_or xs k d))
 entry_trails xs k end d h greatest last holds =
     let here = entry_is xs k d h in
     trails_by (single_label_views xs) (k, single_label_view (get_or xs k d))
     (ap (λ e. last_with_end e (single_label_views xs)) (sym greatest) ∙ last ∙ here)
-    (ap (λ (o : Option (ℕ × LabelModel)). option_map_or (does_trail (single_label_views xs)) o false) (sym here) ∙ holds)
+    (ap (λ (o : Option (ℕ × LabelModel)). option_map_or (does_trail (single_label_views xs)) o
+    false) (sym here) ∙ holds)
 
 -- its message trails
 pub trailing_here : (xs : List SingleLabelTuple) (k end : ℕ) (d : SingleLabelTuple) → k < length xs
     → end ≡ max_label_end (single_label_views xs)
     → last_with_end end (single_label_views xs) ≡ indexed_label_view xs (Some k)
-    → option_map_or (does_trail (single_label_views xs)) (indexed_label_view xs (Some k)) false ≡ true
+    → option_map_or (does_trail (single_label_views xs)) (indexed_label_view xs (Some k)) false
+    ≡ true
     → Some (single_label_view (get_or xs k d)) ≡ trailing_label (single_label_views xs)
 trailing_here xs k end d h greatest last holds =
     ap (option_map (λ (e : ℕ × LabelModel). e.1))
@@ -54,7 +57,8 @@ all_after n xs = ap (λ k. take k (drop n xs)) (sym (length-drop n xs)) ∙ take
 hanging_at : (xs : List SingleLabelTuple) (k end : ℕ) (d : SingleLabelTuple) → k < length xs
     → end ≡ max_label_end (single_label_views xs)
     → last_with_end end (single_label_views xs) ≡ indexed_label_view xs (Some k)
-    → option_map_or (does_trail (single_label_views xs)) (indexed_label_view xs (Some k)) false ≡ true
+    → option_map_or (does_trail (single_label_views xs)) (indexed_label_view xs (Some k)) false
+    ≡ true
     → AreHanging xs (take k xs) (take (length xs - (k + 1)) (drop (k + 1) xs))
 hanging_at xs k end d h greatest last holds =
     subst (AreHanging xs (take k xs)) (sym (all_after (k + 1) xs)) (record {
@@ -70,7 +74,8 @@ hanging_at xs k end d h greatest last holds =
 pub hanging_here : (xs : List SingleLabelTuple) (k end : ℕ) → k < length xs
     → end ≡ max_label_end (single_label_views xs)
     → last_with_end end (single_label_views xs) ≡ indexed_label_view xs (Some k)
-    → option_map_or (does_trail (single_label_views xs)) (indexed_label_view xs (Some k)) false ≡ true
+    → option_map_or (does_trail (single_label_views xs)) (indexed_label_view xs (Some k)) false
+    ≡ true
     → AreHanging xs (take k xs) (take (length xs - (k + 1)) (drop (k + 1) xs))
 hanging_here [] k end h greatest last holds = absurd (omega arith)
 hanging_here (x ∷ xs) k end h greatest last holds =
@@ -212,14 +217,16 @@ pub nothing_hangs : (context : RowContext) (line : Line)
     → AreHanging labels before after
     → list_any has_message (single_label_views before) ≡ false
     → list_any has_message (single_label_views after) ≡ false
-    → stream_of_rows context (pointer_and_hanging_rows line (hanging_labels (single_label_views labels))) ≡ []
+    → stream_of_rows context (pointer_and_hanging_rows line
+    (hanging_labels (single_label_views labels))) ≡ []
 nothing_hangs context line labels before after h early late =
     rw (none_hangs labels before after h early late) refl
 
 -- the pointers, and the messages that hang, the last one first
 rows_are : (context : RowContext) (line : Line) (xs : List LabelModel) → (xs ≡ [] → ⊥)
     → stream_of_rows context
-    (pointer_and_hanging_rows line xs) ≡ (pointer_row context line ++ newline) ++ hanging_stream context line xs
+    (pointer_and_hanging_rows line xs) ≡ (pointer_row context line ++ newline)
+    ++ hanging_stream context line xs
 rows_are context line [] h = absurd (h refl)
 rows_are context line (x ∷ xs) h = refl
 
@@ -246,7 +253,8 @@ pub all_hanging : (context : RowContext) (line : Line) (labels before after : Li
     → AreHanging labels before after
     → (list_any has_message (single_label_views before) ≡ true)
     ⊎ (list_any has_message (single_label_views after) ≡ true)
-    → stream_of_rows context (pointer_and_hanging_rows line (hanging_labels (single_label_views labels)))
+    → stream_of_rows context (pointer_and_hanging_rows line
+    (hanging_labels (single_label_views labels)))
     ≡ pointer_row context line ++ newline
     ++ hanging_stream context line (filter has_message (single_label_views after))
     ++ hanging_stream context line (filter has_message (single_label_views before))

@@ -1,17 +1,15 @@
 -- For `pointers_are_cells` and the pointer rows: where hanging labels start. They are labels of the
 -- line.
-use Rattle.std.proofs.Common.{◌≡◌, ℕ, ◌≤◌, max, Bool, true, false, ◌||◌, cond, List, [], ◌∷◌, ◌++◌, filter, fold, Option, Some, None, refl, sym, ap, subst, ◌∙◌, arith, ⊎_elim}
-use Rattle.std.specs.Prelude.{if◌then◌else◌}
-use Rattle.std.specs.List.{list_any}
-use Rattle.std.proofs.lemmas.Bool.{or_cases, or_left, or_right}
-use Rattle.std.proofs.lemmas.Bool.Decides.{nat_tests}
-use Rattle.std.proofs.lemmas.List.Folds.{list_any-append}
+use Rattle.codespan_core.proofs.Std.{◌≡◌, ℕ, ◌≤◌, max, Bool, true, false, ◌||◌, cond, List, [], ◌∷◌}
+use Rattle.codespan_core.proofs.Std.{◌++◌, filter, fold, Option, Some, None, refl, sym, ap, subst}
+use Rattle.codespan_core.proofs.Std.{◌∙◌, arith, ⊎_elim, if◌then◌else◌, list_any, or_cases}
+use Rattle.codespan_core.proofs.Std.{nat_tests, list_any-append}
+use Rattle.std.proofs.lemmas.Bool.{or_left, or_right}
 use Rattle.codespan_core.specs.Labels.{LabelModel, has_message}
-use Rattle.codespan_picture.specs.declared.char_metrics.Metrics.{Metrics}
-use Rattle.codespan_picture.specs.Carets.{max_label_end}
-use Rattle.codespan_picture.specs.Rows.{hanging_labels}
-use Rattle.codespan_picture.specs.RowParts.{starts_in}
-use Rattle.codespan_picture.proofs.Rightmost.{Around, others, around_rightmost, around_trails, hanging_of, around_is, hanging_is}
+use Rattle.codespan_picture.specs.Types.{Metrics}
+use Rattle.codespan_picture.specs.{max_label_end, hanging_labels, starts_in}
+use Rattle.codespan_picture.proofs.Rightmost.{Around, others, around_rightmost, around_trails}
+use Rattle.codespan_picture.proofs.Rightmost.{hanging_of, around_is, hanging_is}
 
 -- where a label that a filter keeps passes a test, a label of the list does
 pub any-filter : (p q : LabelModel → Bool) (xs : List LabelModel) → list_any p (filter q xs) ≡ true

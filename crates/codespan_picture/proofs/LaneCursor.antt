@@ -1,20 +1,19 @@
 -- For `inner_gutter`: a cursor over lane marks in order finds the lane mark of each lane.
-use Rattle.std.proofs.Common.{◌≡◌, ℕ, suc, zero, ◌+◌, ◌-◌, ◌<◌, ◌≤◌, Bool, true, false, cond, eqb, leb, ltb, ◌&&◌, List, [], ◌∷◌, ◌++◌, map, length, get_or, drop, None, Some, refl, sym, ap, ◌∙◌, arith, add-one, drop-cons, max}
-use Rattle.std.specs.Prelude.{IsTrue, flat_map}
-use Rattle.std.specs.List.{range_with_len}
-use Rattle.std.specs.Option.{option_map}
-use Rattle.std.proofs.lemmas.Bool.{ne_eqb, eq-eqb, eqb-true, le-leb, false≢true}
-use Rattle.std.proofs.lemmas.Bool.Decides.{nat_tests}
-use Rattle.std.proofs.lemmas.Grind.{common_steps}
-use Rattle.std.proofs.lemmas.List.{append_assoc}
+use Rattle.codespan_core.proofs.Std.{◌≡◌, ℕ, suc, zero, ◌+◌, ◌-◌, ◌<◌, ◌≤◌, Bool, true, false, cond}
+use Rattle.codespan_core.proofs.Std.{eqb, leb, ltb, ◌&&◌, List, [], ◌∷◌, ◌++◌, map, length, get_or}
+use Rattle.codespan_core.proofs.Std.{drop, None, Some, refl, sym, ap, ◌∙◌, arith, add-one}
+use Rattle.codespan_core.proofs.Std.{drop-cons, max, IsTrue, flat_map, range_with_len, option_map}
+use Rattle.codespan_core.proofs.Std.{ne_eqb, eq-eqb, eqb-true, le-leb, false≢true, nat_tests}
+use Rattle.codespan_core.proofs.Std.{common_steps, append_assoc}
 use Rattle.codespan_core.specs.Streams.{Stream, spaces, byte_stream}
 use Rattle.codespan_picture.specs.declared.rows.lanes.LaneRowKind.{LaneRowKind as RustLaneRowKind}
-use Rattle.codespan_picture.specs.Arguments.{LaneMarkTuple, lane_mark_view, lanes_of, lanes_in_order, ascend_from}
-use Rattle.codespan_picture.specs.Private.LineViews.{row_lane_stream, row_lanes_stream, lane_row_kind_view}
-use Rattle.codespan_picture.specs.Private.RemainingLaneMarks.{lane_mark_here, lane_marks_after}
-use Rattle.codespan_picture.specs.Lanes.{crossing_characters, lane_characters, lane_mark_in, row_shape, row_crossing}
-use Rattle.codespan_picture.specs.Rows.{RowContext, Lanes}
-use Rattle.codespan_picture.specs.RowParts.{inner_gutter_column, inner_gutter}
+use Rattle.codespan_picture.specs.{LaneMarkTuple, lane_mark_view, lanes_of, lanes_in_order}
+use Rattle.codespan_picture.specs.{ascend_from, crossing_characters, lane_characters, lane_mark_in}
+use Rattle.codespan_picture.specs.{row_shape, row_crossing, RowContext, inner_gutter_column}
+use Rattle.codespan_picture.specs.{inner_gutter}
+use Rattle.codespan_picture.specs.Private.{row_lane_stream, row_lanes_stream, lane_row_kind_view}
+use Rattle.codespan_picture.specs.Private.{lane_mark_here, lane_marks_after}
+use Rattle.codespan_picture.specs.Rows.{Lanes}
 use Rattle.codespan_picture.proofs.RowEquations.{spaces-add}
 
 -- ---- the first of the remaining lane marks
@@ -232,9 +231,11 @@ pub cursor-empty_lanes : (context : RowContext) (leading : ℕ) (row : RustLaneR
     → lane < count → until ≤ count → lane + num_empty ≤ max lane until
     → ((k : ℕ) → lane ≤ k → k < lane + num_empty → row_crossing (lane_row_kind_view row) k ≡ None)
     → ((k : ℕ) → k < until → lane_mark_here lane_marks k ≡ None)
-    → cursor context leading row lane (count - lane) lane_marks ≡ spaces (num_empty + num_empty) ++ cursor
+    → cursor context leading row lane (count - lane) lane_marks ≡ spaces (num_empty + num_empty)
+    ++ cursor
     context leading row (lane + num_empty) (count - (lane + num_empty)) lane_marks
-cursor-empty_lanes context leading row lane_marks count lane until num_empty inside high within clear bare =
+cursor-empty_lanes context leading row lane_marks count lane until num_empty inside high within
+    clear bare =
     let e : count - lane ≡ num_empty + (count - (lane + num_empty)) = omega arith in
     ap (λ n. cursor context leading row lane n lane_marks) e
     ∙ cursor-past context leading row lane_marks num_empty lane (count - (lane + num_empty)) clear

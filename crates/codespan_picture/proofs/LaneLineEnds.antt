@@ -1,23 +1,23 @@
 -- For `lanes_join_corners`: what a lane shows in the rows of a line on which its label begins or
 -- ends.
-use Rattle.std.proofs.Common.{◌≡◌, ℕ, ◌<◌, Bool, true, false, not, cond, ◌&&◌, ◌==◌, nat_lt, inl, inr, List, [], ◌∷◌, ◌++◌, map, filter, Some, refl, sym, ap, ◌∙◌, arith, append_assoc}
-use Rattle.std.proofs.lemmas.Bool.Decides.{nat_tests}
-use Rattle.std.specs.List.{AllByRecursion}
+use Rattle.codespan_core.proofs.Std.{◌≡◌, ℕ, ◌<◌, Bool, true, false, not, cond, ◌&&◌, ◌==◌, nat_lt}
+use Rattle.codespan_core.proofs.Std.{inl, inr, List, [], ◌∷◌, ◌++◌, map, filter, Some, refl, sym}
+use Rattle.codespan_core.proofs.Std.{ap, ◌∙◌, arith, append_assoc, nat_tests, AllByRecursion}
 use Rattle.std.proofs.Math.Bool.{and-false}
-use Rattle.codespan_core.specs.declared.term.config.Layout.{Layout}
-use Rattle.codespan_core.specs.declared.term.config.Layout.TheVariants.{Classic, Unbroken}
-use Rattle.codespan_core.specs.declared.diagnostic.LabelStyle.{LabelStyle}
 use Rattle.codespan_core.specs.Streams.{Stream}
 use Rattle.codespan_core.specs.Labels.{LaneMark, Top, Bottom}
+use Rattle.codespan_picture.specs.Types.{Layout, Classic, Unbroken, LabelStyle}
 use Rattle.codespan_picture.specs.declared.lane_shapes.Shape.{Shape}
-use Rattle.codespan_picture.specs.declared.lane_shapes.Shape.TheVariants.{Space, Bar, TopCorner, BottomCorner}
-use Rattle.codespan_picture.specs.Lanes.{source_shape, single_labels_shape, underline_shape, lane_mark_in, is_unbroken, begins_in_source_row, shape_of}
-use Rattle.codespan_picture.specs.LaneLaws.{shape_in}
-use Rattle.codespan_picture.specs.Rows.{Line, SourceRow, UnderlineRow, underline_rows, rows_of}
-use Rattle.codespan_picture.specs.RowParts.{leading_of}
-use Rattle.codespan_picture.proofs.LaneLineLemmas.{split_at, split_off, Shows, GoesOn, Begins, Finishes}
+use Rattle.codespan_picture.specs.declared.lane_shapes.Shape.TheVariants.{Space, Bar, TopCorner}
+use Rattle.codespan_picture.specs.declared.lane_shapes.Shape.TheVariants.{BottomCorner}
+use Rattle.codespan_picture.specs.{source_shape, single_labels_shape, underline_shape, lane_mark_in}
+use Rattle.codespan_picture.specs.{is_unbroken, begins_in_source_row, shape_of, shape_in, Line}
+use Rattle.codespan_picture.specs.{SourceRow, UnderlineRow, underline_rows, rows_of, leading_of}
+use Rattle.codespan_picture.proofs.LaneLineLemmas.{split_at, split_off, Shows, GoesOn, Begins}
+use Rattle.codespan_picture.proofs.LaneLineLemmas.{Finishes}
 use Rattle.codespan_picture.proofs.ListElements.{all-append, all-weaker}
-use Rattle.codespan_picture.proofs.LaneLineRows.{below_rows, each_below, is_underlined, each_under, each_after_source, lane_mark_with}
+use Rattle.codespan_picture.proofs.LaneLineRows.{below_rows, each_below, is_underlined, each_under}
+use Rattle.codespan_picture.proofs.LaneLineRows.{each_after_source, lane_mark_with}
 
 -- ---- a line with an end of the label
 
@@ -33,10 +33,12 @@ pub record Split (lane : ℕ) (m : LaneMark) (lane_marks : List LaneMark) : Type
 rows_split : (lane : ℕ) (line : Line) (m : LaneMark) (r : Split lane m line.lanes.lane_marks)
     → is_underlined line m ≡ true
     → rows_of line
-    ≡ (SourceRow line ∷ (below_rows line ++ map (UnderlineRow line) (filter (is_underlined line) r.low)))
+    ≡ (SourceRow line
+    ∷ (below_rows line ++ map (UnderlineRow line) (filter (is_underlined line) r.low)))
     ++ (UnderlineRow line m ∷ map (UnderlineRow line) (filter (is_underlined line) r.high))
 rows_split lane line m r h =
-    ap (λ t. SourceRow line ∷ (below_rows line ++ map (UnderlineRow line) (filter (is_underlined line) t))) r.is
+    ap (λ t. SourceRow line
+    ∷ (below_rows line ++ map (UnderlineRow line) (filter (is_underlined line) t))) r.is
     ∙ ap (λ t. SourceRow line ∷ (below_rows line ++ t))
     (split_at (UnderlineRow line) (is_underlined line) r.low m r.high h)
     ∙ ap (λ t. SourceRow line ∷ t)
@@ -51,7 +53,8 @@ pub bottom_lane_mark : (layout : Layout) (lane : ℕ) (line : Line) (style : Lab
     → Split lane (lane_mark_with lane style (Bottom end message)) line.lanes.lane_marks
     → Finishes layout lane (rows_of line)
 bottom_lane_mark layout lane line style end message is r = record {
-  before = SourceRow line ∷ (below_rows line ++ map (UnderlineRow line) (filter (is_underlined line) r.low));
+  before = SourceRow line
+      ∷ (below_rows line ++ map (UnderlineRow line) (filter (is_underlined line) r.low));
   bottom = UnderlineRow line m;
   after = map (UnderlineRow line) (filter (is_underlined line) r.high);
   rows_are = rows_split lane line m r refl;
@@ -135,7 +138,8 @@ top_early layout lane line style start is r early = record {
   more = below_rows line ++ underline_rows line;
   rows_are = refl;
   gaps = tt;
-  top_corner = ap (shape_of (source_shape (leading_of line))) is ∙ ap (λ b. cond b TopCorner Space) early;
+  top_corner = ap (shape_of (source_shape (leading_of line))) is ∙ ap (λ b. cond b TopCorner Space)
+      early;
   goes_on = by_layout layout;
 }
   where
@@ -180,11 +184,28 @@ top_early layout lane line style start is r early = record {
         → AllByRecursion (GoesOn layout lane line (SourceRow line))
         (below_rows line ++ underline_rows line)
     by_layout Classic =
-        all-append (GoesOn Classic lane line (SourceRow line)) (below_rows line) (underline_rows line)
+        all-append (GoesOn Classic lane line (SourceRow line)) (below_rows line)
+        (underline_rows line)
         (each_below (GoesOn Classic lane line (SourceRow line)) line
-        (inr (record { shows_space = space_shown; is_classic = refl; begins_in_source_row = refl; is_of_line = refl }))
-        (inr (record { shows_space = space_shown; is_classic = refl; begins_in_source_row = refl; is_of_line = refl }))
-        (λ y. inr (record { shows_space = space_shown; is_classic = refl; begins_in_source_row = refl; is_of_line = refl })))
+        (inr (record {
+          shows_space = space_shown;
+          is_classic = refl;
+          begins_in_source_row = refl;
+          is_of_line = refl;
+        }))
+        (inr (record {
+          shows_space = space_shown;
+          is_classic = refl;
+          begins_in_source_row = refl;
+          is_of_line = refl;
+        }))
+        (λ y. inr
+        (record {
+          shows_space = space_shown;
+          is_classic = refl;
+          begins_in_source_row = refl;
+          is_of_line = refl;
+        })))
         (rw without
         (all-append (GoesOn Classic lane line (SourceRow line))
         (map (UnderlineRow line) (filter (is_underlined line) r.low))
@@ -202,12 +223,14 @@ top_early layout lane line style start is r early = record {
         (inl
         (ap (shape_of (single_labels_shape Unbroken (leading_of line))) is
         ∙ ap (λ b. cond b Bar Space) early))
-        (inl (ap (shape_of (single_labels_shape Unbroken (leading_of line))) is ∙ ap (λ b. cond b Bar Space) early))
+        (inl (ap (shape_of (single_labels_shape Unbroken (leading_of line))) is ∙ ap
+        (λ b. cond b Bar Space) early))
         (λ y. inl
         (ap (shape_of (single_labels_shape Unbroken (leading_of line))) is
         ∙ ap (λ b. cond b Bar Space) early))
         (λ m. inl (ap (shape_of (underline_shape Unbroken (leading_of line) m.lane lane)) is
-        ∙ ap (λ b. cond b Bar (cond (lane == m.lane) TopCorner (cond (nat_lt lane m.lane) Bar Space))) early))
+        ∙ ap (λ b. cond b Bar (cond (lane == m.lane) TopCorner
+        (cond (nat_lt lane m.lane) Bar Space))) early))
 
 -- a lane whose corner is not in the source row does not continue below that row
 late : (layout : Layout) (leading start : ℕ) → begins_in_source_row leading start ≡ false
@@ -223,7 +246,8 @@ late_underline : (layout : Layout) (leading corner_lane lane start : ℕ)
     → underline_shape layout leading corner_lane lane (Top start) ≡ cond (lane == corner_lane)
     TopCorner (cond (nat_lt lane corner_lane) Bar Space)
 late_underline layout leading corner_lane lane start h =
-    ap (λ b. cond b Bar (cond (lane == corner_lane) TopCorner (cond (nat_lt lane corner_lane) Bar Space))) (late layout leading start h)
+    ap (λ b. cond b Bar (cond (lane == corner_lane) TopCorner
+    (cond (nat_lt lane corner_lane) Bar Space))) (late layout leading start h)
 
 -- a corner in a row of its own
 top_late : (layout : Layout) (lane : ℕ) (line : Line) (style : LabelStyle) (start : ℕ)
@@ -232,7 +256,8 @@ top_late : (layout : Layout) (lane : ℕ) (line : Line) (style : LabelStyle) (st
     → begins_in_source_row (leading_of line) start ≡ false
     → Begins layout lane line (rows_of line)
 top_late layout lane line style start is r early = record {
-  before = SourceRow line ∷ (below_rows line ++ map (UnderlineRow line) (filter (is_underlined line) r.low));
+  before = SourceRow line
+      ∷ (below_rows line ++ map (UnderlineRow line) (filter (is_underlined line) r.low));
   top = UnderlineRow line m;
   more = map (UnderlineRow line) (filter (is_underlined line) r.high);
   rows_are = rows_split lane line m r (ap not early);

@@ -1,16 +1,15 @@
 -- For `lanes_join_corners`: lists in parts, and a lane that is one line by the parts of its rows.
-use Rattle.std.proofs.Common.{◌≡◌, ℕ, zero, suc, ◌+◌, ◌-◌, ◌<◌, Bool, true, false, cond, ◌⊎◌, inl, inr, List, [], ◌∷◌, ◌++◌, map, filter, length, Option, Some, slice_get, refl, sym, ap, ap₂, ◌∙◌, arith, append_assoc}
-use Rattle.std.specs.List.{AllByRecursion}
-use Rattle.std.specs.Option.{option_map}
-use Rattle.std.proofs.lemmas.List.{length-append}
-use Rattle.codespan_core.specs.declared.term.config.Layout.{Layout}
+use Rattle.codespan_core.proofs.Std.{◌≡◌, ℕ, zero, suc, ◌+◌, ◌-◌, ◌<◌, Bool, true, false, cond, ◌⊎◌}
+use Rattle.codespan_core.proofs.Std.{inl, inr, List, [], ◌∷◌, ◌++◌, map, filter, length, Option}
+use Rattle.codespan_core.proofs.Std.{Some, slice_get, refl, sym, ap, ap₂, ◌∙◌, arith, append_assoc}
+use Rattle.codespan_core.proofs.Std.{AllByRecursion, option_map, length-append}
 use Rattle.codespan_core.specs.Labels.{LabelModel, first_line}
+use Rattle.codespan_picture.specs.Types.{Layout}
 use Rattle.codespan_picture.specs.declared.lane_shapes.Shape.{Shape}
-use Rattle.codespan_picture.specs.declared.lane_shapes.Shape.TheVariants.{Space, Bar, TopCorner, BottomCorner}
-use Rattle.codespan_picture.specs.Lanes.{is_unbroken}
-use Rattle.codespan_picture.specs.Rows.{Line, Row, SourceRow}
-use Rattle.codespan_picture.specs.Snippets.{LabeledFileModel, line_at}
-use Rattle.codespan_picture.specs.LaneLaws.{shape_in, shape_at, line_of_row, MayLeaveOut, IsCornerToCorner}
+use Rattle.codespan_picture.specs.declared.lane_shapes.Shape.TheVariants.{Space, Bar, TopCorner}
+use Rattle.codespan_picture.specs.declared.lane_shapes.Shape.TheVariants.{BottomCorner}
+use Rattle.codespan_picture.specs.{is_unbroken, Line, Row, SourceRow, LabeledFileModel, line_at}
+use Rattle.codespan_picture.specs.{shape_in, shape_at, line_of_row, MayLeaveOut, IsCornerToCorner}
 use Rattle.codespan_picture.proofs.ListElements.{all-append, all-weaker}
 
 -- ---- lists
@@ -178,7 +177,8 @@ whole_before layout lane line xs ys r gaps = record {
   middle = r.middle;
   bottom = r.bottom;
   after = r.after ++ ys;
-  rows_are = ap (λ t. t ++ ys) r.rows_are ∙ append_assoc r.before (r.top ∷ (r.middle ++ (r.bottom ∷ r.after))) ys
+  rows_are = ap (λ t. t ++ ys) r.rows_are
+      ∙ append_assoc r.before (r.top ∷ (r.middle ++ (r.bottom ∷ r.after))) ys
       ∙ ap (λ t. r.before ++ (r.top ∷ t)) (append_assoc r.middle (r.bottom ∷ r.after) ys);
   gaps_before = r.gaps_before;
   top_corner = r.top_corner;
@@ -202,7 +202,8 @@ whole_joined layout lane line xs ys b r = record {
   gaps_before = b.gaps;
   top_corner = b.top_corner;
   goes_on = all-append (GoesOn layout lane line b.top) b.more r.before b.goes_on
-      (all-weaker (Shows layout lane Bar) (GoesOn layout lane line b.top) (λ row h. inl h) r.before r.bars);
+      (all-weaker (Shows layout lane Bar) (GoesOn layout lane line b.top) (λ row h. inl h) r.before
+      r.bars);
   bottom_corner = r.bottom_corner;
   gaps_after = r.gaps;
 }
@@ -257,7 +258,8 @@ one_line layout s rows lane x w = record {
     at_bottom = length w.before + suc (length w.middle)
 
     top_is : slice_get rows at_top ≡ Some w.top
-    top_is = ap (λ t. slice_get t at_top) w.rows_are ∙ get_right w.before (w.top ∷ below) at_top 0 (omega arith)
+    top_is = ap (λ t. slice_get t at_top) w.rows_are ∙ get_right w.before (w.top ∷ below) at_top 0
+        (omega arith)
 
     bottom_is : slice_get rows at_bottom ≡ Some w.bottom
     bottom_is =
@@ -268,7 +270,12 @@ one_line layout s rows lane x w = record {
     long : length rows ≡ at_bottom + suc (length w.after)
     long =
         ap length w.rows_are
-        ∙ omega (arith, length-append w.before (w.top ∷ below), length-append w.middle (w.bottom ∷ w.after))
+        ∙ omega (
+          arith,
+          length-append w.before (w.top ∷ below),
+          length-append w.middle
+              (w.bottom ∷ w.after),
+        )
 
     by_kind : (k : ℕ) (row : Row) → slice_get rows k ≡ Some row → GoesOn layout lane line w.top row
         → (shape_at layout rows k lane ≡ Some Bar) ⊎ MayLeaveOut layout s rows lane x at_top k

@@ -1,13 +1,14 @@
 -- For `lanes_join_corners`: what a lane shows in the rows of one line.
-use Rattle.std.proofs.Common.{◌≡◌, ℕ, Bool, List, [], ◌∷◌, ◌++◌, map, filter, reverse, Some, None, ap}
-use Rattle.std.specs.List.{AllByRecursion}
-use Rattle.codespan_core.specs.declared.term.config.Layout.{Layout}
-use Rattle.codespan_core.specs.declared.diagnostic.LabelStyle.{LabelStyle}
+use Rattle.codespan_core.proofs.Std.{◌≡◌, ℕ, Bool, List, [], ◌∷◌, ◌++◌, map, filter, reverse, Some}
+use Rattle.codespan_core.proofs.Std.{None, ap, AllByRecursion}
 use Rattle.codespan_core.specs.Labels.{LabelModel, LaneMark, MultiLabel, Left}
+use Rattle.codespan_picture.specs.Types.{Layout, LabelStyle}
 use Rattle.codespan_picture.specs.declared.lane_shapes.Shape.TheVariants.{Space, Bar}
-use Rattle.codespan_picture.specs.Lanes.{source_shape, single_labels_shape, underline_shape, lane_mark_in, shape_of}
-use Rattle.codespan_picture.specs.Rows.{Line, Row, CaretRow, PointerRow, HangingRow, UnderlineRow, caret_rows, pointer_and_hanging_rows, hanging_labels, underline_rows, rows_of, has_underline}
-use Rattle.codespan_picture.specs.RowParts.{leading_of}
+use Rattle.codespan_picture.specs.{source_shape, single_labels_shape, underline_shape, lane_mark_in}
+use Rattle.codespan_picture.specs.{shape_of, Line, Row, CaretRow, PointerRow, HangingRow}
+use Rattle.codespan_picture.specs.{UnderlineRow, caret_rows, pointer_and_hanging_rows}
+use Rattle.codespan_picture.specs.{hanging_labels, underline_rows, rows_of, has_underline}
+use Rattle.codespan_picture.specs.{leading_of}
 use Rattle.codespan_picture.proofs.LaneLineLemmas.{each_all, each_map, Shows}
 use Rattle.codespan_picture.proofs.ListElements.{all-append, all-filter}
 
@@ -29,12 +30,14 @@ each_hanging P line (x ∷ xs) a b = (
 )
 
 abbrev pub below_rows : Line → List Row
-below_rows line = caret_rows line line.labels ++ pointer_and_hanging_rows line (hanging_labels line.labels)
+below_rows line = caret_rows line line.labels ++ pointer_and_hanging_rows line
+    (hanging_labels line.labels)
 
 pub each_below : (P : Row → Type 0) (line : Line) → P (CaretRow line) → P (PointerRow line)
     → ((y : LabelModel) → P (HangingRow line y)) → AllByRecursion P (below_rows line)
 each_below P line a b d =
-    all-append P (caret_rows line line.labels) (pointer_and_hanging_rows line (hanging_labels line.labels))
+    all-append P (caret_rows line line.labels)
+    (pointer_and_hanging_rows line (hanging_labels line.labels))
     (each_caret P line line.labels a)
     (each_hanging P line (hanging_labels line.labels) b d)
 

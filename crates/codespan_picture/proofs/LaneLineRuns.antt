@@ -1,28 +1,34 @@
 -- For `lanes_join_corners`: each lane is one line, by the drawn lines of the file.
-use Rattle.std.proofs.Common.{◌≡◌, ℕ, zero, suc, ◌+◌, ◌-◌, ◌<◌, ◌≤◌, Bool, true, false, not, cond, ◌&&◌, ◌||◌, nat_lt, nat_le, ⊎_elim, List, [], ◌∷◌, ◌++◌, filter, length, Option, Some, None, refl, sym, ap, ◌∙◌, zero-add, append_assoc, arith, if◌then◌else◌}
-use Rattle.std.specs.List.{range_with_len, AllByRecursion}
-use Rattle.std.proofs.lemmas.Bool.{cases_lt}
-use Rattle.std.proofs.lemmas.List.Sums.{count_by-le-length}
-use Rattle.codespan_core.specs.declared.term.config.Config.{Config}
-use Rattle.codespan_core.specs.declared.term.config.Layout.{Layout}
+use Rattle.codespan_core.proofs.Std.{◌≡◌, ℕ, zero, suc, ◌+◌, ◌-◌, ◌<◌, ◌≤◌, Bool, true, false, not}
+use Rattle.codespan_core.proofs.Std.{cond, ◌&&◌, ◌||◌, nat_lt, nat_le, ⊎_elim, List, [], ◌∷◌, ◌++◌}
+use Rattle.codespan_core.proofs.Std.{filter, length, Option, Some, None, refl, sym, ap, ◌∙◌}
+use Rattle.codespan_core.proofs.Std.{zero-add, append_assoc, arith, if◌then◌else◌, range_with_len}
+use Rattle.codespan_core.proofs.Std.{AllByRecursion, cases_lt, count_by-le-length}
 use Rattle.codespan_core.specs.FileModel.{line_start, line_of, line_count}
-use Rattle.codespan_core.specs.Labels.{LabelModel, is_single, first_line, last_line, multi_label_on, lane_mark_of, lane_marks_on, multi_line_labels, MultiLabel, Top, Left, Bottom}
-use Rattle.codespan_picture.specs.declared.lane_shapes.Shape.TheVariants.{Space, Bar}
-use Rattle.codespan_picture.specs.Lanes.{empty_or_break_shape, lane_mark_in, shape_of}
-use Rattle.codespan_picture.specs.Lines.{is_shown, is_drawn, drawn_lines, has_break_between}
-use Rattle.codespan_picture.specs.Rows.{Row, BreakRow, SnippetStartRow, EmptyRow, rows_of}
-use Rattle.codespan_picture.specs.Snippets.{LabeledFileModel, line_at, rows_of_drawn, empty_row_after, snippet, empty_lanes}
-use Rattle.codespan_picture.proofs.FillLemmas.{breaks_before}
-use Rattle.codespan_picture.specs.LaneLaws.{HasLane, LanesJoinCorners}
-use Rattle.codespan_picture.specs.RichLaws.{NoneReversed}
-use Rattle.codespan_picture.proofs.BarLemmas.{lane_mark_in-from}
+use Rattle.codespan_core.specs.Labels.{LabelModel, is_single, first_line, last_line, multi_label_on}
+use Rattle.codespan_core.specs.Labels.{lane_mark_of, lane_marks_on, multi_line_labels, MultiLabel}
+use Rattle.codespan_core.specs.Labels.{Top, Left, Bottom}
 use Rattle.codespan_core.specs.Lemmas.Lines.{line_of_below}
-use Rattle.codespan_picture.proofs.RangeLemmas.{kept, has_lane-ordered, shown-by, shows-first, shows-last}
-use Rattle.codespan_picture.proofs.LaneLineLemmas.{Shows, Begins, Finishes, Whole, finishes_later, finishes_before, whole_before, whole_later, whole_joined, one_line}
+use Rattle.codespan_picture.specs.Types.{Config, Layout}
+use Rattle.codespan_picture.specs.declared.lane_shapes.Shape.TheVariants.{Space, Bar}
+use Rattle.codespan_picture.specs.{empty_or_break_shape, lane_mark_in, shape_of, is_shown, is_drawn}
+use Rattle.codespan_picture.specs.{drawn_lines, has_break_between, Row, BreakRow, SnippetStartRow}
+use Rattle.codespan_picture.specs.{EmptyRow, rows_of, LabeledFileModel, line_at, rows_of_drawn}
+use Rattle.codespan_picture.specs.{empty_row_after, snippet, empty_lanes, HasLane, LanesJoinCorners}
+use Rattle.codespan_picture.specs.{NoneReversed}
+use Rattle.codespan_picture.proofs.FillLemmas.{breaks_before}
+use Rattle.codespan_picture.proofs.BarLemmas.{lane_mark_in-from}
+use Rattle.codespan_picture.proofs.RangeLemmas.{kept, has_lane-ordered, shown-by, shows-first}
+use Rattle.codespan_picture.proofs.RangeLemmas.{shows-last}
+use Rattle.codespan_picture.proofs.LaneLineLemmas.{Shows, Begins, Finishes, Whole, finishes_later}
+use Rattle.codespan_picture.proofs.LaneLineLemmas.{finishes_before, whole_before, whole_later}
+use Rattle.codespan_picture.proofs.LaneLineLemmas.{whole_joined, one_line}
 use Rattle.codespan_picture.proofs.LaneLineRows.{lane_mark_with, no_lane_mark, left_lane_mark}
 use Rattle.codespan_picture.proofs.LaneLineEnds.{Split, bottom_lane_mark, top_lane_mark}
 use Rattle.codespan_picture.proofs.ListElements.{all-append}
-use Rattle.codespan_picture.proofs.LaneMarkSearch.{split_from, multi_label_before, multi_label_top, multi_label_left, multi_label_bottom, multi_label_after}
+use Rattle.codespan_picture.proofs.LaneMarkSearch.{split_from, multi_label_before, multi_label_top}
+use Rattle.codespan_picture.proofs.LaneMarkSearch.{multi_label_left, multi_label_bottom}
+use Rattle.codespan_picture.proofs.LaneMarkSearch.{multi_label_after}
 
 -- ---- the rows of the drawn lines
 
@@ -35,7 +41,8 @@ each_break P s (Some c) l h = by_test (has_break_between c l)
     by_test true = (h, tt)
     by_test false = tt
 
-module _ (layout : Layout) (s : LabeledFileModel) (lane : ℕ) (x : LabelModel) (has : HasLane s lane x)
+module _ (layout : Layout) (s : LabeledFileModel) (lane : ℕ) (x : LabelModel)
+    (has : HasLane s lane x)
     (several : first_line s.file x < last_line s.file x) (drawn : ℕ → Bool) where
   abbrev top_of : ℕ → MultiLabel
   top_of l = Top (x.start - line_start s.file l)
@@ -47,7 +54,8 @@ module _ (layout : Layout) (s : LabeledFileModel) (lane : ℕ) (x : LabelModel) 
       → lane_mark_in (lane_marks_on s.file s.labels l) lane ≡ lane_mark_of lane x multi_label
   lane_mark_at l multi_label is =
       ap (lane_mark_in (lane_marks_on s.file s.labels l)) (sym (zero-add lane))
-      ∙ lane_mark_in-from s.file l 0 lane (multi_line_labels s.file s.labels) ∙ rw (zero-add, has) (ap (lane_mark_of lane x) is)
+      ∙ lane_mark_in-from s.file l 0 lane (multi_line_labels s.file s.labels)
+      ∙ rw (zero-add, has) (ap (lane_mark_of lane x) is)
 
   split_on : (l : ℕ) (multi_label : MultiLabel) → multi_label_on s.file l x ≡ Some multi_label
       → Split lane (lane_mark_with lane x.style multi_label) (lane_marks_on s.file s.labels l)
@@ -72,14 +80,17 @@ module _ (layout : Layout) (s : LabeledFileModel) (lane : ℕ) (x : LabelModel) 
       several h)
 
   top_at : (l : ℕ) → first_line s.file x ≡ l → multi_label_on s.file l x ≡ Some (top_of l)
-  top_at l h = multi_label_top (first_line s.file x) (last_line s.file x) l (top_of l) (bottom_of l) h
+  top_at l h = multi_label_top (first_line s.file x) (last_line s.file x) l (top_of l) (bottom_of l)
+      h
 
   left_at : (l : ℕ) → first_line s.file x < l → l < last_line s.file x
       → multi_label_on s.file l x ≡ Some Left
-  left_at l low high = multi_label_left (first_line s.file x) (last_line s.file x) l (top_of l) (bottom_of l) low high
+  left_at l low high = multi_label_left (first_line s.file x) (last_line s.file x) l (top_of l)
+      (bottom_of l) low high
 
   bottom_at : (l : ℕ) → last_line s.file x ≡ l → multi_label_on s.file l x ≡ Some (bottom_of l)
-  bottom_at l h = multi_label_bottom (first_line s.file x) (last_line s.file x) l (top_of l) (bottom_of l) several h
+  bottom_at l h = multi_label_bottom (first_line s.file x) (last_line s.file x) l (top_of l)
+      (bottom_of l) several h
 
   begins_line : (l : ℕ) → first_line s.file x ≡ l
       → Begins layout lane (line_at s l) (rows_of (line_at s l))
@@ -95,7 +106,8 @@ module _ (layout : Layout) (s : LabeledFileModel) (lane : ℕ) (x : LabelModel) 
 
   bars_line : (l : ℕ) → first_line s.file x < l → l < last_line s.file x
       → AllByRecursion (Shows layout lane Bar) (rows_of (line_at s l))
-  bars_line l low high = left_lane_mark layout lane (line_at s l) x.style (lane_mark_at l (Some Left) (left_at l low high))
+  bars_line l low high = left_lane_mark layout lane (line_at s l) x.style
+      (lane_mark_at l (Some Left) (left_at l low high))
 
   gaps_with : (previous : Option ℕ) (l : ℕ) → NoLaneMark l
       → AllByRecursion (Shows layout lane Space)
@@ -126,12 +138,14 @@ module _ (layout : Layout) (s : LabeledFileModel) (lane : ℕ) (x : LabelModel) 
 
   skip : (previous : Option ℕ) (a n : ℕ) → drawn a ≡ false
       → rows_from previous a (suc n) ≡ rows_from previous (a + 1) n
-  skip previous a n h = ap (λ b. rows_of_drawn s previous (cond b (a ∷ lines_from (a + 1) n) (lines_from (a + 1) n))) h
+  skip previous a n h = ap
+      (λ b. rows_of_drawn s previous (cond b (a ∷ lines_from (a + 1) n) (lines_from (a + 1) n))) h
 
   keep : (previous : Option ℕ) (a n : ℕ) → drawn a ≡ true
       → rows_from previous a (suc n) ≡ breaks_before s previous a ++ rows_of
       (line_at s a) ++ rows_from (Some a) (a + 1) n
-  keep previous a n h = ap (λ b. rows_of_drawn s previous (cond b (a ∷ lines_from (a + 1) n) (lines_from (a + 1) n))) h
+  keep previous a n h = ap
+      (λ b. rows_of_drawn s previous (cond b (a ∷ lines_from (a + 1) n) (lines_from (a + 1) n))) h
 
   -- the rows of the lines after the label
   gaps_after : (previous : Option ℕ) (a n : ℕ) → last_line s.file x < a
@@ -144,7 +158,8 @@ module _ (layout : Layout) (s : LabeledFileModel) (lane : ℕ) (x : LabelModel) 
           → AllByRecursion (Shows layout lane Space)
           (rows_of_drawn s previous (cond b (a ∷ lines_from (a + 1) n) (lines_from (a + 1) n)))
       by_test rest true =
-          all-append (Shows layout lane Space) (breaks_before s previous a ++ rows_of (line_at s a)) (rows_from (Some a) (a + 1) n)
+          all-append (Shows layout lane Space) (breaks_before s previous a ++ rows_of (line_at s a))
+          (rows_from (Some a) (a + 1) n)
           (gaps_with previous a (no_lane_mark_after a past)) (rest (Some a))
       by_test rest false = rest previous
 
@@ -154,7 +169,8 @@ module _ (layout : Layout) (s : LabeledFileModel) (lane : ℕ) (x : LabelModel) 
       → Finishes layout lane (rows_from previous a n)
   finishes_from previous a zero low high inside end = absurd (omega arith)
   finishes_from previous a (suc n) low high inside end =
-      by_test (λ w further. finishes_from w (a + 1) n (omega arith) (omega arith) (omega arith) end) (drawn a) refl
+      by_test (λ w further. finishes_from w (a + 1) n (omega arith) (omega arith) (omega arith) end)
+      (drawn a) refl
     where
       by_test : ((w : Option ℕ) → a < last_line s.file x
           → Finishes layout lane (rows_from w (a + 1) n))
@@ -195,7 +211,8 @@ module _ (layout : Layout) (s : LabeledFileModel) (lane : ℕ) (x : LabelModel) 
       → Whole layout lane (line_at s (first_line s.file x)) (rows_from previous a n)
   whole_from previous a zero high inside start end = absurd (omega arith)
   whole_from previous a (suc n) high inside start end =
-      by_test (λ w further. whole_from w (a + 1) n (omega arith) (omega arith) start end) (drawn a) refl
+      by_test (λ w further. whole_from w (a + 1) n (omega arith) (omega arith) start end) (drawn a)
+      refl
     where
       by_test : ((w : Option ℕ) → a < first_line s.file x
           → Whole layout lane (line_at s (first_line s.file x)) (rows_from w (a + 1) n))
@@ -216,8 +233,10 @@ module _ (layout : Layout) (s : LabeledFileModel) (lane : ℕ) (x : LabelModel) 
               → Whole layout lane (line_at s a)
               (rows_of (line_at s a) ++ rows_from (Some a) (a + 1) n)
           joined here =
-              whole_joined layout lane (line_at s a) (rows_of (line_at s a)) (rows_from (Some a) (a + 1) n)
-              (begins_line a here) (finishes_from (Some a) (a + 1) n (omega arith) (omega arith) (omega arith) end)
+              whole_joined layout lane (line_at s a) (rows_of (line_at s a))
+              (rows_from (Some a) (a + 1) n)
+              (begins_line a here) (finishes_from (Some a) (a + 1) n (omega arith) (omega arith)
+              (omega arith) end)
 
           prefix : first_line s.file x ≤ a
               → Whole layout lane (line_at s (first_line s.file x)) (rows_from previous a (suc n))
@@ -226,7 +245,14 @@ module _ (layout : Layout) (s : LabeledFileModel) (lane : ℕ) (x : LabelModel) 
               let one : Whole layout lane (line_at s (first_line s.file x))
               (rows_of (line_at s a) ++ rows_from (Some a) (a + 1) n) =
               rw here (joined here) in
-              rw (keep previous a n is, append_assoc (breaks_before s previous a) (rows_of (line_at s a)) (rows_from (Some a) (a + 1) n)) (whole_later layout lane (line_at s (first_line s.file x)) (breaks_before s previous a) (rows_of (line_at s a) ++ rows_from (Some a) (a + 1) n)
+              rw (
+                keep previous a n is,
+                append_assoc (breaks_before s previous a)
+                    (rows_of (line_at s a)) (rows_from (Some a) (a + 1) n),
+              )
+              (whole_later layout lane (line_at s (first_line s.file x))
+              (breaks_before s previous a) (rows_of (line_at s a)
+              ++ rows_from (Some a) (a + 1) n)
               (gap_break previous a here) one)
       by_test rest false is =
           rw (skip previous a n is) (rest previous (⊎_elim (λ h. h)
@@ -253,7 +279,8 @@ lanes_join_corners config layout s ordered = λ locus is_followed lane x has.
     let low = line_of_below s.file.starts x.start some in
     let high = line_of_below s.file.starts x.end some in
     one_line layout s (snippet config locus s ++ empty_row_after is_followed s) lane x
-    (whole_before layout lane (line_at s (first_line s.file x)) (snippet config locus s) (trailing_empty_rows is_followed)
+    (whole_before layout lane (line_at s (first_line s.file x)) (snippet config locus s)
+    (trailing_empty_rows is_followed)
     (whole_later layout lane (line_at s (first_line s.file x))
     (SnippetStartRow locus ∷ EmptyRow (empty_lanes s) ∷ [])
     (rows_of_drawn s None (drawn_lines config s.file s.labels))

@@ -1,10 +1,11 @@
 -- For `lanes_join_corners`: the lane mark of a label among those of a line, and what it is by the
 -- line.
-use Rattle.std.proofs.Common.{◌≡◌, ℕ, zero, suc, ◌+◌, ◌<◌, ◌≤◌, true, false, ◌&&◌, ◌==◌, nat_lt, List, [], ◌∷◌, Option, Some, None, slice_get, ap, ◌∙◌, arith, if◌then◌else◌}
-use Rattle.std.specs.List.{cons_option, AllByRecursion}
-use Rattle.std.proofs.lemmas.Bool.Decides.{nat_tests}
+use Rattle.codespan_core.proofs.Std.{◌≡◌, ℕ, zero, suc, ◌+◌, ◌<◌, ◌≤◌, true, false, ◌&&◌, ◌==◌}
+use Rattle.codespan_core.proofs.Std.{nat_lt, List, [], ◌∷◌, Option, Some, None, slice_get, ap, ◌∙◌}
+use Rattle.codespan_core.proofs.Std.{arith, if◌then◌else◌, cons_option, AllByRecursion, nat_tests}
 use Rattle.codespan_core.specs.FileModel.{FileModel}
-use Rattle.codespan_core.specs.Labels.{LabelModel, multi_label_on, lane_mark_of, LaneMark, MultiLabel, Left}
+use Rattle.codespan_core.specs.Labels.{LabelModel, multi_label_on, lane_mark_of, LaneMark}
+use Rattle.codespan_core.specs.Labels.{MultiLabel, Left}
 use Rattle.codespan_picture.proofs.BarLemmas.{marks_from}
 use Rattle.codespan_picture.proofs.LaneLineRows.{lane_mark_with}
 use Rattle.codespan_picture.proofs.LaneLineEnds.{Split}

@@ -1,26 +1,21 @@
 -- For `outputs_are_utf8`: the streams of lanes and of their characters are texts.
-use Rattle.std.proofs.Common.{◌≡◌, ℕ, ◌+◌, Bool, true, false, ◌&&◌, ◌==◌, List, [], ◌∷◌, Option, Some, None, refl}
-use Rattle.std.specs.Prelude.{if◌then◌else◌, IfSome}
-use Rattle.std.specs.Char.{IsScalar, len_utf8}
-use Rattle.std.specs.List.{AllByRecursion}
-use Rattle.std.specs.Str.{IsUtf8, all_scalars, chars}
+use Rattle.codespan_core.proofs.Std.{◌≡◌, ℕ, ◌+◌, Bool, true, false, ◌&&◌, ◌==◌, List, [], ◌∷◌}
+use Rattle.codespan_core.proofs.Std.{Option, Some, None, refl, if◌then◌else◌, IfSome, IsScalar}
+use Rattle.codespan_core.proofs.Std.{len_utf8, AllByRecursion, IsUtf8, chars}
+use Rattle.std.specs.Str.{all_scalars}
 use Rattle.std.proofs.Math.Utf8.{scalar}
 use Rattle.std.proofs.lemmas.Str.{scalars-chars}
-use Rattle.codespan_core.specs.declared.diagnostic.LabelStyle.{LabelStyle}
-use Rattle.codespan_core.specs.declared.diagnostic.LabelStyle.TheVariants.{Primary, Secondary}
-use Rattle.codespan_core.specs.declared.diagnostic.Severity.{Severity}
-use Rattle.codespan_core.specs.declared.term.config.chars.Chars.{Chars}
 use Rattle.codespan_core.specs.Labels.{LabelModel, LaneMark, MultiLabel, Top, Left, Bottom}
 use Rattle.codespan_core.specs.Streams.{glyph, spaces}
-use Rattle.codespan_picture.specs.declared.char_metrics.Metrics.{Metrics}
+use Rattle.codespan_picture.specs.Types.{LabelStyle, Primary, Secondary, Severity, Chars, Metrics}
 use Rattle.codespan_picture.specs.declared.lane_shapes.Shape.{Shape}
-use Rattle.codespan_picture.specs.declared.lane_shapes.Shape.TheVariants.{Space, Bar, TopCorner, BottomCorner}
-use Rattle.codespan_picture.specs.Carets.{caret_for}
-use Rattle.codespan_picture.specs.CharMetrics.{char_metrics, metrics_then, width_at}
-use Rattle.codespan_picture.specs.Lanes.{underline_char, crossing_characters, label_glyph, lane_characters}
-use Rattle.codespan_picture.specs.Rows.{Line, Row, HeaderRow, SnippetStartRow, SourceRow, CaretRow, HangingRow, UnderlineRow, FirstNoteRow, LaterNoteRow}
-use Rattle.codespan_picture.specs.RowParts.{source_glyph, start_caret, end_caret}
-use Rattle.codespan_picture.specs.Utf8Laws.{StreamIsUtf8, CharsAreScalars}
+use Rattle.codespan_picture.specs.declared.lane_shapes.Shape.TheVariants.{Space, Bar, TopCorner}
+use Rattle.codespan_picture.specs.declared.lane_shapes.Shape.TheVariants.{BottomCorner}
+use Rattle.codespan_picture.specs.{caret_for, char_metrics, metrics_then, width_at, underline_char}
+use Rattle.codespan_picture.specs.{crossing_characters, label_glyph, lane_characters, Line, Row}
+use Rattle.codespan_picture.specs.{HeaderRow, SnippetStartRow, SourceRow, CaretRow, HangingRow}
+use Rattle.codespan_picture.specs.{UnderlineRow, FirstNoteRow, LaterNoteRow, source_glyph}
+use Rattle.codespan_picture.specs.{start_caret, end_caret, StreamIsUtf8, CharsAreScalars}
 use Rattle.codespan_picture.proofs.StreamTexts.{pieces, text-both, text-glyph, text-spaces}
 
 -- ---- lanes
@@ -40,7 +35,8 @@ module _ (chars : Chars) (ok : CharsAreScalars chars) where
       → StreamIsUtf8 (crossing_characters severity chars crossing n)
   unfolding crossing_characters
   text-crossing_characters severity None n = text-spaces n
-  text-crossing_characters severity (Some m) n = search (pieces, scalar-underline_char m.multi_label)
+  text-crossing_characters severity (Some m) n = search
+      (pieces, scalar-underline_char m.multi_label)
 
   pub text-lane_characters : (severity : Severity) (crossing : Option LaneMark) (style : LabelStyle)
       (shape : Shape)

@@ -1,16 +1,26 @@
 -- For `lanes_are_shown`: what a row shows in each lane is what its stream has there.
-use Rattle.std.proofs.Common.{◌≡◌, ℕ, [], ◌++◌, flat_map, Option, None, refl, sym, ap, subst, ◌∙◌, append-nil, append_assoc}
+use Rattle.codespan_core.proofs.Std.{◌≡◌, ℕ, [], ◌++◌, flat_map, Option, None, refl, sym, ap, subst}
+use Rattle.codespan_core.proofs.Std.{◌∙◌, append-nil, append_assoc, range_with_len}
 use Rattle.std.proofs.lemmas.Option.{none-some, same_Some}
-use Rattle.std.specs.List.{range_with_len}
 use Rattle.codespan_core.specs.Labels.{LabelModel, LaneMark, MultiLabel}
 use Rattle.codespan_core.specs.Streams.{Stream, style_mark, space}
 use Rattle.codespan_core.specs.declared.term.config.style_mark.StyleMark.TheVariants.{Label, Reset}
 use Rattle.codespan_picture.specs.declared.lane_shapes.Shape.{Shape}
-use Rattle.codespan_picture.specs.Lanes.{Source, EmptyOrBreak, SingleLabels, Underline, row_shape, row_crossing, source_shape, empty_or_break_shape, single_labels_shape, lane_mark_in, shape_of, style_of_lane_mark, lane_characters}
-use Rattle.codespan_picture.specs.Rows.{RowContext, Lanes, Line, Row, HeaderRow, SnippetStartRow, EmptyRow, BreakRow, SourceRow, CaretRow, PointerRow, HangingRow, UnderlineRow, FirstNoteRow, LaterNoteRow, FinalRow, trailing_label}
-use Rattle.codespan_picture.specs.RowParts.{outer_gutter, outer_gutter_number, border_left, border_left_break, label_message, inner_gutter_column, lanes_in, inner_gutter, line_metrics, line_metrics_to_end, leading_of, colored_text, carets, trailing_message, pointers, metrics_before, underline}
-use Rattle.codespan_picture.specs.RowStreams.{stream_of, empty_row, break_row, source_row, row_start, caret_row, pointer_row, hanging_row, underline_row}
-use Rattle.codespan_picture.specs.LaneLaws.{lanes_shown, before_lanes, ShowsLanes, LanesAreShown}
+use Rattle.codespan_picture.specs.{Source, EmptyOrBreak, SingleLabels, Underline, row_shape}
+use Rattle.codespan_picture.specs.{row_crossing, source_shape, empty_or_break_shape}
+use Rattle.codespan_picture.specs.{single_labels_shape, lane_mark_in, shape_of, style_of_lane_mark}
+use Rattle.codespan_picture.specs.{lane_characters, RowContext, Line, Row, HeaderRow}
+use Rattle.codespan_picture.specs.{SnippetStartRow, EmptyRow, BreakRow, SourceRow, CaretRow}
+use Rattle.codespan_picture.specs.{PointerRow, HangingRow, UnderlineRow, FirstNoteRow, LaterNoteRow}
+use Rattle.codespan_picture.specs.{FinalRow, trailing_label, outer_gutter, outer_gutter_number}
+use Rattle.codespan_picture.specs.{border_left, border_left_break, label_message}
+use Rattle.codespan_picture.specs.{inner_gutter_column, lanes_in, inner_gutter, line_metrics}
+use Rattle.codespan_picture.specs.{line_metrics_to_end, leading_of, colored_text, carets}
+use Rattle.codespan_picture.specs.{trailing_message, pointers, metrics_before, underline, stream_of}
+use Rattle.codespan_picture.specs.{empty_row, break_row, source_row, row_start, caret_row}
+use Rattle.codespan_picture.specs.{pointer_row, hanging_row, underline_row, lanes_shown}
+use Rattle.codespan_picture.specs.{before_lanes, ShowsLanes, LanesAreShown}
+use Rattle.codespan_picture.specs.Rows.{Lanes}
 
 -- ---- lanes
 

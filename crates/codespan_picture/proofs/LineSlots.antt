@@ -1,16 +1,21 @@
 -- For `messages_appear_once`: sums over the rows of a line, for the slots of each label's message.
-use Rattle.std.proofs.Common.{◌≡◌, ℕ, ◌+◌, ◌-◌, Bool, true, false, not, cond, ◌&&◌, ◌==◌, nat_lt, List, [], ◌∷◌, ◌++◌, map, filter, filter_map, reverse, Option, Some, None, if◌then◌else◌, refl, sym, ap, ◌∙◌, arith}
-use Rattle.std.specs.Prelude.{sum_by, flat_map}
-use Rattle.std.specs.List.{enumerate_from, cons_option}
-use Rattle.std.proofs.lemmas.Bool.Decides.{nat_tests}
-use Rattle.std.proofs.lemmas.List.Sums.{sum_by-cons, sum_by-append}
-use Rattle.std.proofs.lemmas.List.Sorted.{sum_by-IsPermutation, IsPermutation-reverse}
+use Rattle.codespan_core.proofs.Std.{◌≡◌, ℕ, ◌+◌, ◌-◌, Bool, true, false, not, cond, ◌&&◌, ◌==◌}
+use Rattle.codespan_core.proofs.Std.{nat_lt, List, [], ◌∷◌, ◌++◌, map, filter, filter_map, reverse}
+use Rattle.codespan_core.proofs.Std.{Option, Some, None, if◌then◌else◌, refl, sym, ap, ◌∙◌, arith}
+use Rattle.codespan_core.proofs.Std.{sum_by, flat_map, enumerate_from, cons_option, nat_tests}
+use Rattle.codespan_core.proofs.Std.{sum_by-cons, sum_by-append, sum_by-IsPermutation}
+use Rattle.std.proofs.lemmas.List.Sorted.{IsPermutation-reverse}
 use Rattle.codespan_core.specs.FileModel.{FileModel, line_start}
 use Rattle.codespan_core.specs.Streams.{Stream}
-use Rattle.codespan_core.specs.Labels.{LabelModel, has_message, is_empty_stream, LaneMark, MultiLabel, Top, Left, Bottom, first_line, last_line, is_single, drawn_label, multi_line_labels, range_precedes, insert_sorted, sorted, single_labels, multi_label_on, lane_mark_of}
-use Rattle.codespan_picture.specs.CharMetrics.{leading_whitespace}
-use Rattle.codespan_picture.specs.Rows.{Line, SourceRow, CaretRow, PointerRow, HangingRow, UnderlineRow, trailing_label, hanging_labels, has_underline, caret_rows, pointer_and_hanging_rows, underline_rows, rows_of}
-use Rattle.codespan_picture.specs.Snippets.{LabeledFileModel, line_at}
+use Rattle.codespan_core.specs.Labels.{LabelModel, has_message, is_empty_stream, LaneMark}
+use Rattle.codespan_core.specs.Labels.{MultiLabel, Top, Left, Bottom, first_line, last_line}
+use Rattle.codespan_core.specs.Labels.{is_single, drawn_label, multi_line_labels, range_precedes}
+use Rattle.codespan_core.specs.Labels.{insert_sorted, sorted, single_labels, multi_label_on}
+use Rattle.codespan_core.specs.Labels.{lane_mark_of}
+use Rattle.codespan_picture.specs.{leading_whitespace, Line, SourceRow, CaretRow, PointerRow}
+use Rattle.codespan_picture.specs.{HangingRow, UnderlineRow, trailing_label, hanging_labels}
+use Rattle.codespan_picture.specs.{has_underline, caret_rows, pointer_and_hanging_rows}
+use Rattle.codespan_picture.specs.{underline_rows, rows_of, LabeledFileModel, line_at}
 use Rattle.codespan_picture.proofs.MessageLemmas.{trailing_and_hanging, weight_of}
 use Rattle.codespan_picture.proofs.SlotLemmas.{slots, slots-nil, multi_label_slots, row_slots}
 

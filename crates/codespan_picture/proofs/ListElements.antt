@@ -1,8 +1,8 @@
 -- For `lanes_join_corners`, `reordering_changes_nothing` and `outputs_are_utf8`: what holds of each
 -- element of a list.
-use Rattle.std.proofs.Common.{◌≡◌, ℕ, zero, suc, Bool, true, false, ◌&&◌, ◌||◌, cond, List, [], ◌∷◌, ◌++◌, take, drop, map, filter, refl, ap}
-use Rattle.std.specs.List.{AllByRecursion, list_any}
-use Rattle.std.proofs.lemmas.Bool.{cond_both}
+use Rattle.codespan_core.proofs.Std.{◌≡◌, ℕ, zero, suc, Bool, true, false, ◌&&◌, ◌||◌, cond, List}
+use Rattle.codespan_core.proofs.Std.{[], ◌∷◌, ◌++◌, take, drop, map, filter, refl, ap}
+use Rattle.codespan_core.proofs.Std.{AllByRecursion, list_any, cond_both}
 
 -- ---- what holds of each element
 

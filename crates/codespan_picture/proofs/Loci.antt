@@ -1,19 +1,17 @@
 -- For `stated_loci_are_loci`: lists of loci, and those with the names that files state.
-use Rattle.std.proofs.Common.{◌≡◌, ℕ, suc, Bool, List, [], ◌∷◌, ◌++◌, Option, Some, None, length, map, not, refl, sym, ap, true≢false}
-use Rattle.std.specs.Prelude.{Contains, IfSome, IsSome, unwrap_or}
-use Rattle.std.specs.List.{AllByRecursion, AllZip}
-use Rattle.std.specs.Str.{IsUtf8}
-use Rattle.std.proofs.lemmas.List.Elements.{All-contains_itself, All-weaker, recursion_from_All}
-use Rattle.std.proofs.lemmas.Str.{IsUtf8-nil}
-use Rattle.codespan_core.specs.declared.term.config.DisplayStyle.{DisplayStyle}
-use Rattle.codespan_core.specs.declared.term.config.DisplayStyle.TheVariants.{Rich, Medium, Short}
-use Rattle.codespan_core.specs.declared.diagnostic.Diagnostic.{Diagnostic}
+use Rattle.codespan_core.proofs.Std.{◌≡◌, ℕ, suc, Bool, List, [], ◌∷◌, ◌++◌, Option, Some, None}
+use Rattle.codespan_core.proofs.Std.{length, map, not, refl, sym, ap, true≢false, Contains, IfSome}
+use Rattle.codespan_core.proofs.Std.{unwrap_or, AllByRecursion, AllZip, IsUtf8, recursion_from_All}
+use Rattle.codespan_core.proofs.Std.{IsUtf8-nil}
+use Rattle.std.specs.Prelude.{IsSome}
+use Rattle.std.proofs.lemmas.List.Elements.{All-contains_itself, All-weaker}
 use Rattle.codespan_core.specs.FileModel.{FileDatabase, FileModel}
 use Rattle.codespan_core.specs.Labels.{first_seen, is_primary}
-use Rattle.codespan_picture.specs.OutputStreams.{AreLoci, IsLocus, NamesAreUtf8, label_locus_byte, labels_of, snippet_locus_byte, locus_bytes}
-use Rattle.codespan_picture.specs.Picture.{stated_loci, stated_locus}
-use Rattle.codespan_picture.specs.Rows.{Locus}
-use Rattle.codespan_picture.specs.Snippets.{LabelInFile, LabeledFileModel, file_ids, labeled_file_model, labeled_file_models, primary_of}
+use Rattle.codespan_picture.specs.Types.{DisplayStyle, Rich, Medium, Short, Diagnostic}
+use Rattle.codespan_picture.specs.{AreLoci, IsLocus, NamesAreUtf8, label_locus_byte, labels_of}
+use Rattle.codespan_picture.specs.{snippet_locus_byte, locus_bytes, stated_loci, stated_locus}
+use Rattle.codespan_picture.specs.{Locus, LabelInFile, LabeledFileModel, file_ids}
+use Rattle.codespan_picture.specs.{labeled_file_model, labeled_file_models, primary_of}
 use Rattle.codespan_picture.proofs.LaneLineLemmas.{each_map}
 use Rattle.codespan_picture.proofs.ListElements.{all-filter}
 
@@ -126,7 +124,8 @@ module _ {Id : Type 0} (same : Id → Id → Bool) (file : Id → FileModel) (xs
     (each : AllByRecursion (λ (x : LabelInFile Id). P (file x.file_id)) xs) where
   each_primary : AllByRecursion (λ (x : LabelInFile Id). P (file x.file_id)) (primary_of xs)
   each_primary =
-      all-filter (λ (x : LabelInFile Id). P (file x.file_id)) (λ (x : LabelInFile Id). is_primary x.label) xs
+      all-filter (λ (x : LabelInFile Id). P (file x.file_id))
+      (λ (x : LabelInFile Id). is_primary x.label) xs
       each
 
   each_file : AllByRecursion (λ (s : LabeledFileModel). P s.file) (labeled_file_models same file xs)

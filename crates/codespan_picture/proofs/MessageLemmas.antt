@@ -1,14 +1,15 @@
 -- For `each_message_trails_or_hangs`: each label with a message trails or hangs, and none does
 -- both.
-use Rattle.std.proofs.Common.{◌≡◌, ℕ, ◌+◌, Bool, true, false, cond, List, [], ◌∷◌, ◌++◌, filter, sum_by, Option, Some, None, if◌then◌else◌, refl, ap, ap₂, sym, not, ◌∙◌, arith}
-use Rattle.std.proofs.lemmas.Bool.{and_parts}
-use Rattle.std.proofs.lemmas.List.Elements.{filter-append}
-use Rattle.std.proofs.lemmas.List.Sums.{sum_by-cons, sum_by-append}
+use Rattle.codespan_core.proofs.Std.{◌≡◌, ℕ, ◌+◌, Bool, true, false, cond, List, [], ◌∷◌, ◌++◌}
+use Rattle.codespan_core.proofs.Std.{filter, sum_by, Option, Some, None, if◌then◌else◌, refl, ap}
+use Rattle.codespan_core.proofs.Std.{ap₂, sym, not, ◌∙◌, arith, and_parts, filter-append}
+use Rattle.codespan_core.proofs.Std.{sum_by-cons, sum_by-append}
 use Rattle.codespan_core.specs.Labels.{LabelModel, has_message}
-use Rattle.codespan_picture.specs.Carets.{max_label_end}
-use Rattle.codespan_picture.specs.TrailingLaws.{TrailsOrHangs, with_first}
-use Rattle.codespan_picture.specs.Rows.{overlaps_any, trailing_label, hanging_labels}
-use Rattle.codespan_picture.proofs.Rightmost.{Around, others, around_trails, around_rightmost, trailing_of, hanging_of, around_is, some_rightmost, trailing_is, hanging_is}
+use Rattle.codespan_picture.specs.{max_label_end, TrailsOrHangs, with_first, overlaps_any}
+use Rattle.codespan_picture.specs.{trailing_label, hanging_labels}
+use Rattle.codespan_picture.proofs.Rightmost.{Around, others, around_trails, around_rightmost}
+use Rattle.codespan_picture.proofs.Rightmost.{trailing_of, hanging_of, around_is, some_rightmost}
+use Rattle.codespan_picture.proofs.Rightmost.{trailing_is, hanging_is}
 
 -- ---- the trailing label among the hanging ones
 

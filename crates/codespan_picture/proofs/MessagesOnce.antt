@@ -1,37 +1,33 @@
 -- For `messages_appear_once`: each label's message has one slot, and with the slots filled the
 -- stream is the output.
-use Rattle.std.proofs.Common.{◌≡◌, ℕ, zero, suc, ◌+◌, ◌<◌, ◌≤◌, Bool, true, false, not, cond, ◌==◌, List, [], ◌∷◌, length, map, filter, Option, Some, None, option_map, slice_get, if◌then◌else◌, refl, sym, ap, ap₂, ◌∙◌, append-nil, arith}
-use Rattle.std.specs.Prelude.{sum_by, string_bytes}
-use Rattle.std.proofs.lemmas.Bool.Decides.{nat_tests}
-use Rattle.std.proofs.lemmas.Option.{slice_get-map}
-use Rattle.std.proofs.lemmas.List.Sums.{sum_by-cons, sum_by-le-sum_by}
-use Rattle.codespan_core.specs.declared.term.config.Config.{Config}
-use Rattle.codespan_core.specs.declared.diagnostic.Diagnostic.{Diagnostic}
-use Rattle.codespan_core.specs.declared.diagnostic.Label.{Label}
-use Rattle.codespan_core.specs.declared.diagnostic.Severity.{Severity}
+use Rattle.codespan_core.proofs.Std.{◌≡◌, ℕ, zero, suc, ◌+◌, ◌<◌, ◌≤◌, Bool, true, false, not, cond}
+use Rattle.codespan_core.proofs.Std.{◌==◌, List, [], ◌∷◌, length, map, filter, Option, Some, None}
+use Rattle.codespan_core.proofs.Std.{option_map, slice_get, if◌then◌else◌, refl, sym, ap, ap₂, ◌∙◌}
+use Rattle.codespan_core.proofs.Std.{append-nil, arith, sum_by, string_bytes, nat_tests}
+use Rattle.codespan_core.proofs.Std.{slice_get-map, sum_by-cons, IsEquivalence, option_map_or}
+use Rattle.codespan_core.proofs.Std.{AllZip, length-map}
+use Rattle.std.proofs.lemmas.List.Sums.{sum_by-le-sum_by}
 use Rattle.codespan_core.specs.FileModel.{FileDatabase, FileModel, line_count}
-use Rattle.codespan_core.specs.declared.term.config.DisplayStyle.TheVariants.{Rich}
-use Rattle.std.specs.Cmp.{IsEquivalence}
-use Rattle.std.specs.Option.{option_map_or}
-use Rattle.std.specs.List.{AllZip}
-use Rattle.std.proofs.lemmas.List.{length-map}
 use Rattle.codespan_core.specs.Streams.{Stream, Byte, Slot, byte_stream, text_of, with_messages}
-use Rattle.codespan_core.specs.Labels.{LabelModel, has_message, is_empty_stream, last_line, first_seen}
-use Rattle.codespan_picture.specs.Lines.{drawn_lines}
-use Rattle.codespan_picture.specs.Rows.{HeaderText, Locus, RowContext}
-use Rattle.codespan_picture.specs.RowStreams.{stream_of_rows}
-use Rattle.codespan_picture.specs.Snippets.{LabeledFileModel, LabelInFile, file_ids, labeled_file_model, labeled_file_models, rich_rows}
-use Rattle.codespan_picture.specs.OutputStreams.{AreLoci, IsLocus, header_text_of, label_of, labels_of, context_of, notes_of, rendered, snippet_locus_byte}
-use Rattle.codespan_picture.specs.Padding.{padding_of}
-use Rattle.codespan_picture.specs.MessageLaws.{slotted, all_slotted, message_text, slotted_output, MessagesAppearOnce}
+use Rattle.codespan_core.specs.Labels.{LabelModel, has_message, is_empty_stream, last_line}
+use Rattle.codespan_core.specs.Labels.{first_seen}
+use Rattle.codespan_picture.specs.Types.{Config, Diagnostic, Label, Severity, Rich}
+use Rattle.codespan_picture.specs.{drawn_lines, HeaderText, Locus, RowContext, stream_of_rows}
+use Rattle.codespan_picture.specs.{LabeledFileModel, LabelInFile, file_ids, labeled_file_model}
+use Rattle.codespan_picture.specs.{labeled_file_models, rich_rows, AreLoci, IsLocus, header_text_of}
+use Rattle.codespan_picture.specs.{label_of, labels_of, context_of, notes_of, rendered}
+use Rattle.codespan_picture.specs.{snippet_locus_byte, padding_of, slotted, all_slotted}
+use Rattle.codespan_picture.specs.{message_text, slotted_output, MessagesAppearOnce}
 use Rattle.codespan_picture.proofs.Loci.{zip_length}
 use Rattle.codespan_picture.proofs.Texts.{text_of-byte_stream}
 use Rattle.codespan_picture.proofs.SlotLemmas.{slots, slots-rows}
 use Rattle.codespan_picture.proofs.LineSlots.{sum-zero, sum-map, sum-filter, label_slots, on_line}
 use Rattle.codespan_picture.proofs.FileSlots.{file_slots, lines_sum, rich_sum}
-use Rattle.codespan_picture.proofs.SlotSums.{slotted_slots, slotted_from, slotted_sum, one_here, each_once}
+use Rattle.codespan_picture.proofs.SlotSums.{slotted_slots, slotted_from, slotted_sum, one_here}
+use Rattle.codespan_picture.proofs.SlotSums.{each_once}
 use Rattle.codespan_picture.proofs.RefillRows.{fill, fill-is, fill_same, keeps, fill-rows}
-use Rattle.codespan_picture.proofs.RefillPicture.{refilled_file, refilled_in, rich-refilled, padding-refilled, files-refilled}
+use Rattle.codespan_picture.proofs.RefillPicture.{refilled_file, refilled_in, rich-refilled}
+use Rattle.codespan_picture.proofs.RefillPicture.{padding-refilled, files-refilled}
 
 -- ---- a slot that no label has is in no row
 
@@ -74,12 +70,14 @@ files_zero {Id = Id} k config same file xs none =
               (filter (λ (x : LabelInFile Id). same id x.file_id) xs),
           sum-filter (λ (x : LabelInFile Id). label_slots k x.label)
               (λ (x : LabelInFile Id). same id x.file_id) xs,
-          sum_by-le-sum_by (λ (x : LabelInFile Id). cond (same id x.file_id) (label_slots k x.label) 0)
+          sum_by-le-sum_by (λ (x : LabelInFile Id). cond (same id x.file_id) (label_slots k x.label)
+              0)
               (λ (x : LabelInFile Id). label_slots k x.label) xs
               (λ x. at_most (same id x.file_id) (label_slots k x.label)),
         )
 
-none_here : {Id : Type 0} (k n j : ℕ) (xs : List (LabelInFile Id)) → n + j ≡ k → slice_get xs j ≡ None
+none_here : {Id : Type 0} (k n j : ℕ) (xs : List (LabelInFile Id)) → n + j ≡ k
+    → slice_get xs j ≡ None
     → slotted_sum k (slotted_from k n xs) ≡ 0
 none_here k n j [] at h = refl
 none_here k n zero (y ∷ ys) at h = cc
@@ -212,7 +210,8 @@ filled_output {Id = Id} renderer_config view_config same file severity header_te
     (rich_rows view_config header_text loci (map (refilled_file φ) ss) notes))
     (sym (padding-refilled φ kept view_config ss))
     ∙ ap (λ ts. rendered Rich renderer_config view_config severity header_text loci ts notes)
-    (sym (files-refilled φ kept same file (all_slotted xs)) ∙ ap (labeled_file_models same file) whole)
+    (sym (files-refilled φ kept same file (all_slotted xs)) ∙ ap (labeled_file_models same file)
+    whole)
   where
     ss : List LabeledFileModel
     ss = labeled_file_models same file (all_slotted xs)

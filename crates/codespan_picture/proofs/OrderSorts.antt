@@ -1,16 +1,17 @@
 -- For `sorted_is_stable_sort` and `reordering_changes_nothing`: the order of a line's labels. Only
 -- the order of the labels of each range counts, and is kept.
-use mathlib.Core.Path.{fun_ext}
-use Rattle.std.proofs.Common.{◌≡◌, ℕ, Bool, true, false, ◌==◌, ◌&&◌, cond, List, [], ◌∷◌, filter, ⊎_elim, refl, sym, ap, subst, ◌∙◌, arith}
-use Rattle.std.proofs.lemmas.Bool.{both_ways, cases_Bool, cond_both, eq-eqb, false_from_ne_true}
-use Rattle.std.proofs.lemmas.Bool.Decides.{nat_tests}
-use Rattle.std.proofs.lemmas.List.Sorted.{IsPermutation-refl, IsPermutation-trans, IsPermutation-insert, IsPermutation-cons}
-use Rattle.std.specs.Cmp.{IsStrictWeakOrder}
-use Rattle.std.specs.List.{AllByRecursion}
-use Rattle.std.specs.List.Sorted.{IsPermutation, IsStableBy, ties}
-use Rattle.codespan_core.specs.declared.diagnostic.LabelStyle.TheVariants.{Primary}
+use Rattle.codespan_core.proofs.Std.{◌≡◌, ℕ, Bool, true, false, ◌==◌, ◌&&◌, cond, List, [], ◌∷◌}
+use Rattle.codespan_core.proofs.Std.{filter, ⊎_elim, refl, sym, ap, subst, ◌∙◌, arith, cases_Bool}
+use Rattle.codespan_core.proofs.Std.{cond_both, eq-eqb, nat_tests, IsPermutation-refl}
+use Rattle.codespan_core.proofs.Std.{IsPermutation-trans, IsPermutation-cons, IsStrictWeakOrder}
+use Rattle.codespan_core.proofs.Std.{AllByRecursion, IsPermutation}
+use Rattle.std.proofs.lemmas.Bool.{both_ways, false_from_ne_true}
+use Rattle.std.proofs.lemmas.List.Sorted.{IsPermutation-insert}
+use Rattle.std.specs.List.Sorted.{IsStableBy, ties}
 use Rattle.codespan_core.specs.Labels.{LabelModel, range_precedes, insert_sorted, sorted}
-use Rattle.codespan_picture.specs.SortLaws.{SortedIsStableSort}
+use Rattle.codespan_picture.specs.Types.{Primary}
+use Rattle.codespan_picture.specs.{SortedIsStableSort}
+use mathlib.Core.Path.{fun_ext}
 use Rattle.codespan_picture.proofs.ListElements.{all-weaker, filter-nothing}
 use Rattle.codespan_picture.proofs.SortedLists.{Rises, rises-from_sorted, sorted_from_rises}
 

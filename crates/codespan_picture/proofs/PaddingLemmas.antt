@@ -1,22 +1,19 @@
 -- For `padding_fits`: the numbers of drawn lines fit the padding.
-use Rattle.std.proofs.Common.{◌≡◌, ℕ, zero, suc, ◌+◌, ◌-◌, ◌<◌, ◌≤◌, ◌/◌, ◌%◌, max, Bool, true, false, cond, ◌&&◌, ◌||◌, nat_lt, nat_le, ◌⊎◌, inl, inr, ⊎_elim, List, [], ◌∷◌, ◌++◌, map, filter, flat_map, length, refl, sym, ap, subst, ◌∙◌, arith}
-use Rattle.std.specs.Prelude.{Contains, fold, ◌==◌, if◌then◌else◌}
+use Rattle.codespan_core.proofs.Std.{◌≡◌, ℕ, zero, suc, ◌+◌, ◌-◌, ◌<◌, ◌≤◌, ◌/◌, ◌%◌, max, Bool}
+use Rattle.codespan_core.proofs.Std.{true, false, cond, ◌&&◌, ◌||◌, nat_lt, nat_le, ◌⊎◌, inl, inr}
+use Rattle.codespan_core.proofs.Std.{⊎_elim, List, [], ◌∷◌, ◌++◌, map, filter, flat_map, length}
+use Rattle.codespan_core.proofs.Std.{refl, sym, ap, subst, ◌∙◌, arith, Contains, fold, ◌==◌}
+use Rattle.codespan_core.proofs.Std.{if◌then◌else◌, range_with_len, list_any, cases_lt, and_parts}
+use Rattle.codespan_core.proofs.Std.{false≢true, nat_tests, list_any_at}
 use Rattle.std.specs.Fmt.{digits, digits_onto, digit_glyph}
-use Rattle.std.specs.List.{range_with_len, list_any}
-use Rattle.std.proofs.lemmas.Bool.{cases_lt, and_parts, false≢true}
-use Rattle.std.proofs.lemmas.Bool.Decides.{nat_tests}
-use Rattle.std.proofs.lemmas.List.Folds.{list_any_at}
-use Rattle.codespan_core.specs.declared.term.config.Config.{Config}
-use Rattle.codespan_core.specs.declared.term.config.Layout.{Layout}
-use Rattle.codespan_core.specs.declared.term.config.Layout.TheVariants.{Classic, Unbroken}
 use Rattle.codespan_core.specs.FileModel.{FileModel, line_count}
 use Rattle.codespan_core.specs.Labels.{LabelModel, first_line, last_line}
-use Rattle.codespan_picture.specs.Lanes.{is_unbroken}
-use Rattle.codespan_picture.specs.Lines.{shows, is_shown, is_drawn, drawn_lines}
-use Rattle.codespan_picture.specs.Snippets.{LabeledFileModel}
-use Rattle.codespan_picture.specs.Padding.{spans, spanned_lines, count_digits, numbered_lines, digits_of, padding_of}
-use Rattle.codespan_picture.specs.LineLaws.{NumbersAscend, PaddingFits}
 use Rattle.codespan_core.specs.Lemmas.Lines.{line_of_below}
+use Rattle.codespan_picture.specs.Types.{Config, Layout, Classic, Unbroken}
+use Rattle.codespan_picture.specs.{is_unbroken, shows, is_shown, is_drawn, drawn_lines}
+use Rattle.codespan_picture.specs.{LabeledFileModel, spans, spanned_lines, count_digits}
+use Rattle.codespan_picture.specs.{numbered_lines, digits_of, padding_of, NumbersAscend}
+use Rattle.codespan_picture.specs.{PaddingFits}
 use Rattle.codespan_picture.proofs.Greatest.{greatest-low}
 
 -- ---- a greater number has no fewer digits
@@ -266,7 +263,8 @@ padding_fits config ss given s l here c = by_layout config.layout refl
     by_layout : (v : Layout) → config.layout ≡ v
         → count_digits (s.file.line_number l) ≤ padding_of config ss
     by_layout Unbroken e =
-        let same : numbered_lines config s ≡ drawn_lines config s.file s.labels = numbered Unbroken e in
+        let same : numbered_lines config s ≡ drawn_lines config s.file s.labels = numbered Unbroken
+        e in
         numbered-fits config ss s l here (subst (λ ls. Contains ls l) (sym same) c)
     by_layout Classic e =
         let same : numbered_lines config s ≡ spanned_lines s = numbered Classic e in

@@ -1,32 +1,33 @@
 -- For `outputs_are_utf8`: the rows of an output are texts.
-use Rattle.std.proofs.Common.{◌≡◌, ℕ, ◌+◌, ◌-◌, Bool, true, false, not, ◌&&◌, ◌==◌, List, [], ◌∷◌, ◌++◌, map, filter, reverse, Option, Some, None, refl, sym, subst, ◌||◌}
-use Rattle.std.specs.Prelude.{if◌then◌else◌, IfSome, String, nat_lt, string_bytes}
-use Rattle.std.specs.List.{AllByRecursion, cons_option, enumerate_from, filter_map}
-use Rattle.std.specs.Option.{option_map}
-use Rattle.std.specs.Str.{IsUtf8}
-use Rattle.std.proofs.lemmas.Bool.{cond_both}
+use Rattle.codespan_core.proofs.Std.{◌≡◌, ℕ, ◌+◌, ◌-◌, Bool, true, false, not, ◌&&◌, ◌==◌, List, []}
+use Rattle.codespan_core.proofs.Std.{◌∷◌, ◌++◌, map, filter, reverse, Option, Some, None, refl, sym}
+use Rattle.codespan_core.proofs.Std.{subst, ◌||◌, if◌then◌else◌, IfSome, nat_lt, string_bytes}
+use Rattle.codespan_core.proofs.Std.{AllByRecursion, cons_option, enumerate_from, filter_map}
+use Rattle.codespan_core.proofs.Std.{option_map, IsUtf8, cond_both}
+use Rattle.std.specs.Prelude.{String}
 use Rattle.std.proofs.lemmas.Str.{IsUtf8-string_bytes}
-use Rattle.codespan_core.specs.declared.diagnostic.Diagnostic.{Diagnostic}
-use Rattle.codespan_core.specs.declared.diagnostic.Label.{Label}
-use Rattle.codespan_core.specs.declared.term.config.Config.{Config}
-use Rattle.codespan_core.specs.declared.term.config.DisplayStyle.{DisplayStyle}
-use Rattle.codespan_core.specs.declared.term.config.DisplayStyle.TheVariants.{Rich, Medium, Short}
 use Rattle.codespan_core.specs.FileModel.{FileDatabase, FileModel, line_text}
 use Rattle.codespan_core.specs.LawfulFiles.{IsLawful}
-use Rattle.codespan_core.specs.Labels.{LabelModel, LaneMark, Top, Left, Bottom, drawn_label, first_line, has_message, is_single, lane_mark_of, multi_line_labels, multi_label_at, multi_label_on, insert_sorted, single_labels, sorted, range_precedes}
-use Rattle.codespan_picture.specs.Lines.{drawn_lines}
-use Rattle.codespan_picture.specs.Padding.{padding_of}
-use Rattle.codespan_picture.specs.OutputStreams.{NamesAreUtf8, files_of, header_text_of, label_of, labels_of, context_of, notes_of, output, locus_bytes}
-use Rattle.codespan_picture.specs.Picture.{stated_loci, headers}
-use Rattle.codespan_picture.specs.Rows.{Line, Locus, Row, HeaderRow, EmptyRow, SourceRow, HangingRow, UnderlineRow, FinalRow, caret_rows, hanging_labels, pointer_and_hanging_rows, has_underline, rows_of, underline_rows}
-use Rattle.codespan_picture.specs.CharMetrics.{leading_whitespace}
-use Rattle.codespan_picture.specs.Carets.{max_label_end}
-use Rattle.codespan_picture.specs.Sequences.{break_between}
-use Rattle.codespan_picture.specs.Snippets.{LabelInFile, LabeledFileModel, empty_lanes, break_rows, has_any, header_rows, labeled_file_model, line_at, line_rows, note_rows, rich_rows, empty_row_after, rows_of_drawn, snippet, snippets}
+use Rattle.codespan_core.specs.Labels.{LabelModel, LaneMark, Top, Left, Bottom, drawn_label}
+use Rattle.codespan_core.specs.Labels.{first_line, has_message, is_single, lane_mark_of}
+use Rattle.codespan_core.specs.Labels.{multi_line_labels, multi_label_at, multi_label_on}
+use Rattle.codespan_core.specs.Labels.{insert_sorted, single_labels, sorted, range_precedes}
+use Rattle.codespan_picture.specs.Types.{Diagnostic, Label, Config, DisplayStyle, Rich, Medium}
+use Rattle.codespan_picture.specs.Types.{Short}
+use Rattle.codespan_picture.specs.{drawn_lines, padding_of, NamesAreUtf8, files_of, header_text_of}
+use Rattle.codespan_picture.specs.{label_of, labels_of, context_of, notes_of, output, locus_bytes}
+use Rattle.codespan_picture.specs.{stated_loci, headers, Line, Locus, Row, HeaderRow, EmptyRow}
+use Rattle.codespan_picture.specs.{SourceRow, HangingRow, UnderlineRow, FinalRow, caret_rows}
+use Rattle.codespan_picture.specs.{hanging_labels, pointer_and_hanging_rows, has_underline, rows_of}
+use Rattle.codespan_picture.specs.{underline_rows, leading_whitespace, max_label_end, break_between}
+use Rattle.codespan_picture.specs.{LabelInFile, LabeledFileModel, empty_lanes, break_rows, has_any}
+use Rattle.codespan_picture.specs.{header_rows, labeled_file_model, line_at, line_rows, note_rows}
+use Rattle.codespan_picture.specs.{rich_rows, empty_row_after, rows_of_drawn, snippet, snippets}
+use Rattle.codespan_picture.specs.{CharsAreScalars, StreamIsUtf8, OutputIsUtf8, PictureIsUtf8}
 use Rattle.codespan_picture.proofs.Sequences.{all-break, all-sequence}
-use Rattle.codespan_picture.specs.Utf8Laws.{CharsAreScalars, StreamIsUtf8, OutputIsUtf8, PictureIsUtf8}
 use Rattle.codespan_picture.proofs.LaneLineLemmas.{each_all, each_map}
-use Rattle.codespan_picture.proofs.Rightmost.{Around, others, around_trails, around_rightmost, hanging_of, around_is, hanging_is}
+use Rattle.codespan_picture.proofs.Rightmost.{Around, others, around_trails, around_rightmost}
+use Rattle.codespan_picture.proofs.Rightmost.{hanging_of, around_is, hanging_is}
 use Rattle.codespan_picture.proofs.Loci.{each_start, stated_texts}
 use Rattle.codespan_picture.proofs.StreamTexts.{text-byte_stream}
 use Rattle.codespan_picture.proofs.LaneTexts.{LineIsUtf8, MultiLabelIsUtf8, RowIsUtf8}
@@ -53,55 +54,56 @@ text_message-sorted : (xs : List LabelModel) → AllByRecursion HasTextMessage x
 text_message-sorted [] h = tt
 text_message-sorted (x ∷ xs) h = text_message-put x (sorted xs) h.0 (text_message-sorted xs h.1)
 
-module _ (f : FileModel) (labels : List LabelModel) (texts : AllByRecursion HasTextMessage labels) where
-  text_message-single : (l : ℕ) → AllByRecursion HasTextMessage (single_labels f labels l)
-  text_message-single l =
-      let own : List LabelModel = filter (λ x. is_single f x && (first_line f x == l)) labels in
-      text_message-sorted (reverse (map (drawn_label f) own))
-      (all-reverse HasTextMessage (map (drawn_label f) own)
-      (each_map HasTextMessage (drawn_label f) own
-      (all-filter HasTextMessage (λ x. is_single f x && (first_line f x == l)) labels texts)))
+module _ (f : FileModel) (labels : List LabelModel) (texts : AllByRecursion HasTextMessage labels)
+  where
+    text_message-single : (l : ℕ) → AllByRecursion HasTextMessage (single_labels f labels l)
+    text_message-single l =
+        let own : List LabelModel = filter (λ x. is_single f x && (first_line f x == l)) labels in
+        text_message-sorted (reverse (map (drawn_label f) own))
+        (all-reverse HasTextMessage (map (drawn_label f) own)
+        (each_map HasTextMessage (drawn_label f) own
+        (all-filter HasTextMessage (λ x. is_single f x && (first_line f x == l)) labels texts)))
 
-  -- the message of a multi-line label mark is that of its label
-  text_message-multi_label : (s e l start : ℕ) (x : LabelModel) (lane : ℕ) → HasTextMessage x
-      → IfSome (lane_mark_of lane x (multi_label_at s e l start x))
-      (λ m. MultiLabelIsUtf8 m.multi_label)
-  text_message-multi_label s e l start x lane t = by (s == l) (e == l) (nat_lt s l && nat_lt l e)
-    where
-      by : (a b c : Bool)
-          → IfSome
-          (lane_mark_of lane x
-          (if a then Some (Top (x.start - start))
-          else if b then Some (Bottom (x.end - start) x.message) else if c then Some Left
-          else None))
-          (λ m. MultiLabelIsUtf8 m.multi_label)
-      by true b c = tt
-      by false true c = t
-      by false false true = tt
-      by false false false = tt
+    -- the message of a multi-line label mark is that of its label
+    text_message-multi_label : (s e l start : ℕ) (x : LabelModel) (lane : ℕ) → HasTextMessage x
+        → IfSome (lane_mark_of lane x (multi_label_at s e l start x))
+        (λ m. MultiLabelIsUtf8 m.multi_label)
+    text_message-multi_label s e l start x lane t = by (s == l) (e == l) (nat_lt s l && nat_lt l e)
+      where
+        by : (a b c : Bool)
+            → IfSome
+            (lane_mark_of lane x
+            (if a then Some (Top (x.start - start))
+            else if b then Some (Bottom (x.end - start) x.message) else if c then Some Left
+            else None))
+            (λ m. MultiLabelIsUtf8 m.multi_label)
+        by true b c = tt
+        by false true c = t
+        by false false true = tt
+        by false false false = tt
 
-  text_message-lane_marks : (l k : ℕ) (xs : List LabelModel) → AllByRecursion HasTextMessage xs
-      → AllByRecursion (λ (m : LaneMark). MultiLabelIsUtf8 m.multi_label)
-      (filter_map
-      (λ (entry : ℕ × LabelModel). lane_mark_of entry.0 entry.1 (multi_label_on f l entry.1))
-      (enumerate_from k xs))
-  text_message-lane_marks l k [] h = tt
-  text_message-lane_marks l k (x ∷ xs) h =
-      by (lane_mark_of k x (multi_label_on f l x)) (text_message-multi_label _ _ l _ x k h.0)
-      (text_message-lane_marks l (k + 1) xs h.1)
-    where
-      by : (o : Option LaneMark) → IfSome o (λ m. MultiLabelIsUtf8 m.multi_label)
-          → AllByRecursion (λ (m : LaneMark). MultiLabelIsUtf8 m.multi_label)
-          (filter_map
-          (λ (entry : ℕ × LabelModel). lane_mark_of entry.0 entry.1 (multi_label_on f l entry.1))
-          (enumerate_from (k + 1) xs))
-          → AllByRecursion (λ (m : LaneMark). MultiLabelIsUtf8 m.multi_label)
-          (cons_option o
-          (filter_map
-          (λ (entry : ℕ × LabelModel). lane_mark_of entry.0 entry.1 (multi_label_on f l entry.1))
-          (enumerate_from (k + 1) xs)))
-      by None t rest = rest
-      by (Some m) t rest = (t, rest)
+    text_message-lane_marks : (l k : ℕ) (xs : List LabelModel) → AllByRecursion HasTextMessage xs
+        → AllByRecursion (λ (m : LaneMark). MultiLabelIsUtf8 m.multi_label)
+        (filter_map
+        (λ (entry : ℕ × LabelModel). lane_mark_of entry.0 entry.1 (multi_label_on f l entry.1))
+        (enumerate_from k xs))
+    text_message-lane_marks l k [] h = tt
+    text_message-lane_marks l k (x ∷ xs) h =
+        by (lane_mark_of k x (multi_label_on f l x)) (text_message-multi_label _ _ l _ x k h.0)
+        (text_message-lane_marks l (k + 1) xs h.1)
+      where
+        by : (o : Option LaneMark) → IfSome o (λ m. MultiLabelIsUtf8 m.multi_label)
+            → AllByRecursion (λ (m : LaneMark). MultiLabelIsUtf8 m.multi_label)
+            (filter_map
+            (λ (entry : ℕ × LabelModel). lane_mark_of entry.0 entry.1 (multi_label_on f l entry.1))
+            (enumerate_from (k + 1) xs))
+            → AllByRecursion (λ (m : LaneMark). MultiLabelIsUtf8 m.multi_label)
+            (cons_option o
+            (filter_map
+            (λ (entry : ℕ × LabelModel). lane_mark_of entry.0 entry.1 (multi_label_on f l entry.1))
+            (enumerate_from (k + 1) xs)))
+        by None t rest = rest
+        by (Some m) t rest = (t, rest)
 
 -- ---- the rows of a line
 
@@ -109,7 +111,8 @@ text_message-hanging_labels : (labels : List LabelModel) → AllByRecursion HasT
     → AllByRecursion HasTextMessage (hanging_labels labels)
 text_message-hanging_labels [] h = tt
 text_message-hanging_labels (x ∷ xs) h =
-    subst (AllByRecursion HasTextMessage) (sym (hanging_is (x ∷ xs))) (by (around_rightmost (x ∷ xs)) refl)
+    subst (AllByRecursion HasTextMessage) (sym (hanging_is (x ∷ xs)))
+    (by (around_rightmost (x ∷ xs)) refl)
   where
     around : (before : List LabelModel) (y : LabelModel) (after : List LabelModel)
         → AllByRecursion HasTextMessage (before ++ (y ∷ after))
@@ -121,7 +124,8 @@ text_message-hanging_labels (x ∷ xs) h =
         → AllByRecursion HasTextMessage (hanging_of (x ∷ xs) r)
     by None is = tt
     by (Some a) is =
-        cond_both (around_trails a) (others a) (x ∷ xs) (λ ys. AllByRecursion HasTextMessage (filter has_message ys))
+        cond_both (around_trails a) (others a) (x ∷ xs)
+        (λ ys. AllByRecursion HasTextMessage (filter has_message ys))
         (λ _. all-filter HasTextMessage has_message (others a)
         (around a.before a.here a.after
         (subst (AllByRecursion HasTextMessage)
@@ -129,7 +133,8 @@ text_message-hanging_labels (x ∷ xs) h =
         (λ _. all-filter HasTextMessage has_message (x ∷ xs) h)
 
 rows-hanging_labels : (line : Line) (labels : List LabelModel)
-    → AllByRecursion HasTextMessage labels → AllByRecursion RowIsUtf8 (pointer_and_hanging_rows line labels)
+    → AllByRecursion HasTextMessage labels
+    → AllByRecursion RowIsUtf8 (pointer_and_hanging_rows line labels)
 rows-hanging_labels line [] h = tt
 rows-hanging_labels line (x ∷ xs) h = (
   tt,
@@ -151,7 +156,8 @@ rows-line line t =
     (all-append RowIsUtf8 (SourceRow line ∷ caret_rows line line.labels)
     (pointer_and_hanging_rows line (hanging_labels line.labels))
     (t.text, rows-caret line line.labels t.labels)
-    (rows-hanging_labels line (hanging_labels line.labels) (text_message-hanging_labels line.labels t.labels)))
+    (rows-hanging_labels line (hanging_labels line.labels)
+    (text_message-hanging_labels line.labels t.labels)))
     (each_map RowIsUtf8 (UnderlineRow line) (filter test line.lanes.lane_marks)
     (all-filter (λ (m : LaneMark). MultiLabelIsUtf8 m.multi_label) test line.lanes.lane_marks
     t.lane_marks))
@@ -176,15 +182,18 @@ module _ (s : LabeledFileModel) (ok : FileIsUtf8 s) where
   rows-lines : (previous : Option ℕ) (ls : List ℕ)
       → AllByRecursion RowIsUtf8 (rows_of_drawn s previous ls)
   rows-lines previous ls =
-      all-sequence RowIsUtf8 (λ l. l) (break_between (break_rows (line_at s))) (line_rows (line_at s))
-      (all-break RowIsUtf8 (break_rows (line_at s)) (λ d. (tt, tt))) (λ l. rows-line (line_at s l) (line-text l)) previous ls
+      all-sequence RowIsUtf8 (λ l. l) (break_between (break_rows (line_at s)))
+      (line_rows (line_at s))
+      (all-break RowIsUtf8 (break_rows (line_at s)) (λ d. (tt, tt)))
+      (λ l. rows-line (line_at s l) (line-text l)) previous ls
 
   rows-snippet_and_after : (config : Config) (followed : Bool) (at : Locus) → IsUtf8 at.name
       → AllByRecursion RowIsUtf8 (snippet config at s ++ empty_row_after followed s)
   rows-snippet_and_after config followed at u =
       all-append RowIsUtf8 (snippet config at s) (empty_row_after followed s)
       (u, (tt, rows-lines None (drawn_lines config s.file s.labels)))
-      (cond_both followed (EmptyRow (empty_lanes s) ∷ []) [] (AllByRecursion RowIsUtf8) (λ _. (tt, tt)) (λ _. tt))
+      (cond_both followed (EmptyRow (empty_lanes s) ∷ []) [] (AllByRecursion RowIsUtf8)
+      (λ _. (tt, tt)) (λ _. tt))
 
 rows-snippets : (config : Config) (has_notes : Bool) (loci : List Locus)
     (ss : List LabeledFileModel)
@@ -193,8 +202,10 @@ rows-snippets : (config : Config) (has_notes : Bool) (loci : List Locus)
 rows-snippets config has_notes [] ss named ok = tt
 rows-snippets config has_notes (p ∷ ps) [] named ok = tt
 rows-snippets config has_notes (p ∷ ps) (s ∷ ss) named ok =
-    all-append RowIsUtf8 (snippet config p s ++ empty_row_after (has_any ss || has_notes) s) (snippets config has_notes ps ss)
-    (rows-snippet_and_after s ok.0 config (has_any ss || has_notes) p named.0) (rows-snippets config has_notes ps ss named.1 ok.1)
+    all-append RowIsUtf8 (snippet config p s ++ empty_row_after (has_any ss || has_notes) s)
+    (snippets config has_notes ps ss)
+    (rows-snippet_and_after s ok.0 config (has_any ss || has_notes) p named.0)
+    (rows-snippets config has_notes ps ss named.1 ok.1)
 
 -- ---- a diagnostic
 
@@ -202,7 +213,8 @@ code-utf8 : {Z : Type 0} (code : Option (String Z)) → IfSome (option_map strin
 code-utf8 None = tt
 code-utf8 (Some s) = IsUtf8-string_bytes s
 
-module _ {Id : Type 0} (files : FileDatabase Id) (d : Diagnostic Id) (lawful : (id : Id) → IsLawful (files.file id)) where
+module _ {Id : Type 0} (files : FileDatabase Id) (d : Diagnostic Id)
+    (lawful : (id : Id) → IsLawful (files.file id)) where
   text_message-labels : (ls : List (Label Id))
       → AllByRecursion (λ (x : LabelInFile Id). HasTextMessage x.label) (map label_of ls)
   text_message-labels ls = each_map (λ (x : LabelInFile Id). HasTextMessage x.label) label_of ls
@@ -212,7 +224,8 @@ module _ {Id : Type 0} (files : FileDatabase Id) (d : Diagnostic Id) (lawful : (
   text-file : (id : Id) → FileIsUtf8 (labeled_file_model files.same files.file (labels_of d) id)
   text-file id = record {
     lawful = lawful id;
-    labels = each_map HasTextMessage (λ (x : LabelInFile Id). x.label) (filter (λ (x : LabelInFile Id). files.same id x.file_id) (labels_of d))
+    labels = each_map HasTextMessage (λ (x : LabelInFile Id). x.label)
+        (filter (λ (x : LabelInFile Id). files.same id x.file_id) (labels_of d))
         (all-filter (λ (x : LabelInFile Id). HasTextMessage x.label)
         (λ (x : LabelInFile Id). files.same id x.file_id) (labels_of d)
         (text_message-labels d.labels.items));
@@ -239,10 +252,14 @@ module _ {Id : Type 0} (files : FileDatabase Id) (d : Diagnostic Id) (lawful : (
       → AllByRecursion RowIsUtf8
       (rich_rows view_config (header_text_of d) loci (files_of files d) (notes_of d))
   rows-rich view_config loci named =
-      let first : List Row = HeaderRow None (header_text_of d) ∷ snippets view_config (has_any (notes_of d)) loci (files_of files d) in
+      let first : List Row = HeaderRow None (header_text_of d)
+      ∷ snippets view_config (has_any (notes_of d)) loci (files_of files d) in
       all-append RowIsUtf8 (first ++ note_rows (notes_of d)) (FinalRow ∷ [])
-      (all-append RowIsUtf8 first (note_rows (notes_of d))
-      (rows-header_text None tt, rows-snippets view_config (has_any (notes_of d)) loci (files_of files d) named text-files)
+      (all-append RowIsUtf8 first (note_rows (notes_of d)) (
+        rows-header_text None tt,
+        rows-snippets view_config (has_any (notes_of d)) loci
+            (files_of files d) named text-files,
+      )
       (rows-notes (notes_of d) text-notes))
       (tt, tt)
 
@@ -262,19 +279,24 @@ module _ {Id : Type 0} (files : FileDatabase Id) (d : Diagnostic Id) (lawful : (
       → (loci : List Locus) → NamesAreUtf8 loci
       → StreamIsUtf8 (output style renderer_config view_config files d loci)
   text-output Rich renderer_config view_config ok loci named =
-      text-rows (context_of renderer_config d.severity (padding_of view_config (files_of files d))) ok
+      text-rows (context_of renderer_config d.severity (padding_of view_config (files_of files d)))
+      ok
       (rich_rows view_config (header_text_of d) loci (files_of files d) (notes_of d))
       (rows-rich view_config loci named)
   text-output Medium renderer_config view_config ok loci named =
-      text-rows (context_of renderer_config d.severity 0) ok (header_rows (header_text_of d) loci ++ note_rows (notes_of d))
+      text-rows (context_of renderer_config d.severity 0) ok
+      (header_rows (header_text_of d) loci ++ note_rows (notes_of d))
       (all-append RowIsUtf8 (header_rows (header_text_of d) loci) (note_rows (notes_of d))
       (rows-header_rows loci named) (rows-notes (notes_of d) text-notes))
   text-output Short renderer_config view_config ok loci named =
-      text-rows (context_of renderer_config d.severity 0) ok (header_rows (header_text_of d) loci) (rows-header_rows loci named)
+      text-rows (context_of renderer_config d.severity 0) ok (header_rows (header_text_of d) loci)
+      (rows-header_rows loci named)
 
-module _ {Id : Type 0} (style : DisplayStyle) (renderer_config view_config : Config) (files : FileDatabase Id) (d : Diagnostic Id) where
+module _ {Id : Type 0} (style : DisplayStyle) (renderer_config view_config : Config)
+    (files : FileDatabase Id) (d : Diagnostic Id) where
   pub output_is_utf8 : OutputIsUtf8 style renderer_config view_config files d
-  output_is_utf8 ok lawful loci named = text-output files d lawful style renderer_config view_config ok loci named
+  output_is_utf8 ok lawful loci named = text-output files d lawful style renderer_config view_config
+      ok loci named
 
   -- and so is the picture
   pub picture_is_utf8 : PictureIsUtf8 style renderer_config view_config files d
@@ -282,4 +304,5 @@ module _ {Id : Type 0} (style : DisplayStyle) (renderer_config view_config : Con
       text-output files d lawful style renderer_config view_config ok (stated_loci files d style)
       (stated_texts (locus_bytes files.same files.file (labels_of d) style)
       (each_start files.same files.file (labels_of d) (λ (f : FileModel). IfSome f.name IsUtf8)
-      (each_all (λ (x : LabelInFile Id). IfSome (files.file x.file_id).name IsUtf8) (labels_of d) (λ x. named x.file_id)) style))
+      (each_all (λ (x : LabelInFile Id). IfSome (files.file x.file_id).name IsUtf8) (labels_of d)
+      (λ x. named x.file_id)) style))

@@ -1,17 +1,16 @@
 -- For `Messages::of`, `write_pointer_and_hanging_rows` and `write_hanging_rows`: prefixes and
 -- suffixes of the labels of a line.
-use Rattle.std.proofs.Common.{◌≡◌, ℕ, ◌-◌, ◌≤◌, max, List, [], ◌∷◌, ◌++◌, length, length-drop, take, drop, fold, sym, ap, ◌∙◌, arith}
-use Rattle.std.proofs.Math.Seq.{take-length}
+use Rattle.codespan_core.proofs.Std.{◌≡◌, ℕ, ◌-◌, ◌≤◌, max, List, [], ◌∷◌, ◌++◌, length}
+use Rattle.codespan_core.proofs.Std.{length-drop, take, drop, fold, sym, ap, ◌∙◌, arith}
+use Rattle.codespan_core.proofs.Std.{take-length, map-append, take-append-drop, fold-append}
 use Rattle.std.proofs.Math.Logic.{∥∥₁_elim}
 use Rattle.std.proofs.Props.{props}
-use Rattle.std.proofs.lemmas.List.{map-append, take-append-drop}
-use Rattle.std.proofs.lemmas.List.Sums.{fold-append}
-use Rattle.codespan_core.specs.Labels.{LabelModel}
-use Rattle.codespan_picture.specs.Arguments.{SingleLabelTuple, single_label_view, single_label_views}
-use Rattle.codespan_picture.specs.RowParts.{max_label_start}
-use Rattle.codespan_picture.proofs.HangingStarts.{fold_start-le}
-use Rattle.codespan_picture.specs.Private.RowLabels.{ArePrefixAndSuffix}
 use Rattle.std.specs.List.{push}
+use Rattle.codespan_core.specs.Labels.{LabelModel}
+use Rattle.codespan_picture.specs.{SingleLabelTuple, single_label_view, single_label_views}
+use Rattle.codespan_picture.specs.{max_label_start}
+use Rattle.codespan_picture.specs.Private.{ArePrefixAndSuffix}
+use Rattle.codespan_picture.proofs.HangingStarts.{fold_start-le}
 
 -- the elements before an index of a list and those from there on make the list
 pub taken-dropped : {X : Type 0} (n : ℕ) (xs : List X)

@@ -1,29 +1,23 @@
 -- For `plain_from` and `write_text`: text of a line that is rendered unchanged.
-use Rattle.std.proofs.Common.{◌≡◌, ℕ, ◌+◌, ◌-◌, ◌<◌, ◌≤◌, Option, length, take, drop, length-append, length-drop, append_assoc, append-nil, arith, ◌++◌, Bool, true, false, ◌&&◌, ◌||◌, ◌==◌, List, [], ◌∷◌, None, refl, sym, ap, ◌∙◌}
-use Rattle.std.specs.Char.{encode_utf8, len_utf8}
-use Rattle.std.specs.Prelude.{filter}
-use Rattle.std.specs.List.{list_any}
-use Rattle.std.specs.Str.{IsUtf8}
-use Rattle.std.proofs.lemmas.Bool.{false≢true, ne_eqb}
-use Rattle.std.proofs.lemmas.List.Folds.{list_any-append}
-use Rattle.std.proofs.Math.Seq.{take-length}
-use Rattle.std.proofs.lemmas.List.{drop-drop, take-append-drop}
-use Rattle.std.proofs.lemmas.Str.{length-encode, len_utf8_bounds}
-use lib.Utf8.{encodes}
+use Rattle.codespan_core.proofs.Std.{◌≡◌, ℕ, ◌+◌, ◌-◌, ◌<◌, ◌≤◌, Option, length, take, drop}
+use Rattle.codespan_core.proofs.Std.{length-append, length-drop, append_assoc, append-nil, arith}
+use Rattle.codespan_core.proofs.Std.{◌++◌, Bool, true, false, ◌&&◌, ◌||◌, ◌==◌, List, [], ◌∷◌, None}
+use Rattle.codespan_core.proofs.Std.{refl, sym, ap, ◌∙◌, encode_utf8, len_utf8, filter, list_any}
+use Rattle.codespan_core.proofs.Std.{IsUtf8, false≢true, ne_eqb, list_any-append, take-length}
+use Rattle.codespan_core.proofs.Std.{drop-drop, take-append-drop, length-encode, len_utf8_bounds}
 use Rattle.codespan_core.specs.Labels.{LabelModel, is_primary}
 use Rattle.codespan_core.specs.Streams.{byte_stream, glyph}
-use Rattle.codespan_core.proofs.Writes.{byte_stream-append}
-use Rattle.codespan_picture.specs.declared.char_metrics.Metrics.{Metrics}
-use Rattle.codespan_picture.specs.Carets.{covers, max_label_end}
-use Rattle.codespan_picture.specs.Types.{LabelStyle, Primary}
-use Rattle.codespan_picture.proofs.CaretEnds.{style_under-below}
+use Rattle.codespan_picture.specs.Types.{Metrics}
+use Rattle.codespan_picture.specs.{covers, max_label_end, LabelStyle, Primary, metrics_then}
+use Rattle.codespan_picture.specs.{width_at, Line, RowContext, style_change, colored_text}
+use Rattle.codespan_picture.specs.{source_glyph, source_style, styled}
 use Rattle.codespan_picture.specs.declared.rows.primary_cover.PrimaryCover.{PrimaryCover}
-use Rattle.codespan_picture.specs.Private.PrimaryCover.{CoversAsLaneMarks, covers_char}
+use Rattle.codespan_picture.specs.Private.{CoversAsLaneMarks, covers_char}
+use lib.Utf8.{encodes}
+use Rattle.codespan_core.proofs.Writes.{byte_stream-append}
+use Rattle.codespan_picture.proofs.CaretEnds.{style_under-below}
 use Rattle.codespan_picture.proofs.RowEquations.{style_change-same}
 use Rattle.codespan_picture.proofs.TextRuns.{IsOver, over-start, text-end, text-start, text_rest}
-use Rattle.codespan_picture.specs.CharMetrics.{metrics_then, width_at}
-use Rattle.codespan_picture.specs.Rows.{Line, RowContext}
-use Rattle.codespan_picture.specs.RowParts.{style_change, colored_text, source_glyph, source_style, styled}
 
 -- two tests that both failed
 or_parts : (a b : Bool) → (a || b) ≡ false → (a ≡ false) × (b ≡ false)

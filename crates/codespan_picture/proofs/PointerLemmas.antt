@@ -1,22 +1,17 @@
 -- For `pointers_are_cells`: pointers are in the first cells of the characters in which hanging
 -- labels start.
-use Rattle.std.proofs.Common.{◌≡◌, ℕ, zero, suc, ◌+◌, ◌-◌, ◌<◌, ◌≤◌, Bool, true, false, ◌&&◌, ◌==◌, cond, nat_lt, nat_le, List, [], ◌∷◌, ◌++◌, map, filter, flat_map, replicate, refl, ap, ap₂, ◌∙◌, arith, ⊎_elim}
-use Rattle.std.specs.Prelude.{if◌then◌else◌, Contains}
-use Rattle.std.specs.List.{range_with_len, list_any}
-use Rattle.std.proofs.lemmas.Bool.{or_cases}
-use Rattle.std.proofs.lemmas.Bool.Decides.{nat_tests}
-use Rattle.std.proofs.lemmas.List.{map-append}
-use Rattle.std.proofs.lemmas.List.Sums.{sum_by-cons}
-use Rattle.std.proofs.lemmas.List.Folds.{list_any_at}
+use Rattle.codespan_core.proofs.Std.{◌≡◌, ℕ, zero, suc, ◌+◌, ◌-◌, ◌<◌, ◌≤◌, Bool, true, false, ◌&&◌}
+use Rattle.codespan_core.proofs.Std.{◌==◌, cond, nat_lt, nat_le, List, [], ◌∷◌, ◌++◌, map, filter}
+use Rattle.codespan_core.proofs.Std.{flat_map, replicate, refl, ap, ap₂, ◌∙◌, arith, ⊎_elim}
+use Rattle.codespan_core.proofs.Std.{if◌then◌else◌, Contains, range_with_len, list_any, or_cases}
+use Rattle.codespan_core.proofs.Std.{nat_tests, map-append, sum_by-cons, list_any_at}
 use Rattle.std.proofs.Math.Bool.{and-false}
-use Rattle.codespan_core.specs.declared.term.config.chars.Chars.{Chars}
 use Rattle.codespan_core.specs.Labels.{LabelModel}
-use Rattle.codespan_picture.specs.declared.char_metrics.Metrics.{Metrics}
-use Rattle.codespan_picture.specs.CharMetrics.{width_of}
-use Rattle.codespan_picture.specs.CaretLaws.{points_at}
-use Rattle.codespan_picture.specs.Rows.{hanging_labels}
-use Rattle.codespan_picture.specs.RowParts.{starts_in, max_label_start, metrics_before}
-use Rattle.codespan_picture.proofs.CaretLemmas.{range_with_len-append, map-range_with_len, map-constant}
+use Rattle.codespan_picture.specs.Types.{Chars, Metrics}
+use Rattle.codespan_picture.specs.{width_of, points_at, hanging_labels, starts_in, max_label_start}
+use Rattle.codespan_picture.specs.{metrics_before}
+use Rattle.codespan_picture.proofs.CaretLemmas.{range_with_len-append, map-range_with_len}
+use Rattle.codespan_picture.proofs.CaretLemmas.{map-constant}
 use Rattle.codespan_picture.proofs.HangingStarts.{any-hanging_labels, any-below, starts_in-low}
 use Rattle.codespan_picture.proofs.Consecutive.{AreConsecutive, none-before}
 

@@ -1,25 +1,24 @@
 -- For `pointers_are_cells`: the texts of pointer rows, and the law.
-use Rattle.std.proofs.Common.{◌≡◌, ℕ, chars, ◌-◌, ◌≤◌, Bool, true, false, cond, nat_lt, nat_le, List, [], ◌∷◌, ◌++◌, filter, flat_map, replicate, encode_utf8_all, refl, sym, ap, ap₂, ◌∙◌, arith, append-nil}
-use Rattle.std.specs.Prelude.{Contains}
-use Rattle.std.specs.Char.{encode_utf8}
-use Rattle.std.proofs.lemmas.Bool.Decides.{nat_tests}
-use Rattle.codespan_core.specs.declared.diagnostic.Severity.{Severity}
-use Rattle.codespan_core.specs.declared.diagnostic.LabelStyle.{LabelStyle}
-use Rattle.codespan_core.specs.declared.term.config.chars.Chars.{Chars}
+use Rattle.codespan_core.proofs.Std.{◌≡◌, ℕ, chars, ◌-◌, ◌≤◌, Bool, true, false, cond, nat_lt}
+use Rattle.codespan_core.proofs.Std.{nat_le, List, [], ◌∷◌, ◌++◌, filter, flat_map, replicate}
+use Rattle.codespan_core.proofs.Std.{encode_utf8_all, refl, sym, ap, ap₂, ◌∙◌, arith, append-nil}
+use Rattle.codespan_core.proofs.Std.{Contains, encode_utf8, nat_tests}
 use Rattle.codespan_core.specs.Labels.{LabelModel}
 use Rattle.codespan_core.specs.Streams.{style_mark, glyph, spaces, text_of}
 use Rattle.codespan_core.specs.declared.term.config.style_mark.StyleMark.TheVariants.{Label, Reset}
-use Rattle.codespan_picture.specs.declared.char_metrics.Metrics.{Metrics}
-use Rattle.codespan_picture.specs.CharMetrics.{width_of}
-use Rattle.codespan_picture.specs.Lanes.{label_glyph}
-use Rattle.codespan_picture.specs.CaretLaws.{pointer_cells, StartsHaveCells, PointersAreCells}
-use Rattle.codespan_picture.specs.Rows.{RowContext, Line, hanging_labels}
-use Rattle.codespan_picture.specs.RowParts.{starts_in, max_label_start, spaces_up_to, pointer_style, pointer_at, pointers, metrics_before, line_metrics}
-use Rattle.codespan_picture.specs.RowStreams.{pointer_row, hanging_row}
-use Rattle.codespan_picture.proofs.Texts.{text_of-append, text_of-style_mark, text_of-glyph, text_of-spaces, encode_utf8_all-append, encode_utf8_all-spaces}
+use Rattle.codespan_picture.specs.Types.{Severity, LabelStyle, Chars, Metrics}
+use Rattle.codespan_picture.specs.{width_of, label_glyph, pointer_cells, StartsHaveCells}
+use Rattle.codespan_picture.specs.{PointersAreCells, RowContext, Line, hanging_labels, starts_in}
+use Rattle.codespan_picture.specs.{max_label_start, spaces_up_to, pointer_style, pointer_at}
+use Rattle.codespan_picture.specs.{pointers, metrics_before, line_metrics, pointer_row, hanging_row}
+use Rattle.codespan_picture.proofs.Texts.{text_of-append, text_of-style_mark, text_of-glyph}
+use Rattle.codespan_picture.proofs.Texts.{text_of-spaces, encode_utf8_all-append}
+use Rattle.codespan_picture.proofs.Texts.{encode_utf8_all-spaces}
 use Rattle.codespan_picture.proofs.HangingStarts.{any-hanging_labels, any-below}
 use Rattle.codespan_picture.proofs.Consecutive.{AreConsecutive, char_metrics-consecutive}
-use Rattle.codespan_picture.proofs.PointerLemmas.{contains-later, some_in, any_in, column-at, points, codes_at, IsWide, char_metrics-codes, far-codes}
+use Rattle.codespan_picture.proofs.PointerLemmas.{contains-later, some_in, any_in, column-at}
+use Rattle.codespan_picture.proofs.PointerLemmas.{points, codes_at, IsWide, char_metrics-codes}
+use Rattle.codespan_picture.proofs.PointerLemmas.{far-codes}
 
 -- ---- texts
 
@@ -148,7 +147,8 @@ pointers_are_cells context line wide = record {
         any-below 0 x.start (λ y. nat_le x.start y.start) line.labels
         (λ y h. grind (arith, nat_tests))
         (any-hanging_labels (λ y. nat_le x.start y.start) line.labels
-        (any_in (λ y. nat_le x.start y.start) (hanging_labels line.labels) x inside (grind (arith, nat_tests)))) in
+        (any_in (λ y. nat_le x.start y.start) (hanging_labels line.labels) x inside
+        (grind (arith, nat_tests)))) in
         text_of-pointers context line.labels (metrics_before x.start cs)
         ∙ ap encode_utf8_all
         (sym

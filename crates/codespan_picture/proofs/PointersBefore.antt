@@ -1,17 +1,14 @@
 -- For `write_pointer_row` and `write_hanging_row`: the pointers of the characters before a byte
 -- index, with spaces between.
-use Rattle.std.proofs.Common.{◌≡◌, ℕ, ◌+◌, ◌≤◌, Bool, true, false, cond, nat_lt, nat_le, List, []}
-use Rattle.std.proofs.Common.{◌∷◌, Option, Some, None, refl, sym, ap, ◌∙◌, arith}
-use Rattle.std.proofs.lemmas.Bool.Decides.{nat_tests}
-use Rattle.codespan_core.specs.declared.diagnostic.LabelStyle.{LabelStyle}
+use Rattle.codespan_core.proofs.Std.{◌≡◌, ℕ, ◌+◌, ◌≤◌, Bool, true, false, cond, nat_lt, nat_le}
+use Rattle.codespan_core.proofs.Std.{List, [], ◌∷◌, Option, Some, None, refl, sym, ap, ◌∙◌, arith}
+use Rattle.codespan_core.proofs.Std.{nat_tests}
 use Rattle.codespan_core.specs.Labels.{LabelModel}
-use Rattle.codespan_picture.specs.declared.char_metrics.Metrics.{Metrics}
-use Rattle.codespan_picture.specs.CharMetrics.{width_of}
-use Rattle.codespan_picture.specs.Private.PointerLists.{pointer_style_if_any, pointer_under}
-use Rattle.codespan_picture.specs.Private.PointerLists.{pointers_in, pointers_before, spaced}
-use Rattle.codespan_picture.specs.Rows.{RowContext, hanging_labels}
-use Rattle.codespan_picture.specs.RowParts.{max_label_start, pointers, metrics_before}
-use Rattle.codespan_picture.specs.RowParts.{metrics_up_to}
+use Rattle.codespan_picture.specs.Types.{LabelStyle, Metrics}
+use Rattle.codespan_picture.specs.{width_of, RowContext, hanging_labels, max_label_start, pointers}
+use Rattle.codespan_picture.specs.{metrics_before, metrics_up_to}
+use Rattle.codespan_picture.specs.Private.{pointer_style_if_any, pointer_under, pointers_in}
+use Rattle.codespan_picture.specs.Private.{pointers_before, spaced}
 use Rattle.codespan_picture.proofs.Consecutive.{AreConsecutive, none-before}
 use Rattle.codespan_picture.proofs.SpacedPointers.{spaced-line}
 

@@ -1,21 +1,16 @@
 -- For `bars_are_labels` and `breaks_have_bars`: a multi-line label begins on an earlier line than
 -- it ends on, where its range does.
-use Rattle.std.proofs.Common.{◌≡◌, ℕ, zero, suc, ◌+◌, ◌-◌, ◌<◌, ◌≤◌, Bool, true, false, ◌⊎◌, inl, inr, ⊎_elim, cond, not, nat_lt, List, [], ◌∷◌, filter, Some, slice_get, refl, sym, ap, ◌∙◌, arith}
-use Rattle.std.specs.Prelude.{Contains}
-use Rattle.std.specs.List.{list_any}
-use Rattle.std.proofs.lemmas.Bool.{cases_lt, and_parts, false≢true, and_from}
-use Rattle.std.proofs.lemmas.Bool.Decides.{nat_tests}
-use Rattle.std.proofs.lemmas.List.Folds.{list_any_at}
-use Rattle.codespan_core.specs.declared.term.config.Layout.{Layout}
+use Rattle.codespan_core.proofs.Std.{◌≡◌, ℕ, zero, suc, ◌+◌, ◌-◌, ◌<◌, ◌≤◌, Bool, true, false, ◌⊎◌}
+use Rattle.codespan_core.proofs.Std.{inl, inr, ⊎_elim, cond, not, nat_lt, List, [], ◌∷◌, filter}
+use Rattle.codespan_core.proofs.Std.{Some, slice_get, refl, sym, ap, ◌∙◌, arith, Contains, list_any}
+use Rattle.codespan_core.proofs.Std.{cases_lt, and_parts, false≢true, nat_tests, list_any_at}
+use Rattle.std.proofs.lemmas.Bool.{and_from}
 use Rattle.codespan_core.specs.FileModel.{line_count}
 use Rattle.codespan_core.specs.Lemmas.Lines.{line_of_below, line_of-rises}
-use Rattle.codespan_core.specs.declared.term.config.Config.{Config}
 use Rattle.codespan_core.specs.Labels.{LabelModel, is_single, first_line, last_line}
-use Rattle.codespan_picture.specs.RichLaws.{NoneReversed}
-use Rattle.codespan_picture.specs.LaneLaws.{HasLane, BarsAreLabels}
-use Rattle.codespan_picture.specs.LineLaws.{BreaksHaveBars}
-use Rattle.codespan_picture.specs.Lines.{shows, is_shown}
-use Rattle.codespan_picture.specs.Snippets.{LabeledFileModel}
+use Rattle.codespan_picture.specs.Types.{Layout, Config}
+use Rattle.codespan_picture.specs.{NoneReversed, HasLane, BarsAreLabels, BreaksHaveBars, shows}
+use Rattle.codespan_picture.specs.{is_shown, LabeledFileModel}
 use Rattle.codespan_picture.proofs.BarLemmas as bars
 
 -- what a filter keeps is in the list and passes the test

@@ -1,23 +1,30 @@
 -- For `messages_appear_once`: a row whose slots are filled is the row of the filled labels.
-use Rattle.std.proofs.Common.{◌≡◌, ℕ, ◌+◌, ◌<◌, true, false, cond, ◌==◌, nat_le, List, [], ◌∷◌, ◌++◌, map, filter, Option, Some, None, option_map, refl, sym, ap, ap₂, ◌∙◌, append_assoc, arith}
-use Rattle.std.proofs.lemmas.List.Sums.{sum_by-cons}
-use Rattle.std.proofs.lemmas.Bool.Decides.{nat_tests}
-use Rattle.codespan_core.specs.declared.diagnostic.Severity.{Severity}
-use Rattle.codespan_core.specs.declared.diagnostic.LabelStyle.{LabelStyle}
-use Rattle.codespan_core.specs.declared.term.config.chars.Chars.{Chars}
-use Rattle.codespan_core.specs.Streams.{Stream, Item, Byte, Mark, Slot, style_mark, space, glyph, repeated, newline, with_messages}
+use Rattle.codespan_core.proofs.Std.{◌≡◌, ℕ, ◌+◌, ◌<◌, true, false, cond, ◌==◌, nat_le, List, []}
+use Rattle.codespan_core.proofs.Std.{◌∷◌, ◌++◌, map, filter, Option, Some, None, option_map, refl}
+use Rattle.codespan_core.proofs.Std.{sym, ap, ap₂, ◌∙◌, append_assoc, arith, sum_by-cons, nat_tests}
+use Rattle.codespan_core.specs.Streams.{Stream, Item, Byte, Mark, Slot, style_mark, space, glyph}
+use Rattle.codespan_core.specs.Streams.{repeated, newline, with_messages}
 use Rattle.codespan_core.specs.declared.term.config.style_mark.StyleMark.TheVariants.{Label, Reset}
 use Rattle.codespan_core.specs.Labels.{LabelModel, is_empty_stream, MultiLabel, Top, Left, Bottom}
-use Rattle.codespan_picture.specs.declared.char_metrics.Metrics.{Metrics}
-use Rattle.codespan_picture.specs.CharMetrics.{width_of}
-use Rattle.codespan_picture.specs.Rows.{RowContext, Line, Row, HeaderRow, SnippetStartRow, EmptyRow, BreakRow, SourceRow, CaretRow, PointerRow, HangingRow, UnderlineRow, FirstNoteRow, LaterNoteRow, FinalRow, trailing_label}
-use Rattle.codespan_picture.specs.RowParts.{outer_gutter, outer_gutter_number, border_left, border_left_break, label_message, inner_gutter, leading_of, line_metrics, line_metrics_to_end, carets, trailing_message, pointers, metrics_before, underline_message, underline, end_caret}
-use Rattle.codespan_picture.specs.RowStreams.{empty_row, break_row, source_row, row_start, caret_row, pointer_row, hanging_row, underline_row, stream_of, stream_of_rows}
-use Rattle.codespan_picture.specs.MessageLaws.{is_slot}
-use Rattle.codespan_picture.proofs.SlotLemmas as slot
+use Rattle.codespan_picture.specs.Types.{Severity, LabelStyle, Chars, Metrics}
+use Rattle.codespan_picture.specs.{width_of, RowContext, Line, Row, HeaderRow, SnippetStartRow}
+use Rattle.codespan_picture.specs.{EmptyRow, BreakRow, SourceRow, CaretRow, PointerRow, HangingRow}
+use Rattle.codespan_picture.specs.{UnderlineRow, FirstNoteRow, LaterNoteRow, FinalRow}
+use Rattle.codespan_picture.specs.{trailing_label, outer_gutter, outer_gutter_number, border_left}
+use Rattle.codespan_picture.specs.{border_left_break, label_message, inner_gutter, leading_of}
+use Rattle.codespan_picture.specs.{line_metrics, line_metrics_to_end, carets, trailing_message}
+use Rattle.codespan_picture.specs.{pointers, metrics_before, underline_message, underline}
+use Rattle.codespan_picture.specs.{end_caret, empty_row, break_row, source_row, row_start}
+use Rattle.codespan_picture.specs.{caret_row, pointer_row, hanging_row, underline_row, stream_of}
+use Rattle.codespan_picture.specs.{stream_of_rows, is_slot, Underline}
 use Rattle.codespan_picture.proofs.SlotLemmas.{slots}
-use Rattle.codespan_picture.proofs.RefillLemmas.{refilled, refilled_multi_label, refilled_lane_mark, refilled_lanes, refilled_line, source_lanes-refilled, plain_lanes-refilled, below_lanes-refilled, underline_lanes-refilled, colored_text-refilled, carets-refilled, pointers-refilled, trailing_label-refilled}
-use Rattle.codespan_picture.specs.Lanes.{Underline}
+use Rattle.codespan_picture.proofs.RefillLemmas.{refilled, refilled_multi_label, refilled_lane_mark}
+use Rattle.codespan_picture.proofs.RefillLemmas.{refilled_lanes, refilled_line}
+use Rattle.codespan_picture.proofs.RefillLemmas.{source_lanes-refilled, plain_lanes-refilled}
+use Rattle.codespan_picture.proofs.RefillLemmas.{below_lanes-refilled, underline_lanes-refilled}
+use Rattle.codespan_picture.proofs.RefillLemmas.{colored_text-refilled, carets-refilled}
+use Rattle.codespan_picture.proofs.RefillLemmas.{pointers-refilled, trailing_label-refilled}
+use Rattle.codespan_picture.proofs.SlotLemmas as slot
 
 -- the stream with each slot filled, folded unless a proof unfolds it
 unfoldable pub fill : (ℕ → List ℕ) → Stream → Stream
@@ -146,13 +153,15 @@ module _ (m : ℕ → List ℕ) (full : (k : ℕ) → is_empty_stream (map Byte 
   some_message [] h = cc
   some_message (p ∷ s) h = refl
 
-  underline-message-refilled : (s : Stream) → fill m (underline_message s) ≡ underline_message (fill m s)
+  underline-message-refilled : (s : Stream) → fill m (underline_message s)
+      ≡ underline_message (fill m s)
   unfolding fill underline_message
   underline-message-refilled [] = refl
   underline-message-refilled (p ∷ s) =
       join space (p ∷ s) one-space refl ∙ sym (some_message (fill m (p ∷ s)) (keeps (p ∷ s)))
 
-  underline-refilled : (chars : Chars) (style : LabelStyle) (cs : List Metrics) (multi_label : MultiLabel)
+  underline-refilled : (chars : Chars) (style : LabelStyle) (cs : List Metrics)
+      (multi_label : MultiLabel)
       → fill m (underline chars style cs multi_label) ≡ underline chars style cs
       (refilled_multi_label (fill m) multi_label)
   unfolding underline
@@ -235,7 +244,8 @@ module _ (m : ℕ → List ℕ) (full : (k : ℕ) → is_empty_stream (map Byte 
   fill-row context FinalRow = without_slots [] (λ k. slot.slots-nil k) refl
 
   pub fill-rows : (context : RowContext) (rows : List Row)
-      → fill m (stream_of_rows context rows) ≡ stream_of_rows context (map (refilled_row (fill m)) rows)
+      → fill m (stream_of_rows context rows)
+      ≡ stream_of_rows context (map (refilled_row (fill m)) rows)
   fill-rows context [] = without_slots [] (λ k. slot.slots-nil k) refl
   fill-rows context (row ∷ rows) =
       join _ _

@@ -1,21 +1,15 @@
 -- For `outputs_mean_labels`: a rich output means its labels, by the laws of its parts together.
-use Rattle.std.proofs.Common.{◌<◌}
-use Rattle.std.specs.Cmp.{IsEquivalence}
-use Rattle.codespan_core.specs.declared.term.config.Config.{Config}
-use Rattle.codespan_core.specs.declared.diagnostic.Diagnostic.{Diagnostic}
+use Rattle.codespan_core.proofs.Std.{◌<◌, IsEquivalence}
 use Rattle.codespan_core.specs.FileModel.{FileDatabase, line_count}
-use Rattle.codespan_picture.specs.Rows.{RowContext}
-use Rattle.codespan_picture.specs.Snippets.{LabeledFileModel, line_at}
-use Rattle.codespan_picture.specs.RowStreams.{caret_row}
-use Rattle.codespan_picture.specs.OutputStreams.{files_of}
-use Rattle.codespan_picture.specs.CaretLaws.{CaretsAreCells}
-use Rattle.codespan_picture.specs.RichLaws.{SnippetMeansLabels, MeansLabels}
+use Rattle.codespan_picture.specs.Types.{Config, Diagnostic}
+use Rattle.codespan_picture.specs.{RowContext, LabeledFileModel, line_at, caret_row, files_of}
+use Rattle.codespan_picture.specs.{CaretsAreCells, SnippetMeansLabels, MeansLabels}
 use Rattle.codespan_picture.proofs.Texts.{text_of-append}
 use Rattle.codespan_picture.proofs.CaretLemmas.{text_of-line_carets}
-use Rattle.codespan_picture.proofs.BreakLemmas as breaks
 use Rattle.codespan_picture.proofs.FillLemmas.{rows_of_shown_lines}
-use Rattle.codespan_picture.proofs.LaneLineRuns as runs
 use Rattle.codespan_picture.proofs.LanesShown.{lanes_are_shown}
+use Rattle.codespan_picture.proofs.BreakLemmas as breaks
+use Rattle.codespan_picture.proofs.LaneLineRuns as runs
 use Rattle.codespan_picture.proofs.MessagesOnce as messages
 use Rattle.codespan_picture.proofs.PaddingLemmas as padding
 use Rattle.codespan_picture.proofs.PointerTexts as pointers

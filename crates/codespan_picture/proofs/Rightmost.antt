@@ -1,12 +1,14 @@
 -- For `each_message_trails_or_hangs`: the last label with the greatest end, with the labels around
 -- it.
-use Rattle.std.proofs.Common.{◌≡◌, ◌≢◌, subst, ℕ, ◌+◌, max, Bool, true, false, not, ◌&&◌, ◌==◌, List, [], ◌∷◌, ◌++◌, length, filter, fold, Option, Some, None, if◌then◌else◌, cond, refl, ap, ◌∙◌, arith}
-use Rattle.std.specs.List.{enumerate_from, last_or, remove}
-use Rattle.std.specs.Option.{option_and_then, option_map, option_map_or}
-use Rattle.std.proofs.lemmas.Bool.Decides.{nat_tests}
+use Rattle.codespan_core.proofs.Std.{◌≡◌, ◌≢◌, subst, ℕ, ◌+◌, max, Bool, true, false, not, ◌&&◌}
+use Rattle.codespan_core.proofs.Std.{◌==◌, List, [], ◌∷◌, ◌++◌, length, filter, fold, Option, Some}
+use Rattle.codespan_core.proofs.Std.{None, if◌then◌else◌, cond, refl, ap, ◌∙◌, arith}
+use Rattle.codespan_core.proofs.Std.{enumerate_from, remove, option_map, option_map_or, nat_tests}
+use Rattle.std.specs.List.{last_or}
+use Rattle.std.specs.Option.{option_and_then}
 use Rattle.codespan_core.specs.Labels.{LabelModel, has_message}
-use Rattle.codespan_picture.specs.Carets.{max_label_end}
-use Rattle.codespan_picture.specs.Rows.{last_with_end, overlaps_any, does_trail, trailing_label, hanging_labels}
+use Rattle.codespan_picture.specs.{max_label_end, last_with_end, overlaps_any, does_trail}
+use Rattle.codespan_picture.specs.{trailing_label, hanging_labels}
 
 -- ---- trailing and hanging labels, by a pass over the list
 
@@ -221,7 +223,8 @@ hanging_is labels =
     by_around None is = nothing labels is
     by_around (Some a) is =
         let whole = around_is (max_label_end labels) labels a is in
-        ap (λ b. filter has_message (option_map_or without (if b then Some (entry_of a) else None) labels)) (trails_is labels a whole)
+        ap (λ b. filter has_message (option_map_or without (if b then Some (entry_of a) else None)
+        labels)) (trails_is labels a whole)
         ∙ by_test whole (around_trails a)
       where
         by_test : a.before ++ (a.here ∷ a.after) ≡ labels → (b : Bool)

@@ -1,18 +1,20 @@
 -- For `source_rows_are_few`: how many source rows the labels of a file show.
-use Rattle.std.proofs.Common.{◌≡◌, ℕ, zero, suc, ◌+◌, ◌-◌, ◌*◌, ◌<◌, ◌≤◌, max, Bool, true, false, cond, ◌&&◌, ◌||◌, nat_lt, nat_le, List, [], ◌∷◌, ◌++◌, map, filter, reverse, length, Option, Some, None, refl, ap, arith}
-use Rattle.std.specs.Prelude.{count_by, sum_by}
-use Rattle.std.specs.List.{range_with_len, list_any}
-use Rattle.std.proofs.lemmas.Bool.Decides.{nat_tests}
-use Rattle.std.proofs.lemmas.List.Sums.{sum_by-cons, sum_by-append, sum_by-le-sum_by, length-filter}
-use Rattle.codespan_core.specs.declared.term.config.Config.{Config}
+use Rattle.codespan_core.proofs.Std.{◌≡◌, ℕ, zero, suc, ◌+◌, ◌-◌, ◌*◌, ◌<◌, ◌≤◌, max, Bool, true}
+use Rattle.codespan_core.proofs.Std.{false, cond, ◌&&◌, ◌||◌, nat_lt, nat_le, List, [], ◌∷◌, ◌++◌}
+use Rattle.codespan_core.proofs.Std.{map, filter, reverse, length, Option, Some, None, refl, ap}
+use Rattle.codespan_core.proofs.Std.{arith, count_by, sum_by, range_with_len, list_any, nat_tests}
+use Rattle.codespan_core.proofs.Std.{sum_by-cons, sum_by-append}
+use Rattle.std.proofs.lemmas.List.Sums.{sum_by-le-sum_by, length-filter}
 use Rattle.codespan_core.specs.FileModel.{FileModel, line_count}
 use Rattle.codespan_core.specs.Labels.{LabelModel, LaneMark, first_line, last_line}
-use Rattle.codespan_picture.specs.Lines.{shows, is_shown, is_drawn, drawn_lines, has_break_between}
-use Rattle.codespan_picture.specs.CharMetrics.{leading_whitespace}
-use Rattle.codespan_picture.specs.Rows.{Line, SourceRow, BreakRow, HangingRow, UnderlineRow, PointerRow, caret_rows, pointer_and_hanging_rows, underline_rows, rows_of, hanging_labels, has_underline}
-use Rattle.codespan_picture.specs.Snippets.{LabeledFileModel, line_at, rows_of_drawn}
+use Rattle.codespan_picture.specs.Types.{Config}
+use Rattle.codespan_picture.specs.{shows, is_shown, is_drawn, drawn_lines, has_break_between}
+use Rattle.codespan_picture.specs.{leading_whitespace, Line, SourceRow, BreakRow, HangingRow}
+use Rattle.codespan_picture.specs.{UnderlineRow, PointerRow, caret_rows, pointer_and_hanging_rows}
+use Rattle.codespan_picture.specs.{underline_rows, rows_of, hanging_labels, has_underline}
+use Rattle.codespan_picture.specs.{LabeledFileModel, line_at, rows_of_drawn, is_source_row}
+use Rattle.codespan_picture.specs.{max_shown_lines, SourceRowsAreFew}
 use Rattle.codespan_picture.proofs.FillLemmas.{breaks_before}
-use Rattle.codespan_picture.specs.LineLaws.{is_source_row, max_shown_lines, SourceRowsAreFew}
 
 -- ---- counts
 
@@ -31,7 +33,8 @@ one-le false d h = omega arith
 -- what implies more is counted more often
 count-le : {X : Type 0} (p q : X → Bool) (xs : List X) → ((x : X) → p x ≡ true → q x ≡ true)
     → count_by p xs ≤ count_by q xs
-count-le p q xs h = sum_by-le-sum_by (λ x. cond (p x) 1 0) (λ x. cond (q x) 1 0) xs (λ x. one-le (p x) (q x) (h x))
+count-le p q xs h = sum_by-le-sum_by (λ x. cond (p x) 1 0) (λ x. cond (q x) 1 0) xs
+    (λ x. one-le (p x) (q x) (h x))
 
 one-or : (b d : Bool) → cond (b || d) 1 0 ≤ cond b 1 0 + cond d 1 0
 one-or true d = omega arith
@@ -92,7 +95,8 @@ shows_in config s e l =
     || (is_in e (e + 1) l
     || (is_in (s - config.before_label_lines) s l
     || (is_in (e + 1) (e + config.after_label_lines + 1) l
-    || (is_in (s + 1) (s + config.start_context_lines + 1) l || is_in (e - config.end_context_lines) e l))))
+    || (is_in (s + 1) (s + config.start_context_lines + 1) l || is_in (e - config.end_context_lines)
+    e l))))
 
 shows-in : (config : Config) (s e l : ℕ) → shows config s e l ≡ true → shows_in config s e l ≡ true
 shows-in config s e l h = grind (arith, nat_tests)
@@ -116,7 +120,8 @@ count-shows config s e n =
           ls,
       count-or (is_in (s - b) s) (λ l. is_in (e + 1) (e + a + 1) l
           || (is_in (s + 1) (s + c + 1) l || is_in (e - d) e l)) ls,
-      count-or (is_in (e + 1) (e + a + 1)) (λ l. is_in (s + 1) (s + c + 1) l || is_in (e - d) e l) ls,
+      count-or (is_in (e + 1) (e + a + 1)) (λ l. is_in (s + 1) (s + c + 1) l || is_in (e - d) e l)
+          ls,
       count-or (is_in (s + 1) (s + c + 1)) (is_in (e - d) e) ls,
       count-is_in s (s + 1) 0 n,
       count-is_in e (e + 1) 0 n,
@@ -205,7 +210,14 @@ module _ (shown : ℕ → Bool) where
   count-all-after (suc n) =
       let none : nat_lt 0 0 ≡ false = grind (arith, nat_tests) in
       let e = ap {B = ℕ} (λ b. cond (b && shown (0 - 1)) 1 0) none in
-      omega (arith, e, count-after 0 n, count-longer 0 n, count-cons is_after 0 (range_with_len 1 n))
+      omega (
+        arith,
+        e,
+        count-after 0 n,
+        count-longer 0 n,
+        count-cons is_after 0
+            (range_with_len 1 n),
+      )
 
   abbrev pub fills : ℕ → Bool
   fills l = nat_lt 0 l && shown (l - 1) && shown (l + 1)
@@ -274,7 +286,8 @@ count-rows_of_drawn s previous [] = refl
 count-rows_of_drawn s previous (l ∷ ls) =
     omega (
       arith,
-      count-append is_source_row (breaks_before s previous l ++ rows_of (line_at s l)) (rows_of_drawn s (Some l) ls),
+      count-append is_source_row (breaks_before s previous l ++ rows_of (line_at s l))
+          (rows_of_drawn s (Some l) ls),
       count-append is_source_row (breaks_before s previous l) (rows_of (line_at s l)),
       no_source_break s previous l,
       one_source (line_at s l),

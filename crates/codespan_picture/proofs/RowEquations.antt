@@ -1,26 +1,25 @@
 -- For `write_line`, `write_snippet_empty` and `write_break`: equations of rows, as the calls that
 -- write them put them together.
-use Rattle.std.proofs.Common.{◌≡◌, ℕ, ◌+◌, ◌-◌, ◌^◌, ◌<◌, ◌≤◌, ◌==◌, List, [], ◌∷◌, ◌++◌, true, false, nat_lt, lt-ltb, Option, None, Some, append_assoc, append-nil, length, replicate, refl, ap, sym, ◌∙◌, arith}
+use Rattle.codespan_core.proofs.Std.{◌≡◌, ℕ, ◌+◌, ◌-◌, ◌^◌, ◌<◌, ◌≤◌, ◌==◌, List, [], ◌∷◌, ◌++◌}
+use Rattle.codespan_core.proofs.Std.{true, false, nat_lt, lt-ltb, Option, None, Some, append_assoc}
+use Rattle.codespan_core.proofs.Std.{append-nil, length, replicate, refl, ap, sym, ◌∙◌, arith}
+use Rattle.codespan_core.proofs.Std.{flat_map-append, codes, IsUtf8}
 use Rattle.std.proofs.lemmas.List.{replicate-append-replicate}
-use Rattle.codespan_core.specs.declared.diagnostic.LabelStyle.{LabelStyle}
-use Rattle.codespan_core.specs.declared.diagnostic.LabelStyle.TheVariants.{Primary, Secondary}
-use Rattle.codespan_core.specs.declared.diagnostic.Severity.{Severity}
 use Rattle.codespan_core.specs.Streams.{Stream, byte_stream, spaces, repeated, glyph, newline}
+use Rattle.codespan_picture.specs.Types.{LabelStyle, Primary, Secondary, Severity, Metrics}
+use Rattle.codespan_picture.specs.declared.rows.lanes.LaneRowKind.TheVariants.{Source, EmptyOrBreak}
+use Rattle.codespan_picture.specs.declared.rows.lanes.LaneRowKind.TheVariants.{SingleLabels}
+use Rattle.codespan_picture.specs.{SingleLabelTuple, single_label_views, RowContext, Line, Row}
+use Rattle.codespan_picture.specs.{SourceRow, caret_rows, hanging_labels, pointer_and_hanging_rows}
+use Rattle.codespan_picture.specs.{underline_rows, rows_of, bracketed, caret_row, source_row}
+use Rattle.codespan_picture.specs.{stream_of, stream_of_rows, char_metrics, metrics_before}
+use Rattle.codespan_picture.specs.{style_change, outer_gutter, inner_gutter}
+use Rattle.codespan_picture.specs.Private.{row_lanes_stream}
+use Rattle.codespan_picture.specs.Rows.{Lanes}
 use Rattle.codespan_core.proofs.Writes.{byte_stream-append}
-use Rattle.std.proofs.lemmas.Grind.{flat_map-append}
 use Rattle.codespan_core.proofs.Repeats.{repeat-add}
-use Rattle.codespan_picture.specs.declared.rows.lanes.LaneRowKind.TheVariants.{Source, EmptyOrBreak, SingleLabels}
-use Rattle.codespan_picture.specs.Arguments.{SingleLabelTuple, single_label_views}
-use Rattle.codespan_picture.specs.Private.LineViews.{row_lanes_stream}
-use Rattle.codespan_picture.specs.Rows.{RowContext, Lanes, Line, Row, SourceRow, caret_rows, hanging_labels, pointer_and_hanging_rows, underline_rows, rows_of}
-use Rattle.codespan_picture.specs.RowStreams.{bracketed, caret_row, source_row, stream_of, stream_of_rows}
-use Rattle.std.specs.Prelude.{codes}
-use Rattle.std.specs.Str.{IsUtf8}
-use Rattle.codespan_picture.specs.declared.char_metrics.Metrics.{Metrics}
-use Rattle.codespan_picture.specs.CharMetrics.{char_metrics}
 use Rattle.codespan_picture.proofs.ScanState.{ConsecutiveWithin, scan_state-char_metrics}
 use Rattle.codespan_picture.specs.Lanes as kind
-use Rattle.codespan_picture.specs.RowParts.{metrics_before, style_change, outer_gutter, inner_gutter}
 
 -- a gutter is the padding's spaces and one more
 pub gutter_spaces : (n : ℕ) → outer_gutter n ≡ spaces (n + 1)
@@ -34,7 +33,8 @@ unfolding row_lanes_stream inner_gutter
 source_lanes_are context leading lanes = refl
 
 pub plain_lanes_are : (context : RowContext) (leading : ℕ) (lanes : Lanes)
-    → row_lanes_stream context leading EmptyOrBreak lanes ≡ inner_gutter context 0 kind.EmptyOrBreak lanes
+    → row_lanes_stream context leading EmptyOrBreak lanes ≡ inner_gutter context 0 kind.EmptyOrBreak
+    lanes
 unfolding row_lanes_stream inner_gutter
 plain_lanes_are context leading lanes = refl
 

@@ -1,31 +1,54 @@
 -- For `outputs_are_utf8`: the streams of rows are texts.
-use Rattle.std.proofs.Common.{◌≡◌, ℕ, ◌-◌, Bool, true, false, List, [], ◌∷◌, ◌++◌, Option, Some, None, refl, sym, subst, arith}
-use Rattle.std.specs.Prelude.{Contains, codes, nat_lt, nat_le, if◌then◌else◌, IfSome}
-use Rattle.std.specs.Char.{IsScalar}
-use Rattle.std.specs.List.{AllByRecursion, list_any, range_with_len}
-use Rattle.std.specs.Str.{IsUtf8}
-use Rattle.std.proofs.lemmas.Bool.{cond_both}
-use Rattle.std.proofs.lemmas.List.Elements.{All-contains, All-from_recursion, Contains-append_right}
-use Rattle.codespan_core.specs.declared.diagnostic.LabelStyle.{LabelStyle}
-use Rattle.codespan_core.specs.declared.diagnostic.Severity.{Severity}
+use Rattle.codespan_core.proofs.Std.{◌≡◌, ℕ, ◌-◌, Bool, true, false, List, [], ◌∷◌, ◌++◌, Option}
+use Rattle.codespan_core.proofs.Std.{Some, None, refl, sym, subst, arith, Contains, codes, nat_lt}
+use Rattle.codespan_core.proofs.Std.{nat_le, if◌then◌else◌, IfSome, IsScalar, AllByRecursion}
+use Rattle.codespan_core.proofs.Std.{list_any, range_with_len, IsUtf8, cond_both}
+use Rattle.codespan_core.proofs.Std.{All-from_recursion}
+use Rattle.std.proofs.lemmas.List.Elements.{All-contains, Contains-append_right}
 use Rattle.codespan_core.specs.SnippetStarts.{start_text}
 use Rattle.codespan_core.specs.Labels.{LabelModel, LaneMark, MultiLabel, Top, Left, Bottom}
 use Rattle.codespan_core.specs.Streams.{Stream, byte_stream, spaces, space, newline}
-use Rattle.codespan_core.specs.declared.term.config.style_mark.StyleMark.TheVariants.{Header, HeaderMessage, NoteBullet, SourceBorder, Label, Reset}
-use Rattle.codespan_picture.specs.declared.char_metrics.Metrics.{Metrics}
+use Rattle.codespan_core.specs.declared.term.config.style_mark.StyleMark.TheVariants.{Header}
+use Rattle.codespan_core.specs.declared.term.config.style_mark.StyleMark.TheVariants.{HeaderMessage}
+use Rattle.codespan_core.specs.declared.term.config.style_mark.StyleMark.TheVariants.{NoteBullet}
+use Rattle.codespan_core.specs.declared.term.config.style_mark.StyleMark.TheVariants.{SourceBorder}
+use Rattle.codespan_core.specs.declared.term.config.style_mark.StyleMark.TheVariants.{Label, Reset}
+use Rattle.codespan_picture.specs.Types.{LabelStyle, Severity, Metrics}
 use Rattle.codespan_picture.specs.declared.lane_shapes.Shape.{Shape}
-use Rattle.codespan_picture.specs.Carets.{caret_for, max_label_end, style_under}
-use Rattle.codespan_picture.specs.CharMetrics.{width_of}
-use Rattle.codespan_picture.specs.Lanes.{LaneRowKind, Source, EmptyOrBreak, SingleLabels, Underline, label_glyph, lane_mark_in, row_crossing, row_shape, shape_of, style_of_lane_mark}
-use Rattle.codespan_picture.specs.Rows.{Locus, RowContext, Lanes, Line, Row, HeaderRow, SnippetStartRow, EmptyRow, BreakRow, SourceRow, CaretRow, PointerRow, HangingRow, UnderlineRow, FirstNoteRow, LaterNoteRow, FinalRow, hanging_labels, trailing_label}
-use Rattle.codespan_picture.specs.RowParts.{snippet_locus, label_message, inner_gutter_column, inner_gutter, leading_of, line_metrics, line_metrics_to_end, source_style, source_glyph, colored_text, caret_glyphs, carets, trailing_message, starts_in, max_label_start, spaces_up_to, pointer_style, pointer_at, pointers, metrics_before, metrics_up_to, start_caret, end_caret, underline_message, underline}
-use Rattle.codespan_picture.specs.RowStreams.{bracketed, header_locus, header_row, snippet_start_row, empty_row, break_row, source_row, row_start, caret_row, pointer_row, hanging_row, underline_row, first_note_row, later_note_row, stream_of, stream_of_rows}
-use Rattle.codespan_picture.specs.Utf8Laws.{StreamIsUtf8, CharsAreScalars}
+use Rattle.codespan_picture.specs.{caret_for, max_label_end, style_under, width_of, LaneRowKind}
+use Rattle.codespan_picture.specs.{Source, EmptyOrBreak, SingleLabels, Underline, label_glyph}
+use Rattle.codespan_picture.specs.{lane_mark_in, row_crossing, row_shape, shape_of}
+use Rattle.codespan_picture.specs.{style_of_lane_mark, Locus, RowContext, Line, Row, HeaderRow}
+use Rattle.codespan_picture.specs.{SnippetStartRow, EmptyRow, BreakRow, SourceRow, CaretRow}
+use Rattle.codespan_picture.specs.{PointerRow, HangingRow, UnderlineRow, FirstNoteRow, LaterNoteRow}
+use Rattle.codespan_picture.specs.{FinalRow, hanging_labels, trailing_label, snippet_locus}
+use Rattle.codespan_picture.specs.{label_message, inner_gutter_column, inner_gutter, leading_of}
+use Rattle.codespan_picture.specs.{line_metrics, line_metrics_to_end, source_style, source_glyph}
+use Rattle.codespan_picture.specs.{colored_text, caret_glyphs, carets, trailing_message, starts_in}
+use Rattle.codespan_picture.specs.{max_label_start, spaces_up_to, pointer_style, pointer_at}
+use Rattle.codespan_picture.specs.{pointers, metrics_before, metrics_up_to, start_caret, end_caret}
+use Rattle.codespan_picture.specs.{underline_message, underline, bracketed, header_locus}
+use Rattle.codespan_picture.specs.{header_row, snippet_start_row, empty_row, break_row, source_row}
+use Rattle.codespan_picture.specs.{row_start, caret_row, pointer_row, hanging_row, underline_row}
+use Rattle.codespan_picture.specs.{first_note_row, later_note_row, stream_of, stream_of_rows}
+use Rattle.codespan_picture.specs.{StreamIsUtf8, CharsAreScalars}
+use Rattle.codespan_picture.specs.Rows.{Lanes}
 use Rattle.codespan_picture.proofs.LaneLineLemmas.{each_all}
-use Rattle.codespan_picture.proofs.Rightmost.{Around, around_trails, around_rightmost, trailing_of, around_is, trailing_is}
+use Rattle.codespan_picture.proofs.Rightmost.{Around, around_trails, around_rightmost, trailing_of}
+use Rattle.codespan_picture.proofs.Rightmost.{around_is, trailing_is}
 use Rattle.codespan_picture.proofs.ListElements.{all-weaker}
-use Rattle.codespan_picture.proofs.StreamTexts.{text-none, text-both, followed, text-byte_stream, text-style_mark, text-glyph, text-space, text-newline, text-colon_space, text-open, text-close, text-spaces, text-repeated, text-each, text-severity, text-locus, text-outer_gutter, text-outer_gutter_number, text-border_left, text-border_left_break, text-styled, text-label_message}
-use Rattle.codespan_picture.proofs.LaneTexts.{text-label_glyph, text-lane_characters, scalar-caret_for, scalar-start_caret, scalar-end_caret, scalar-char_metrics, text-source_glyph, MultiLabelIsUtf8, RowIsUtf8}
+use Rattle.codespan_picture.proofs.StreamTexts.{text-none, text-both, followed, text-byte_stream}
+use Rattle.codespan_picture.proofs.StreamTexts.{text-style_mark, text-glyph, text-space}
+use Rattle.codespan_picture.proofs.StreamTexts.{text-newline, text-colon_space, text-open}
+use Rattle.codespan_picture.proofs.StreamTexts.{text-close, text-spaces, text-repeated, text-each}
+use Rattle.codespan_picture.proofs.StreamTexts.{text-severity, text-locus, text-outer_gutter}
+use Rattle.codespan_picture.proofs.StreamTexts.{text-outer_gutter_number, text-border_left}
+use Rattle.codespan_picture.proofs.StreamTexts.{text-border_left_break, text-styled}
+use Rattle.codespan_picture.proofs.StreamTexts.{text-label_message}
+use Rattle.codespan_picture.proofs.LaneTexts.{text-label_glyph, text-lane_characters}
+use Rattle.codespan_picture.proofs.LaneTexts.{scalar-caret_for, scalar-start_caret}
+use Rattle.codespan_picture.proofs.LaneTexts.{scalar-end_caret, scalar-char_metrics}
+use Rattle.codespan_picture.proofs.LaneTexts.{text-source_glyph, MultiLabelIsUtf8, RowIsUtf8}
 
 -- ---- rows
 
@@ -42,7 +65,8 @@ text-bracketed None h = text-none
 text-bracketed (Some []) h = text-none
 text-bracketed (Some (c ∷ cs)) h =
     text-both (byte_stream (codes "[") ++ byte_stream (c ∷ cs)) (byte_stream (codes "]"))
-    (text-both (byte_stream (codes "[")) (byte_stream (c ∷ cs)) text-open (text-byte_stream (c ∷ cs) h)) text-close
+    (text-both (byte_stream (codes "[")) (byte_stream (c ∷ cs)) text-open
+    (text-byte_stream (c ∷ cs) h)) text-close
 
 -- the trailing message is a text where the labels' messages are
 text-trailing_label : (severity : Severity) (labels : List LabelModel)
@@ -54,7 +78,8 @@ text-trailing_label severity (x ∷ xs) h =
     subst (λ t. StreamIsUtf8 (trailing_message severity t)) (sym (trailing_is (x ∷ xs)))
     (by (around_rightmost (x ∷ xs)) refl)
   where
-    shown : (y : LabelModel) → StreamIsUtf8 y.message → StreamIsUtf8 (trailing_message severity (Some y))
+    shown : (y : LabelModel) → StreamIsUtf8 y.message
+        → StreamIsUtf8 (trailing_message severity (Some y))
     shown y t =
         text-both space (label_message severity y.style y.message) text-space
         (text-label_message severity y.style y.message t)
@@ -117,17 +142,20 @@ module _ (context : RowContext) (ok : CharsAreScalars context.chars) where
       text-repeated c.unicode_width (caret_for context.chars (Some style))
       (scalar-caret_for context.chars ok (Some style))
 
-  text-carets : (labels : List LabelModel) (cs : List Metrics) → StreamIsUtf8 (carets context labels cs)
+  text-carets : (labels : List LabelModel) (cs : List Metrics)
+      → StreamIsUtf8 (carets context labels cs)
   unfolding carets
   text-carets labels cs =
       text-styled context.severity (style_under labels)
       (λ c. caret_glyphs context.chars (max_label_end labels) (style_under labels c) c) None cs
       (each_all
-      (λ c. StreamIsUtf8 (caret_glyphs context.chars (max_label_end labels) (style_under labels c) c))
+      (λ c. StreamIsUtf8 (caret_glyphs context.chars (max_label_end labels) (style_under labels c)
+      c))
       cs (λ c. text-caret_glyphs (max_label_end labels) (style_under labels c) c))
 
   -- the pointers
-  text-spaces_up_to : (byte_index : ℕ) (c : Metrics) (n : ℕ) → StreamIsUtf8 (spaces_up_to byte_index c n)
+  text-spaces_up_to : (byte_index : ℕ) (c : Metrics) (n : ℕ)
+      → StreamIsUtf8 (spaces_up_to byte_index c n)
   unfolding spaces_up_to
   text-spaces_up_to byte_index c n =
       cond_both (nat_le c.byte_index byte_index) (spaces n) [] StreamIsUtf8 (λ _. text-spaces n)
@@ -159,7 +187,8 @@ module _ (context : RowContext) (ok : CharsAreScalars context.chars) where
       (text-pointer_at labels (hanging_labels labels)))
 
   -- the underlines
-  text-underline_message : (message : Stream) → StreamIsUtf8 message → StreamIsUtf8 (underline_message message)
+  text-underline_message : (message : Stream) → StreamIsUtf8 message
+      → StreamIsUtf8 (underline_message message)
   unfolding underline_message
   text-underline_message [] t = text-none
   text-underline_message (p ∷ ps) t = text-both space (p ∷ ps) text-space t

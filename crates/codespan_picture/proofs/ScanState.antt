@@ -1,13 +1,14 @@
 -- For `write_carets` and `find_pointers`: how the characters of a line follow one another, and what
 -- a loop over them knows of byte indices and columns.
-use Rattle.std.proofs.Common.{◌≡◌, ℕ, ◌+◌, ◌*◌, ◌-◌, ◌^◌, ◌<◌, ◌≤◌, List, [], ◌∷◌, length, refl, sym, ap, ◌∙◌, arith, length-append}
-use Rattle.std.specs.Char.{encode_utf8, len_utf8}
-use Rattle.std.specs.Str.{IsUtf8, chars}
-use Rattle.std.proofs.lemmas.Str.{encodes-chars, length-encode, len_utf8_bounds}
+use Rattle.codespan_core.proofs.Std.{◌≡◌, ℕ, ◌+◌, ◌*◌, ◌-◌, ◌^◌, ◌<◌, ◌≤◌, List, [], ◌∷◌, length}
+use Rattle.codespan_core.proofs.Std.{refl, sym, ap, ◌∙◌, arith, length-append, encode_utf8}
+use Rattle.codespan_core.proofs.Std.{len_utf8, IsUtf8, chars, length-encode, len_utf8_bounds}
+use Rattle.std.proofs.lemmas.Str.{encodes-chars}
+use Rattle.codespan_picture.specs.Types.{Metrics}
+use Rattle.codespan_picture.specs.{metrics_then, char_metrics, placeholder, char_metrics_to_end}
+use Rattle.codespan_picture.specs.{width_at}
+use Rattle.codespan_picture.specs.Private.{AreContiguous}
 use lib.Utf8.{encodes}
-use Rattle.codespan_picture.specs.declared.char_metrics.Metrics.{Metrics}
-use Rattle.codespan_picture.specs.CharMetrics.{metrics_then, char_metrics, placeholder, char_metrics_to_end, width_at}
-use Rattle.codespan_picture.specs.Private.CharCursors.{AreContiguous}
 
 -- a character is at this byte index and column, and ends at `top` at the most
 pub record IsMetricsAt (top byte_index column : ℕ) (x : Metrics) : Type 0 where

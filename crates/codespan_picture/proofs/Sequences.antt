@@ -1,11 +1,11 @@
 -- For `outputs_are_utf8`: the elements of items in sequence and of what is between them, and what
 -- holds of all of them.
-use Rattle.std.proofs.Common.{◌≡◌, ℕ, ◌+◌, Bool, true, false, cond, ◌==◌, List, [], ◌∷◌, ◌++◌, flat_map, Option, Some, None, refl, ap, ap₂, ◌∙◌}
-use Rattle.std.specs.List.{AllByRecursion}
-use Rattle.std.proofs.lemmas.Bool.{cond_both}
+use Rattle.codespan_core.proofs.Std.{◌≡◌, ℕ, ◌+◌, Bool, true, false, cond, ◌==◌, List, [], ◌∷◌}
+use Rattle.codespan_core.proofs.Std.{◌++◌, flat_map, Option, Some, None, refl, ap, ap₂, ◌∙◌}
+use Rattle.codespan_core.proofs.Std.{AllByRecursion, cond_both}
 use Rattle.std.proofs.lemmas.List.Concat.{flat_map-append}
-use Rattle.codespan_picture.specs.Lines.{has_break_between}
-use Rattle.codespan_picture.specs.Sequences.{before_line, break_between, gap_between, in_sequence}
+use Rattle.codespan_picture.specs.{has_break_between, before_line, break_between, gap_between}
+use Rattle.codespan_picture.specs.{in_sequence}
 use Rattle.codespan_picture.proofs.ListElements.{all-append}
 
 module _ {A : Type 0} (P : A → Type 0) where
@@ -81,7 +81,8 @@ pub sequence-flat : {X A : Type 0} (line_of : X → ℕ) (own : X → List A) (p
     → in_sequence line_of (break_between (λ _. [])) own previous xs ≡ flat_map own xs
 sequence-flat line_of own previous [] = refl
 sequence-flat {X} {A} line_of own previous (x ∷ xs) =
-    ap (λ (first : List A). first ++ own x ++ in_sequence line_of (break_between (λ _. [])) own (Some (line_of x)) xs) (nothing previous)
+    ap (λ (first : List A). first ++ own x ++ in_sequence line_of (break_between (λ _. [])) own
+    (Some (line_of x)) xs) (nothing previous)
     ∙ ap (λ (rest : List A). own x ++ rest) (sequence-flat line_of own (Some (line_of x)) xs)
   where
     by_test : (b : Bool) → cond {A = List A} b [] [] ≡ []

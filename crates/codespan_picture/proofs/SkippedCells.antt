@@ -1,21 +1,16 @@
 -- For `write_carets`: the characters that a loop over a line leaves out, since they end before all
 -- labels start.
-use Rattle.std.proofs.Common.{◌≡◌, ℕ, ◌+◌, ◌-◌, ◌^◌, ◌<◌, ◌≤◌, Bool, true, false, ◌&&◌, ◌||◌, ◌==◌, ◌%◌, List, [], ◌∷◌, ◌++◌, None, refl, sym, ap, subst, ◌∙◌, arith, min, fold, add-zero}
-use Rattle.std.specs.List.{list_any}
-use Rattle.std.specs.Char.{len_utf8}
-use Rattle.std.specs.Str.{chars}
-use Rattle.std.specs.Prelude.{if◌then◌else◌}
-use Rattle.std.proofs.lemmas.Bool.Decides.{nat_tests}
-use Rattle.std.proofs.lemmas.List.Sums.{sum_by-cons}
-use Rattle.unicode_width.proofs.Rules.{width_or_zero, width_or_zero-le}
+use Rattle.codespan_core.proofs.Std.{◌≡◌, ℕ, ◌+◌, ◌-◌, ◌^◌, ◌<◌, ◌≤◌, Bool, true, false, ◌&&◌, ◌||◌}
+use Rattle.codespan_core.proofs.Std.{◌==◌, ◌%◌, List, [], ◌∷◌, ◌++◌, None, refl, sym, ap, subst}
+use Rattle.codespan_core.proofs.Std.{◌∙◌, arith, min, fold, add-zero, list_any, len_utf8, chars}
+use Rattle.codespan_core.proofs.Std.{if◌then◌else◌, nat_tests, sum_by-cons}
 use Rattle.codespan_core.specs.Labels.{LabelModel, is_primary}
-use Rattle.codespan_picture.specs.declared.char_metrics.Metrics.{Metrics}
-use Rattle.codespan_picture.specs.Carets.{covers, max_label_end, style_under}
-use Rattle.codespan_picture.specs.CharMetrics.{metrics_then, char_metrics_to_end, placeholder, width_at, width_of}
-use Rattle.codespan_picture.specs.Rows.{RowContext}
-use Rattle.codespan_picture.specs.RowParts.{carets}
-use Rattle.codespan_picture.specs.Private.LineCharacters.{EndBy, LeavesOut}
-use Rattle.codespan_picture.specs.Private.RowLabels.{least_start}
+use Rattle.codespan_picture.specs.Types.{Metrics}
+use Rattle.codespan_picture.specs.{covers, max_label_end, style_under, metrics_then}
+use Rattle.codespan_picture.specs.{char_metrics_to_end, placeholder, width_at, width_of, RowContext}
+use Rattle.codespan_picture.specs.{carets}
+use Rattle.codespan_picture.specs.Private.{EndBy, LeavesOut, least_start}
+use Rattle.unicode_width.proofs.Rules.{width_or_zero, width_or_zero-le}
 use Rattle.codespan_picture.proofs.CaretRuns.{carets_left, carets-same, carets-start, counts-all}
 use Rattle.codespan_picture.proofs.ScanState.{ConsecutiveWithin, ScanState, scan_state-more}
 

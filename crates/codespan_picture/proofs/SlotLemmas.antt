@@ -1,24 +1,34 @@
 -- For `messages_appear_once`: the slots in each row.
-use Rattle.std.proofs.Common.{◌≡◌, ℕ, zero, suc, ◌+◌, ◌-◌, Bool, true, false, cond, ◌==◌, nat_lt, nat_le, List, [], ◌∷◌, ◌++◌, replicate, Option, Some, None, if◌then◌else◌, refl, ap₂, ◌∙◌, arith}
-use Rattle.std.specs.Prelude.{sum_by, count_by, flat_map}
-use Rattle.std.specs.List.{repeat, list_any, range_with_len}
-use Rattle.std.proofs.lemmas.List.Sums.{sum_by-cons, sum_by-append}
-use Rattle.codespan_core.specs.declared.diagnostic.Severity.{Severity}
-use Rattle.codespan_core.specs.declared.diagnostic.LabelStyle.{LabelStyle}
-use Rattle.codespan_core.specs.declared.diagnostic.LabelStyle.TheVariants.{Primary, Secondary}
-use Rattle.codespan_core.specs.declared.term.config.chars.Chars.{Chars}
-use Rattle.codespan_core.specs.Streams.{Stream, Byte, style_mark, byte_stream, spaces, space, glyph, repeated, newline}
+use Rattle.codespan_core.proofs.Std.{◌≡◌, ℕ, zero, suc, ◌+◌, ◌-◌, Bool, true, false, cond, ◌==◌}
+use Rattle.codespan_core.proofs.Std.{nat_lt, nat_le, List, [], ◌∷◌, ◌++◌, replicate, Option, Some}
+use Rattle.codespan_core.proofs.Std.{None, if◌then◌else◌, refl, ap₂, ◌∙◌, arith, sum_by, count_by}
+use Rattle.codespan_core.proofs.Std.{flat_map, repeat, list_any, range_with_len, sum_by-cons}
+use Rattle.codespan_core.proofs.Std.{sum_by-append}
+use Rattle.codespan_core.specs.Streams.{Stream, Byte, style_mark, byte_stream, spaces, space, glyph}
+use Rattle.codespan_core.specs.Streams.{repeated, newline}
 use Rattle.codespan_core.specs.declared.term.config.style_mark.StyleMark.{StyleMark}
 use Rattle.codespan_core.specs.Labels.{LabelModel, LaneMark, MultiLabel, Top, Left, Bottom}
-use Rattle.codespan_picture.specs.declared.char_metrics.Metrics.{Metrics}
-use Rattle.codespan_picture.specs.Carets.{style_under, max_label_end}
+use Rattle.codespan_picture.specs.Types.{Severity, LabelStyle, Primary, Secondary, Chars, Metrics}
+use Rattle.codespan_picture.specs.{style_under, max_label_end, lane_mark_in, label_glyph}
+use Rattle.codespan_picture.specs.{crossing_characters, lane_characters, LaneRowKind, Locus}
+use Rattle.codespan_picture.specs.{RowContext, Line, Row, HeaderRow, SnippetStartRow, EmptyRow}
+use Rattle.codespan_picture.specs.{BreakRow, SourceRow, CaretRow, PointerRow, HangingRow}
+use Rattle.codespan_picture.specs.{UnderlineRow, FirstNoteRow, LaterNoteRow, FinalRow}
+use Rattle.codespan_picture.specs.{trailing_label, hanging_labels, snippet_locus, outer_gutter}
+use Rattle.codespan_picture.specs.{outer_gutter_number, border_left, border_left_break}
+use Rattle.codespan_picture.specs.{style_change, styled, label_message, inner_gutter_column}
+use Rattle.codespan_picture.specs.{lanes_in, inner_gutter, line_metrics, source_style, source_glyph}
+use Rattle.codespan_picture.specs.{colored_text, caret_glyphs, carets, trailing_message}
+use Rattle.codespan_picture.specs.{spaces_up_to, pointer_at, pointers, pointer_style, starts_in}
+use Rattle.codespan_picture.specs.{max_label_start, underline_message, underline, bracketed}
+use Rattle.codespan_picture.specs.{header_locus, header_row, snippet_start_row, empty_row}
+use Rattle.codespan_picture.specs.{break_row, source_row, row_start, caret_row, pointer_row}
+use Rattle.codespan_picture.specs.{hanging_row, underline_row, first_note_row, later_note_row}
+use Rattle.codespan_picture.specs.{stream_of, stream_of_rows, is_slot}
 use Rattle.codespan_picture.specs.declared.lane_shapes.Shape.{Shape}
-use Rattle.codespan_picture.specs.declared.lane_shapes.Shape.TheVariants.{Space, Bar, TopCorner, BottomCorner}
-use Rattle.codespan_picture.specs.Lanes.{lane_mark_in, label_glyph, crossing_characters, lane_characters, LaneRowKind}
-use Rattle.codespan_picture.specs.Rows.{Locus, RowContext, Lanes, Line, Row, HeaderRow, SnippetStartRow, EmptyRow, BreakRow, SourceRow, CaretRow, PointerRow, HangingRow, UnderlineRow, FirstNoteRow, LaterNoteRow, FinalRow, trailing_label, hanging_labels}
-use Rattle.codespan_picture.specs.RowParts.{snippet_locus, outer_gutter, outer_gutter_number, border_left, border_left_break, style_change, styled, label_message, inner_gutter_column, lanes_in, inner_gutter, line_metrics, source_style, source_glyph, colored_text, caret_glyphs, carets, trailing_message, spaces_up_to, pointer_at, pointers, pointer_style, starts_in, max_label_start, underline_message, underline}
-use Rattle.codespan_picture.specs.RowStreams.{bracketed, header_locus, header_row, snippet_start_row, empty_row, break_row, source_row, row_start, caret_row, pointer_row, hanging_row, underline_row, first_note_row, later_note_row, stream_of, stream_of_rows}
-use Rattle.codespan_picture.specs.MessageLaws.{is_slot}
+use Rattle.codespan_picture.specs.declared.lane_shapes.Shape.TheVariants.{Space, Bar, TopCorner}
+use Rattle.codespan_picture.specs.declared.lane_shapes.Shape.TheVariants.{BottomCorner}
+use Rattle.codespan_picture.specs.Rows.{Lanes}
 use Rattle.codespan_picture.proofs.MessageLemmas.{weight_of}
 
 -- how many slots of a label a stream has, folded unless a proof unfolds it
@@ -40,7 +50,12 @@ slots-nil k = refl
 pub slots-byte_stream : (k : ℕ) (bs : List ℕ) → slots k (byte_stream bs) ≡ 0
 unfolding slots byte_stream
 slots-byte_stream k [] = refl
-slots-byte_stream k (b ∷ bs) = omega (arith, sum_by-cons (λ x. cond (is_slot k x) 1 0) (Byte b) (byte_stream bs), slots-byte_stream k bs)
+slots-byte_stream k (b ∷ bs) = omega (
+  arith,
+  sum_by-cons (λ x. cond (is_slot k x) 1 0) (Byte b) (byte_stream bs),
+  slots-byte_stream k
+      bs,
+)
 
 pub slots-style_mark : (k : ℕ) (m : StyleMark) → slots k (style_mark m) ≡ 0
 unfolding slots style_mark
@@ -52,7 +67,8 @@ slots-spaces k n = slots-byte_stream k (replicate n 32)
 
 pub slots-repeat : (k n : ℕ) (s : Stream) → slots k s ≡ 0 → slots k (repeat n s) ≡ 0
 slots-repeat k zero s h = slots-nil k
-slots-repeat k (suc n) s h = slots-append k s (repeat n s) ∙ ap₂ (λ a b. a + b) h (slots-repeat k n s h)
+slots-repeat k (suc n) s h = slots-append k s (repeat n s) ∙ ap₂
+    (λ a b. a + b) h (slots-repeat k n s h)
 
 pub slots-repeated : (k n c : ℕ) → slots k (repeated n c) ≡ 0
 unfolding repeated
@@ -61,9 +77,17 @@ slots-repeated k n c = slots-repeat k n (glyph c) (slots-byte_stream k _)
 pub slots-flat_map : {X : Type 0} (k : ℕ) (f : X → Stream) (xs : List X)
     → ((x : X) → slots k (f x) ≡ 0) → slots k (flat_map f xs) ≡ 0
 slots-flat_map k f [] h = slots-nil k
-slots-flat_map k f (x ∷ xs) h = slots-append k (f x) (flat_map f xs) ∙ ap₂ (λ a b. a + b) (h x) (slots-flat_map k f xs h)
+slots-flat_map k f (x ∷ xs) h = slots-append k (f x) (flat_map f xs) ∙ ap₂
+    (λ a b. a + b) (h x) (slots-flat_map k f xs h)
 
-ruleset slots_of_parts = (slots-append, slots-nil, slots-byte_stream, slots-style_mark, slots-spaces, slots-repeated)
+ruleset slots_of_parts = (
+  slots-append,
+  slots-nil,
+  slots-byte_stream,
+  slots-style_mark,
+  slots-spaces,
+  slots-repeated,
+)
 
 pub slots-label_glyph : (k : ℕ) (severity : Severity) (style : LabelStyle) (c : ℕ)
     → slots k (label_glyph severity style c) ≡ 0
@@ -81,24 +105,32 @@ pub slots-lane_characters : (k : ℕ) (severity : Severity) (chars : Chars) (m :
     (style : LabelStyle) (shape : Shape)
     → slots k (lane_characters severity chars m style shape) ≡ 0
 unfolding lane_characters
-slots-lane_characters k severity chars m style Space = slots-crossing_characters k severity chars m 2
-slots-lane_characters k severity chars m style Bar = simp (slots_of_parts, slots-crossing_characters, slots-label_glyph)
-slots-lane_characters k severity chars m style TopCorner = simp (slots_of_parts, slots-crossing_characters, slots-label_glyph)
-slots-lane_characters k severity chars m style BottomCorner = simp (slots_of_parts, slots-crossing_characters, slots-label_glyph)
+slots-lane_characters k severity chars m style Space = slots-crossing_characters k severity chars m
+    2
+slots-lane_characters k severity chars m style Bar = simp
+    (slots_of_parts, slots-crossing_characters, slots-label_glyph)
+slots-lane_characters k severity chars m style TopCorner = simp
+    (slots_of_parts, slots-crossing_characters, slots-label_glyph)
+slots-lane_characters k severity chars m style BottomCorner = simp
+    (slots_of_parts, slots-crossing_characters, slots-label_glyph)
 
 pub slots-inner_gutter_column : (k : ℕ) (context : RowContext) (crossing : Option LaneMark)
     (shape : MultiLabel → Shape) (m : Option LaneMark)
     → slots k (inner_gutter_column context crossing shape m) ≡ 0
 unfolding inner_gutter_column
-slots-inner_gutter_column k context crossing shape None = slots-lane_characters k context.severity context.chars crossing Primary Space
-slots-inner_gutter_column k context crossing shape (Some m) = slots-lane_characters k context.severity context.chars crossing m.style (shape m.multi_label)
+slots-inner_gutter_column k context crossing shape None = slots-lane_characters k context.severity
+    context.chars crossing Primary Space
+slots-inner_gutter_column k context crossing shape (Some m) = slots-lane_characters k
+    context.severity context.chars crossing m.style (shape m.multi_label)
 
 pub slots-lanes_in : (k : ℕ) (context : RowContext) (crossing : ℕ → Option LaneMark)
     (shape : ℕ → MultiLabel → Shape) (lanes : Lanes)
     → slots k (lanes_in context crossing shape lanes) ≡ 0
 slots-lanes_in k context crossing shape lanes =
-    slots-flat_map k (λ lane. inner_gutter_column context (crossing lane) (shape lane) (lane_mark_in lanes.lane_marks lane)) (range_with_len 0 lanes.count)
-    (λ lane. slots-inner_gutter_column k context (crossing lane) (shape lane) (lane_mark_in lanes.lane_marks lane))
+    slots-flat_map k (λ lane. inner_gutter_column context (crossing lane) (shape lane)
+    (lane_mark_in lanes.lane_marks lane)) (range_with_len 0 lanes.count)
+    (λ lane. slots-inner_gutter_column k context (crossing lane) (shape lane)
+    (lane_mark_in lanes.lane_marks lane))
 
 pub slots-inner_gutter : (k : ℕ) (context : RowContext) (leading : ℕ) (row : LaneRowKind)
     (lanes : Lanes)
@@ -158,7 +190,8 @@ slots-source_glyph k c = by_test (c.ch == 9)
 pub slots-colored_text : (k : ℕ) (context : RowContext) (line : Line)
     → slots k (colored_text context line) ≡ 0
 unfolding colored_text
-slots-colored_text k context line = slots-styled k context.severity (source_style line) source_glyph (slots-source_glyph k) None (line_metrics context line)
+slots-colored_text k context line = slots-styled k context.severity (source_style line) source_glyph
+    (slots-source_glyph k) None (line_metrics context line)
 
 pub slots-caret_glyphs : (k : ℕ) (chars : Chars) (end : ℕ) (style : Option LabelStyle) (c : Metrics)
     → slots k (caret_glyphs chars end style c) ≡ 0
@@ -174,8 +207,10 @@ pub slots-carets : (k : ℕ) (context : RowContext) (labels : List LabelModel) (
     → slots k (carets context labels cs) ≡ 0
 unfolding carets
 slots-carets k context labels cs =
-    slots-styled k context.severity (style_under labels) (λ c. caret_glyphs context.chars (max_label_end labels) (style_under labels c) c)
-    (λ c. slots-caret_glyphs k context.chars (max_label_end labels) (style_under labels c) c) None cs
+    slots-styled k context.severity (style_under labels)
+    (λ c. caret_glyphs context.chars (max_label_end labels) (style_under labels c) c)
+    (λ c. slots-caret_glyphs k context.chars (max_label_end labels) (style_under labels c) c) None
+    cs
 
 pub slots-spaces_up_to : (k byte_index : ℕ) (c : Metrics) (n : ℕ)
     → slots k (spaces_up_to byte_index c n) ≡ 0
@@ -204,9 +239,22 @@ slots-pointer_at k context labels hanging_labels c = by_test (list_any (starts_i
 pub slots-pointers : (k : ℕ) (context : RowContext) (labels : List LabelModel) (cs : List Metrics)
     → slots k (pointers context labels cs) ≡ 0
 unfolding pointers
-slots-pointers k context labels cs = slots-flat_map k (pointer_at context labels (hanging_labels labels)) cs (slots-pointer_at k context labels (hanging_labels labels))
+slots-pointers k context labels cs = slots-flat_map k
+    (pointer_at context labels (hanging_labels labels)) cs
+    (slots-pointer_at k context labels (hanging_labels labels))
 
-ruleset parts = (slots_of_parts, slots-inner_gutter, slots-locus, slots-outer_gutter, slots-outer_gutter_number, slots-border_left, slots-border_left_break, slots-colored_text, slots-carets, slots-pointers)
+ruleset parts = (
+  slots_of_parts,
+  slots-inner_gutter,
+  slots-locus,
+  slots-outer_gutter,
+  slots-outer_gutter_number,
+  slots-border_left,
+  slots-border_left_break,
+  slots-colored_text,
+  slots-carets,
+  slots-pointers,
+)
 
 pub slots-label_message : (k : ℕ) (severity : Severity) (style : LabelStyle) (message : Stream)
     → slots k (label_message severity style message) ≡ slots k message
@@ -217,13 +265,15 @@ pub slots-trailing_message : (k : ℕ) (severity : Severity) (x : Option LabelMo
     → slots k (trailing_message severity x) ≡ weight_of (λ y. slots k y.message) x
 unfolding trailing_message
 slots-trailing_message k severity None = slots-nil k
-slots-trailing_message k severity (Some x) = simp (slots_of_parts, slots-label_message) (omega arith)
+slots-trailing_message k severity (Some x) = simp (slots_of_parts, slots-label_message)
+    (omega arith)
 
 pub slots-underline_message : (k : ℕ) (message : Stream)
     → slots k (underline_message message) ≡ slots k message
 unfolding underline_message
 slots-underline_message k [] = refl
-slots-underline_message k (p ∷ ps) = omega (arith, slots-append k space (p ∷ ps), slots-byte_stream k (32 ∷ []))
+slots-underline_message k (p ∷ ps) = omega
+    (arith, slots-append k space (p ∷ ps), slots-byte_stream k (32 ∷ []))
 
 -- the slots of a multi-line label mark, by its message
 abbrev pub multi_label_slots : ℕ → MultiLabel → ℕ
@@ -237,7 +287,8 @@ pub slots-underline : (k : ℕ) (chars : Chars) (style : LabelStyle) (cs : List 
 unfolding underline
 slots-underline k chars style cs (Top start) = simp slots_of_parts
 slots-underline k chars style cs Left = slots-nil k
-slots-underline k chars style cs (Bottom end message) = simp (slots_of_parts, slots-underline_message) (omega arith)
+slots-underline k chars style cs (Bottom end message) = simp
+    (slots_of_parts, slots-underline_message) (omega arith)
 
 pub slots-bracketed : (k : ℕ) (code : Option (List ℕ)) → slots k (bracketed code) ≡ 0
 unfolding bracketed
@@ -250,7 +301,8 @@ unfolding header_locus
 slots-header_locus k None = slots-nil k
 slots-header_locus k (Some p) = simp parts
 
-pub slots-row_start : (k : ℕ) (context : RowContext) (line : Line) → slots k (row_start context line) ≡ 0
+pub slots-row_start : (k : ℕ) (context : RowContext) (line : Line)
+    → slots k (row_start context line) ≡ 0
 unfolding row_start
 slots-row_start k context line = simp parts
 
@@ -263,15 +315,19 @@ row_slots k _ = 0
 
 pub slots-stream_of : (k : ℕ) (context : RowContext) (row : Row)
     → slots k (stream_of context row) ≡ row_slots k row
-unfolding header_row snippet_start_row empty_row break_row source_row caret_row pointer_row hanging_row underline_row first_note_row later_note_row
-slots-stream_of k context (HeaderRow at header_text) = simp (parts, slots-bracketed, slots-header_locus)
+unfolding header_row snippet_start_row empty_row break_row source_row caret_row pointer_row
+    hanging_row underline_row first_note_row later_note_row
+slots-stream_of k context (HeaderRow at header_text) = simp
+    (parts, slots-bracketed, slots-header_locus)
 slots-stream_of k context (SnippetStartRow at) = simp parts
 slots-stream_of k context (EmptyRow lanes) = simp parts
 slots-stream_of k context (BreakRow lanes) = simp parts
 slots-stream_of k context (SourceRow line) = simp parts
-slots-stream_of k context (CaretRow line) = simp (parts, slots-row_start, slots-trailing_message) (omega arith)
+slots-stream_of k context (CaretRow line) = simp (parts, slots-row_start, slots-trailing_message)
+    (omega arith)
 slots-stream_of k context (PointerRow line) = simp (parts, slots-row_start)
-slots-stream_of k context (HangingRow line x) = simp (parts, slots-row_start, slots-label_message) (omega arith)
+slots-stream_of k context (HangingRow line x) = simp (parts, slots-row_start, slots-label_message)
+    (omega arith)
 slots-stream_of k context (UnderlineRow line m) = simp (parts, slots-underline) (omega arith)
 slots-stream_of k context (FirstNoteRow note_line) = simp parts
 slots-stream_of k context (LaterNoteRow note_line) = simp parts
@@ -282,4 +338,11 @@ pub slots-rows : (k : ℕ) (context : RowContext) (rows : List Row)
 slots-rows k context [] = slots-nil k
 slots-rows k context (row ∷ rows) =
     slots-append k (stream_of context row ++ newline) (stream_of_rows context rows)
-    ∙ omega (arith, slots-append k (stream_of context row) newline, slots-byte_stream k (10 ∷ []), slots-stream_of k context row, slots-rows k context rows, sum_by-cons (row_slots k) row rows)
+    ∙ omega (
+      arith,
+      slots-append k (stream_of context row) newline,
+      slots-byte_stream k (10 ∷ []),
+      slots-stream_of k context row,
+      slots-rows k context rows,
+      sum_by-cons (row_slots k) row rows,
+    )

@@ -1,20 +1,19 @@
 -- For `messages_appear_once`: each label's message has one slot.
-use Rattle.std.proofs.Common.{◌≡◌, ℕ, zero, suc, ◌+◌, ◌<◌, Bool, true, false, not, cond, ◌||◌, ◌==◌, List, [], ◌∷◌, map, filter, Some, slice_get, length, if◌then◌else◌, refl, ap, ◌∙◌, arith}
-use Rattle.std.specs.Prelude.{sum_by, count_by}
-use Rattle.std.specs.List.{list_any, enumerate_from}
-use Rattle.std.proofs.lemmas.Bool.Decides.{nat_tests}
-use Rattle.std.proofs.lemmas.List.Sums.{sum_by-cons}
-use Rattle.std.specs.Cmp.{IsEquivalence}
-use Rattle.codespan_core.specs.declared.term.config.Config.{Config}
+use Rattle.codespan_core.proofs.Std.{◌≡◌, ℕ, zero, suc, ◌+◌, ◌<◌, Bool, true, false, not, cond}
+use Rattle.codespan_core.proofs.Std.{◌||◌, ◌==◌, List, [], ◌∷◌, map, filter, Some, slice_get}
+use Rattle.codespan_core.proofs.Std.{length, if◌then◌else◌, refl, ap, ◌∙◌, arith, sum_by, count_by}
+use Rattle.codespan_core.proofs.Std.{list_any, enumerate_from, nat_tests, sum_by-cons}
+use Rattle.codespan_core.proofs.Std.{IsEquivalence}
 use Rattle.codespan_core.specs.FileModel.{FileModel, line_count}
 use Rattle.codespan_core.specs.Streams.{Slot}
 use Rattle.codespan_core.specs.Labels.{has_message, is_empty_stream, first_seen}
-use Rattle.codespan_picture.specs.Rows.{HeaderText, Locus, RowContext}
-use Rattle.codespan_picture.specs.RowStreams.{stream_of_rows}
-use Rattle.codespan_picture.specs.Snippets.{LabelInFile, labeled_file_model, labeled_file_models, rich_rows}
-use Rattle.codespan_picture.specs.MessageLaws.{is_slot, slotted, all_slotted}
+use Rattle.codespan_picture.specs.Types.{Config}
+use Rattle.codespan_picture.specs.{HeaderText, Locus, RowContext, stream_of_rows, LabelInFile}
+use Rattle.codespan_picture.specs.{labeled_file_model, labeled_file_models, rich_rows, is_slot}
+use Rattle.codespan_picture.specs.{slotted, all_slotted}
 use Rattle.codespan_picture.proofs.SlotLemmas.{slots, slots-is, slots-rows}
-use Rattle.codespan_picture.proofs.LineSlots.{sum-ext, sum-zero, sum-map, sum-filter, sum-filter_free, sum-swap, label_slots}
+use Rattle.codespan_picture.proofs.LineSlots.{sum-ext, sum-zero, sum-map, sum-filter}
+use Rattle.codespan_picture.proofs.LineSlots.{sum-filter_free, sum-swap, label_slots}
 use Rattle.codespan_picture.proofs.FileSlots.{or_left, or_right, file_slots, snippet_sum, rich_sum}
 
 -- ---- each label is of one file
@@ -76,13 +75,15 @@ module _ {Id : Type 0} (same : Id → Id → Bool) (law : IsEquivalence same) wh
       → ((z : Id) → list_any (λ id. same id z) (map (λ (x : LabelInFile Id). x.file_id) xs) ≡ true
       → list_any (λ id. same id z) ids ≡ true)
       → sum_by
-      (λ (x : LabelInFile Id). sum_by (λ id. cond (same id x.file_id) (w x) 0) (first_seen same ids)) xs
+      (λ (x : LabelInFile Id). sum_by (λ id. cond (same id x.file_id) (w x) 0)
+      (first_seen same ids)) xs
       ≡ sum_by w xs
   all_seen w ids [] h = refl
   all_seen w ids (x ∷ xs) h =
       let here = h x.file_id
       (or_left (same x.file_id x.file_id)
-      (list_any (λ id. same id x.file_id) (map (λ (y : LabelInFile Id). y.file_id) xs)) (law.refl x.file_id)) in
+      (list_any (λ id. same id x.file_id) (map (λ (y : LabelInFile Id). y.file_id) xs))
+      (law.refl x.file_id)) in
       let e = ap {B = ℕ} (λ b. cond b (w x) 0) here in
       omega (
         arith,
@@ -111,7 +112,8 @@ module _ {Id : Type 0} (same : Id → Id → Bool) (law : IsEquivalence same) wh
       ∙ sum-filter (λ (x : LabelInFile Id). label_slots k x.label) (λ (x : LabelInFile Id). same id
       x.file_id) xs)
       ids
-      ∙ sum-swap (λ id (x : LabelInFile Id). cond (same id x.file_id) (label_slots k x.label) 0) ids xs
+      ∙ sum-swap (λ id (x : LabelInFile Id). cond (same id x.file_id) (label_slots k x.label) 0) ids
+      xs
       ∙ all_seen (λ x. label_slots k x.label) (map (λ (x : LabelInFile Id). x.file_id) xs) xs
       (λ z any. any)
 
@@ -136,7 +138,8 @@ module _ {Id : Type 0} (k : ℕ) where
   abbrev pub slotted_sum : List (LabelInFile Id) → ℕ
   slotted_sum ys = sum_by (λ (y : LabelInFile Id). label_slots k y.label) ys
 
-  pub none_later : (n : ℕ) (xs : List (LabelInFile Id)) → k < n → slotted_sum (slotted_from n xs) ≡ 0
+  pub none_later : (n : ℕ) (xs : List (LabelInFile Id)) → k < n → slotted_sum (slotted_from n xs)
+      ≡ 0
   none_later n [] h = refl
   none_later n (x ∷ xs) h =
       let other : (n == k) ≡ false = grind (arith, nat_tests) in

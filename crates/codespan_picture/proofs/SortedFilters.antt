@@ -1,15 +1,16 @@
 -- For `sorted_is_stable_sort`: what a filter keeps of a list that was sorted.
-use Rattle.std.proofs.Common.{◌≡◌, Bool, true, false, cond, List, [], ◌∷◌, ◌++◌, filter, reverse, ◌⊎◌, inl, inr, refl, sym, ap, subst, ◌∙◌, arith, true≢false}
-use Rattle.std.specs.Cmp.{IsStrictWeakOrder}
-use Rattle.std.specs.List.{AllByRecursion, sum_by}
-use Rattle.std.specs.List.Sorted.{IsSortedBy, IsPermutation}
-use Rattle.std.proofs.lemmas.Bool.{cond_both}
-use Rattle.std.proofs.lemmas.List.{append-nil, reverse-append}
-use Rattle.std.proofs.lemmas.List.Elements.{filter-append, recursion_from_All, All-from_recursion}
-use Rattle.std.proofs.lemmas.List.Sorted.{sum_by-IsPermutation, All-permutation}
-use Rattle.std.proofs.lemmas.List.Sums.{sum_by-append, sum_by-cons}
-use Rattle.codespan_picture.proofs.ListElements.{all-weaker, all-filter, all-append, all-both, all-pass}
-use Rattle.codespan_picture.proofs.SortedLists.{Climbs, rises-from_sorted, rises-filter, climbs-rises, SameSums, same_sums-filter, rises-unique}
+use Rattle.codespan_core.proofs.Std.{◌≡◌, Bool, true, false, cond, List, [], ◌∷◌, ◌++◌, filter}
+use Rattle.codespan_core.proofs.Std.{reverse, ◌⊎◌, inl, inr, refl, sym, ap, subst, ◌∙◌, arith}
+use Rattle.codespan_core.proofs.Std.{true≢false, IsStrictWeakOrder, AllByRecursion, sum_by}
+use Rattle.codespan_core.proofs.Std.{IsSortedBy, IsPermutation, cond_both, append-nil}
+use Rattle.codespan_core.proofs.Std.{reverse-append, filter-append, recursion_from_All}
+use Rattle.codespan_core.proofs.Std.{All-from_recursion, sum_by-IsPermutation, All-permutation}
+use Rattle.codespan_core.proofs.Std.{sum_by-append, sum_by-cons}
+use Rattle.codespan_picture.proofs.ListElements.{all-weaker, all-filter, all-append, all-both}
+use Rattle.codespan_picture.proofs.ListElements.{all-pass}
+use Rattle.codespan_picture.proofs.SortedLists.{Climbs, rises-from_sorted, rises-filter}
+use Rattle.codespan_picture.proofs.SortedLists.{climbs-rises, SameSums, same_sums-filter}
+use Rattle.codespan_picture.proofs.SortedLists.{rises-unique}
 
 -- ---- what a filter keeps of a sorted list
 

@@ -1,13 +1,10 @@
 -- For `sorted_is_stable_sort`: lists in order, and what a filter keeps of a list that was sorted.
-use Rattle.std.proofs.Common.{◌≡◌, ℕ, zero, suc, ◌+◌, Bool, true, false, cond, List, [], ◌∷◌, length, map, filter, ⊎_elim, refl, sym, ap, ◌∙◌, arith}
-use Rattle.std.specs.Cmp.{IsStrictWeakOrder}
-use Rattle.std.specs.List.{AllByRecursion, AllPairs, sum_by}
-use Rattle.std.specs.List.Sorted.{IsSortedBy}
-use Rattle.std.proofs.lemmas.Bool.{cases_Bool, cond_both}
-use Rattle.std.proofs.lemmas.List.{get_or-map, length-map}
-use Rattle.std.proofs.lemmas.List.Elements.{recursion_from_All}
-use Rattle.std.proofs.lemmas.List.Sorted.{sorted_far}
-use Rattle.std.proofs.lemmas.List.Sums.{sum_by-cons}
+use Rattle.codespan_core.proofs.Std.{◌≡◌, ℕ, zero, suc, ◌+◌, Bool, true, false, cond, List, [], ◌∷◌}
+use Rattle.codespan_core.proofs.Std.{length, map, filter, ⊎_elim, refl, sym, ap, ◌∙◌, arith}
+use Rattle.codespan_core.proofs.Std.{IsStrictWeakOrder, AllByRecursion, sum_by, IsSortedBy}
+use Rattle.codespan_core.proofs.Std.{cases_Bool, cond_both, get_or-map, length-map}
+use Rattle.codespan_core.proofs.Std.{recursion_from_All, sorted_far, sum_by-cons}
+use Rattle.std.specs.List.{AllPairs}
 use Rattle.codespan_picture.proofs.ListElements.{all-weaker, all-filter}
 
 -- ---- lists in order

@@ -1,24 +1,18 @@
 -- For `write_caret_pointers` and `write_pointer_row`, and for `find_pointers` and `next_pointer` of
 -- `codespan_renderer`: the pointers of a line with spaces between them.
-use Rattle.std.proofs.Common.{◌≡◌, ℕ, ◌+◌, ◌-◌, ◌<◌, ◌≤◌, min, Bool, true, false, nat_lt, nat_le}
-use Rattle.std.proofs.Common.{List, [], ◌∷◌, ◌++◌, Option, Some, None, refl, sym, ap, ◌∙◌, arith}
-use Rattle.std.proofs.Common.{append_assoc, append-nil, lt-ltb}
-use Rattle.std.specs.Prelude.{if◌then◌else◌}
-use Rattle.std.specs.List.{list_any}
-use Rattle.std.proofs.lemmas.Bool.{le-leb, lt-leb}
-use Rattle.std.proofs.lemmas.Bool.Decides.{nat_tests}
-use Rattle.codespan_core.specs.declared.diagnostic.LabelStyle.{LabelStyle}
+use Rattle.codespan_core.proofs.Std.{◌≡◌, ℕ, ◌+◌, ◌-◌, ◌<◌, ◌≤◌, min, Bool, true, false, nat_lt}
+use Rattle.codespan_core.proofs.Std.{nat_le, List, [], ◌∷◌, ◌++◌, Option, Some, None, refl, sym, ap}
+use Rattle.codespan_core.proofs.Std.{◌∙◌, arith, append_assoc, append-nil, lt-ltb, if◌then◌else◌}
+use Rattle.codespan_core.proofs.Std.{list_any, le-leb, lt-leb, nat_tests}
 use Rattle.codespan_core.specs.Labels.{LabelModel}
 use Rattle.codespan_core.specs.Streams.{Stream, byte_stream, spaces}
-use Rattle.codespan_picture.specs.declared.char_metrics.Metrics.{Metrics}
+use Rattle.codespan_picture.specs.Types.{LabelStyle, Metrics}
 use Rattle.codespan_picture.specs.declared.rows.pointer_cursor.Pointer.{Pointer}
-use Rattle.codespan_picture.specs.CharMetrics.{width_of}
-use Rattle.codespan_picture.specs.Lanes.{label_glyph}
-use Rattle.codespan_picture.specs.Rows.{RowContext, hanging_labels}
-use Rattle.codespan_picture.specs.RowParts.{starts_in, pointer_style, max_label_start, spaces_up_to}
-use Rattle.codespan_picture.specs.RowParts.{pointer_at, pointers, metrics_up_to}
-use Rattle.codespan_picture.specs.Private.PointerLists.{pointer_style_if_any, pointers_in}
-use Rattle.codespan_picture.specs.Private.PointerLists.{pointers_before, spaced}
+use Rattle.codespan_picture.specs.{width_of, label_glyph, RowContext, hanging_labels, starts_in}
+use Rattle.codespan_picture.specs.{pointer_style, max_label_start, spaces_up_to, pointer_at}
+use Rattle.codespan_picture.specs.{pointers, metrics_up_to}
+use Rattle.codespan_picture.specs.Private.{pointer_style_if_any, pointers_in, pointers_before}
+use Rattle.codespan_picture.specs.Private.{spaced}
 use Rattle.codespan_picture.proofs.HangingStarts.{any-below, any-hanging_labels, starts_in-low}
 use Rattle.codespan_picture.proofs.Consecutive.{AreConsecutive}
 use Rattle.codespan_picture.proofs.RowEquations.{spaces-add}
@@ -213,7 +207,14 @@ spaced-char_metrics context labels byte_index column at (c ∷ cs) adjacent low 
         by_found None is =
             let more : column - at + c.unicode_width ≡ column + c.unicode_width - at =
             omega arith in
-            rw (pointer_none context labels c is, spaces_due (max_label_start labels) c (column - at) c.unicode_width (pointers context labels cs) low_byte_index, is, edges, more)
+            rw (
+              pointer_none context labels c is,
+              spaces_due (max_label_start labels) c
+                  (column - at) c.unicode_width (pointers context labels cs) low_byte_index,
+              is,
+              edges,
+              more,
+            )
             (again at (omega arith))
         by_found (Some style) is =
             let glyph = label_glyph context.severity style context.chars.pointer_left in
@@ -237,7 +238,9 @@ spaced-char_metrics context labels byte_index column at (c ∷ cs) adjacent low 
             ∙ spaces_due (max_label_start labels) c 0 (c.unicode_width - 1) rest low_byte_index
             ∙ ap (λ n. spaces n ++ rest) more
             ∙ again (column + min c.unicode_width 1) (omega arith))
-            ∙ ap (λ k. spaces (k - at) ++ glyph ++ spaced context far_edge (k + min c.unicode_width 1) (pointers_in (hanging_labels labels) cs)) (sym adjacent.1)) in
+            ∙ ap (λ k. spaces (k - at) ++ glyph ++ spaced context far_edge
+            (k + min c.unicode_width 1) (pointers_in (hanging_labels labels) cs))
+            (sym adjacent.1)) in
             drawn
             ∙ ap (λ n. spaced context n at (pointers_in (hanging_labels labels) (c ∷ cs)))
             (sym edges)

@@ -1,24 +1,18 @@
 -- For `output_is_picture` and `headers_are_before_failure`: an output where the
 -- names of files are stated.
-use Rattle.std.proofs.Common.{◌≡◌, Bool, true, false, cond, ◌&&◌, List, [], ◌∷◌, ◌++◌, length, map, take, flat_map, Option, None, Some, refl, sym, ap, ◌∙◌, arith}
+use Rattle.codespan_core.proofs.Std.{◌≡◌, Bool, true, false, cond, ◌&&◌, List, [], ◌∷◌, ◌++◌}
+use Rattle.codespan_core.proofs.Std.{length, map, take, flat_map, Option, None, Some, refl, sym, ap}
+use Rattle.codespan_core.proofs.Std.{◌∙◌, arith, take-append_seam, length-map, map-append}
 use Rattle.std.specs.Prelude.{IsSome, is_none, take_while}
-use Rattle.std.proofs.Math.Seq.{take-append_seam}
-use Rattle.std.proofs.lemmas.List.{length-map, map-append}
 use Rattle.std.proofs.lemmas.List.Elements.{Contains-append_right}
 use Rattle.std.proofs.lemmas.List.Sums.{take_while-cons}
-use Rattle.codespan_core.specs.declared.diagnostic.Diagnostic.{Diagnostic}
-use Rattle.codespan_core.specs.declared.files.Error.{Error}
-use Rattle.codespan_core.specs.declared.term.config.Config.{Config}
-use Rattle.codespan_core.specs.declared.term.config.DisplayStyle.{DisplayStyle}
-use Rattle.codespan_core.specs.declared.term.config.DisplayStyle.TheVariants.{Short}
 use Rattle.codespan_core.specs.FileModel.{FileDatabase, FileModel, Lookup, or_failure}
 use Rattle.codespan_core.specs.FileModel.Lookup.{Name, LocationAt}
-use Rattle.codespan_picture.specs.Lookups.{AllSucceed, Failures, first_error, header_lookups_of}
-use Rattle.codespan_picture.specs.OutputStreams.{AreLoci, label_locus_byte, labels_of, output, locus_bytes}
-use Rattle.codespan_picture.specs.Picture.{headers_at, stated_loci, stated_locus}
-use Rattle.codespan_picture.specs.Rows.{Locus}
-use Rattle.codespan_picture.specs.Snippets.{LabelInFile, primary_of}
-use Rattle.codespan_picture.specs.StatedNames.{HeadersAreBeforeFailure, NamesAreStated, OutputIsPicture}
+use Rattle.codespan_picture.specs.Types.{Diagnostic, Error, Config, DisplayStyle, Short}
+use Rattle.codespan_picture.specs.{AllSucceed, Failures, first_error, header_lookups_of, AreLoci}
+use Rattle.codespan_picture.specs.{label_locus_byte, labels_of, output, locus_bytes, headers_at}
+use Rattle.codespan_picture.specs.{stated_loci, stated_locus, Locus, LabelInFile, primary_of}
+use Rattle.codespan_picture.specs.{HeadersAreBeforeFailure, NamesAreStated, OutputIsPicture}
 use Rattle.codespan_picture.proofs.Loci.{each_of, each_start, zip_stated}
 
 -- ---- labels before the first one for which a lookup fails
@@ -58,7 +52,8 @@ none_of_first failure (l ∷ ls) ms h =
     (ap (λ (o : Option Error). or_failure o (first_error failure ls)) parts.0 ∙ later.0, later.1)
 
 -- labels whose lookups succeed, and then a label for which one fails
-run_before : {Id : Type 0} (failure : Failures Id) (before : List (LabelInFile Id)) (here : LabelInFile Id)
+run_before : {Id : Type 0} (failure : Failures Id) (before : List (LabelInFile Id))
+    (here : LabelInFile Id)
     (after : List (LabelInFile Id))
     → first_error failure (flat_map header_lookups_of before) ≡ None
     → lookup_succeeds failure here ≡ false

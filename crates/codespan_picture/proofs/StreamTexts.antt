@@ -1,26 +1,25 @@
 -- For `outputs_are_utf8`: the streams of parts of rows are texts.
-use Rattle.std.proofs.Common.{◌≡◌, ℕ, zero, suc, ◌<◌, ◌/◌, ◌%◌, Bool, true, false, ◌&&◌, ◌==◌, List, [], ◌∷◌, ◌++◌, flat_map, map, replicate, append_assoc, append-nil, Option, Some, None, refl, sym, subst, arith}
-use Rattle.std.specs.Prelude.{codes, decimal, nat_lt}
-use Rattle.std.specs.Char.{IsScalar, encode_utf8}
+use Rattle.codespan_core.proofs.Std.{◌≡◌, ℕ, zero, suc, ◌<◌, ◌/◌, ◌%◌, Bool, true, false, ◌&&◌}
+use Rattle.codespan_core.proofs.Std.{◌==◌, List, [], ◌∷◌, ◌++◌, flat_map, map, replicate}
+use Rattle.codespan_core.proofs.Std.{append_assoc, append-nil, Option, Some, None, refl, sym, subst}
+use Rattle.codespan_core.proofs.Std.{arith, codes, decimal, nat_lt, IsScalar, encode_utf8}
+use Rattle.codespan_core.proofs.Std.{AllByRecursion, repeat, IsUtf8, chars, cond_both, nat_tests}
+use Rattle.codespan_core.proofs.Std.{IsUtf8-nil}
 use Rattle.std.specs.Fmt.{digits, digits_onto, digit_glyph}
-use Rattle.std.specs.List.{AllByRecursion, repeat}
-use Rattle.std.specs.Str.{IsUtf8, IsAscii, chars}
-use Rattle.std.proofs.lemmas.Bool.{cond_both}
-use Rattle.std.proofs.lemmas.Bool.Decides.{nat_tests}
-use Rattle.std.proofs.lemmas.Str.{IsUtf8-append, IsUtf8-encode, IsUtf8-from_ascii, IsUtf8-nil}
+use Rattle.std.specs.Str.{IsAscii}
+use Rattle.std.proofs.lemmas.Str.{IsUtf8-append, IsUtf8-encode, IsUtf8-from_ascii}
 use Rattle.std.proofs.lemmas.Str.Ascii.{IsAscii-cons, IsAscii-nil}
-use Rattle.codespan_core.specs.declared.diagnostic.LabelStyle.{LabelStyle}
-use Rattle.codespan_core.specs.declared.diagnostic.LabelStyle.TheVariants.{Primary, Secondary}
-use Rattle.codespan_core.specs.declared.diagnostic.Severity.{Severity}
-use Rattle.codespan_core.specs.declared.diagnostic.Severity.TheVariants.{Bug, Error, Warning, Note, Help}
-use Rattle.codespan_core.specs.declared.term.config.chars.Chars.{Chars}
-use Rattle.codespan_core.specs.Streams.{Stream, Byte, Mark, Slot, style_mark, glyph, byte_stream, spaces, space, repeated, newline, text_of}
+use Rattle.codespan_core.specs.declared.diagnostic.Severity.TheVariants.{Bug, Error, Warning, Note}
+use Rattle.codespan_core.specs.declared.diagnostic.Severity.TheVariants.{Help}
+use Rattle.codespan_core.specs.Streams.{Stream, Byte, Mark, Slot, style_mark, glyph, byte_stream}
+use Rattle.codespan_core.specs.Streams.{spaces, space, repeated, newline, text_of}
 use Rattle.codespan_core.specs.declared.term.config.style_mark.StyleMark.{StyleMark}
 use Rattle.codespan_core.specs.declared.term.config.style_mark.StyleMark.TheVariants.{Label, Reset}
-use Rattle.codespan_picture.specs.declared.char_metrics.Metrics.{Metrics}
-use Rattle.codespan_picture.specs.Rows.{Locus}
-use Rattle.codespan_picture.specs.RowParts.{severity_name, snippet_locus, outer_gutter, outer_gutter_number, border_left, border_left_break, style_change, styled, label_message}
-use Rattle.codespan_picture.specs.Utf8Laws.{AreUtf8After, StreamIsUtf8, CharsAreScalars}
+use Rattle.codespan_picture.specs.Types.{LabelStyle, Primary, Secondary, Severity, Chars, Metrics}
+use Rattle.codespan_picture.specs.{Locus, severity_name, snippet_locus, outer_gutter}
+use Rattle.codespan_picture.specs.{outer_gutter_number, border_left, border_left_break}
+use Rattle.codespan_picture.specs.{style_change, styled, label_message, AreUtf8After, StreamIsUtf8}
+use Rattle.codespan_picture.specs.{CharsAreScalars}
 use Rattle.codespan_picture.proofs.Texts.{text_of-append, text_of-byte_stream, text_of-style_mark}
 
 -- ---- streams
@@ -70,7 +69,11 @@ followed {s} {t} a b = text-both s t a b
 pub text-byte_stream : (bs : List ℕ) → IsUtf8 bs → StreamIsUtf8 (byte_stream bs)
 unfolding byte_stream
 text-byte_stream bs u =
-    record { utf8 = subst IsUtf8 (sym (text_of-byte_stream bs)) u; between_style_marks = after-bytes [] bs u }
+    record {
+      utf8 = subst IsUtf8 (sym (text_of-byte_stream bs)) u;
+      between_style_marks = after-bytes
+          [] bs u;
+    }
 
 -- a style mark
 pub text-style_mark : (m : StyleMark) → StreamIsUtf8 (style_mark m)
@@ -132,7 +135,8 @@ ascii-spaces (suc n) = IsAscii-cons 32 (replicate n 32) (omega arith) (ascii-spa
 
 pub text-spaces : (n : ℕ) → StreamIsUtf8 (spaces n)
 unfolding spaces
-text-spaces n = text-byte_stream (replicate n 32) (IsUtf8-from_ascii (replicate n 32) (ascii-spaces n))
+text-spaces n = text-byte_stream (replicate n 32)
+    (IsUtf8-from_ascii (replicate n 32) (ascii-spaces n))
 
 -- a character many times
 pub text-repeated : (n c : ℕ) → IsScalar c → StreamIsUtf8 (repeated n c)
@@ -142,7 +146,8 @@ text-repeated (suc n) c s =
     text-both (glyph c) (repeat n (glyph c)) (text-glyph c s) (text-repeated n c s)
 
 -- the streams of elements
-pub text-each : {X : Type 0} (f : X → Stream) (xs : List X) → AllByRecursion (λ x. StreamIsUtf8 (f x)) xs
+pub text-each : {X : Type 0} (f : X → Stream) (xs : List X)
+    → AllByRecursion (λ x. StreamIsUtf8 (f x)) xs
     → StreamIsUtf8 (flat_map f xs)
 text-each f [] h = text-none
 text-each f (x ∷ xs) h = text-both (f x) (flat_map f xs) h.0 (text-each f xs h.1)
@@ -213,7 +218,8 @@ pub text-border_left_break : (chars : Chars) → CharsAreScalars chars
 unfolding border_left_break
 text-border_left_break chars ok = search (pieces, ok.source_border_left_break)
 
-text-style_change : (severity : Severity) (a b : Option LabelStyle) → StreamIsUtf8 (style_change severity a b)
+text-style_change : (severity : Severity) (a b : Option LabelStyle)
+    → StreamIsUtf8 (style_change severity a b)
 unfolding style_change
 text-style_change severity None None = text-none
 text-style_change severity None (Some style) = text-style_mark (Label severity style)
@@ -227,7 +233,8 @@ text-style_change severity (Some Secondary) (Some Primary) =
 
 pub text-styled : (severity : Severity) (style : Metrics → Option LabelStyle)
     (shown : Metrics → Stream) (previous : Option LabelStyle) (cs : List Metrics)
-    → AllByRecursion (λ c. StreamIsUtf8 (shown c)) cs → StreamIsUtf8 (styled severity style shown previous cs)
+    → AllByRecursion (λ c. StreamIsUtf8 (shown c)) cs
+    → StreamIsUtf8 (styled severity style shown previous cs)
 text-styled severity style shown previous [] h = text-style_change severity previous None
 text-styled severity style shown previous (c ∷ cs) h =
     text-both (style_change severity previous (style c) ++ shown c) _

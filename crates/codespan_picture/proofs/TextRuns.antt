@@ -1,21 +1,18 @@
 -- For `write_colored_text`: the text of a source row, run by run.
-use Rattle.std.proofs.Common.{◌≡◌, ℕ, ◌+◌, ◌-◌, ◌≤◌, List, [], ◌∷◌, ◌++◌, length, take, drop, Option, None, refl, sym, ap, ◌∙◌, append_assoc, append-nil, arith}
-use Rattle.std.specs.Char.{encode_utf8, len_utf8}
-use Rattle.std.specs.Str.{IsUtf8, chars}
-use Rattle.std.proofs.Math.Seq.{take-add, take-append_seam}
-use Rattle.std.proofs.lemmas.List.{drop-drop}
+use Rattle.codespan_core.proofs.Std.{◌≡◌, ℕ, ◌+◌, ◌-◌, ◌≤◌, List, [], ◌∷◌, ◌++◌, length, take, drop}
+use Rattle.codespan_core.proofs.Std.{Option, None, refl, sym, ap, ◌∙◌, append_assoc, append-nil}
+use Rattle.codespan_core.proofs.Std.{arith, encode_utf8, len_utf8, IsUtf8, chars, take-append_seam}
+use Rattle.codespan_core.proofs.Std.{drop-drop, ne_eqb, eq-eqb}
+use Rattle.std.proofs.Math.Seq.{take-add}
 use Rattle.std.proofs.lemmas.Str.{encodes-chars, drop_past_char}
-use Rattle.std.proofs.lemmas.Bool.{ne_eqb, eq-eqb}
-use lib.Utf8.{encodes}
-use Rattle.codespan_core.specs.declared.diagnostic.LabelStyle.{LabelStyle}
 use Rattle.codespan_core.specs.Streams.{Stream, byte_stream, spaces, glyph}
+use Rattle.codespan_picture.specs.Types.{LabelStyle, Metrics}
+use Rattle.codespan_picture.specs.{metrics_then, char_metrics, width_at, RowContext, Line}
+use Rattle.codespan_picture.specs.{style_change, styled, source_glyph, source_style, colored_text}
+use lib.Utf8.{encodes}
 use Rattle.codespan_core.proofs.Writes.{byte_stream-append}
-use Rattle.codespan_picture.specs.declared.char_metrics.Metrics.{Metrics}
 use Rattle.codespan_picture.proofs.CharSteps.{bytes_left}
 use Rattle.codespan_picture.proofs.RowEquations.{style_change-same, regroup}
-use Rattle.codespan_picture.specs.CharMetrics.{metrics_then, char_metrics, width_at}
-use Rattle.codespan_picture.specs.Rows.{RowContext, Line}
-use Rattle.codespan_picture.specs.RowParts.{style_change, styled, source_glyph, source_style, colored_text}
 
 -- ---- where a loop is in the text
 
@@ -137,11 +134,13 @@ tab_shown c h = rw (eq-eqb c.ch 9 h) refl
 pub text-turn : (context : RowContext) (line : Line) (previous style : Option LabelStyle)
     (run : List ℕ) (c : Metrics) (left cs : List Metrics)
     → left ≡ c ∷ cs → style ≡ source_style line c → (c.ch ≡ 9 → ⊥)
-    → text_rest context line previous run left ≡ byte_stream run ++ style_change context.severity previous
+    → text_rest context line previous run left ≡ byte_stream run ++ style_change context.severity
+    previous
     style ++ text_rest context line style (encode_utf8 c.ch) cs
 text-turn context line previous style run c left cs l s h =
     rw (l, s)
-    (regroup (byte_stream run) (style_change context.severity previous (source_style line c)) (source_glyph c)
+    (regroup (byte_stream run) (style_change context.severity previous (source_style line c))
+    (source_glyph c)
     (styled context.severity (source_style line) source_glyph (source_style line c) cs)
     ∙ ap
     (λ (g : Stream). byte_stream run ++ style_change context.severity previous (source_style line c)
@@ -168,13 +167,15 @@ text-same context line previous style run c left cs l s h e =
 pub text-tab : (context : RowContext) (line : Line) (previous style : Option LabelStyle)
     (run : List ℕ) (c : Metrics) (left cs : List Metrics)
     → left ≡ c ∷ cs → style ≡ source_style line c → c.ch ≡ 9
-    → text_rest context line previous run left ≡ byte_stream run ++ style_change context.severity previous
+    → text_rest context line previous run left ≡ byte_stream run ++ style_change context.severity
+    previous
     style ++ spaces c.unicode_width ++ text_rest context line style [] cs
 unfolding byte_stream
 text-tab context line previous style run c left cs l s h =
     let st = styled context.severity (source_style line) source_glyph (source_style line c) cs in
     rw (l, s)
-    (regroup (byte_stream run) (style_change context.severity previous (source_style line c)) (source_glyph
+    (regroup (byte_stream run) (style_change context.severity previous (source_style line c))
+    (source_glyph
     c) st
     ∙ ap
     (λ (g : Stream). byte_stream run ++ style_change context.severity previous (source_style line c)
@@ -188,5 +189,6 @@ text-tab context line previous style run c left cs l s h =
 pub text-end : (context : RowContext) (line : Line) (previous : Option LabelStyle) (run : List ℕ)
     (left : List Metrics)
     → left ≡ []
-    → byte_stream run ++ style_change context.severity previous None ≡ text_rest context line previous run left
+    → byte_stream run ++ style_change context.severity previous None
+    ≡ text_rest context line previous run left
 text-end context line previous run left e = rw e refl

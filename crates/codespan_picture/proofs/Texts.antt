@@ -1,13 +1,12 @@
 -- For `carets_are_cells`, `chars_change_no_row_length` and `lanes_take_two_characters`: texts of
 -- streams.
-use Rattle.std.proofs.Common.{◌≡◌, ℕ, zero, suc, ◌+◌, not, List, [], ◌∷◌, ◌++◌, replicate, encode_utf8_all, cond, refl, sym, ap, ◌∙◌, arith, append_assoc}
-use Rattle.std.specs.List.{repeat}
-use Rattle.std.specs.Char.{encode_utf8}
-use Rattle.std.proofs.lemmas.Bool.Decides.{nat_tests}
-use Rattle.std.proofs.lemmas.List.Sums.{sum_by-append}
-use Rattle.codespan_core.specs.Streams.{Stream, Byte, Mark, Slot, byte_stream, style_mark, spaces, repeated, glyph, text_of}
+use Rattle.codespan_core.proofs.Std.{◌≡◌, ℕ, zero, suc, ◌+◌, not, List, [], ◌∷◌, ◌++◌, replicate}
+use Rattle.codespan_core.proofs.Std.{encode_utf8_all, cond, refl, sym, ap, ◌∙◌, arith, append_assoc}
+use Rattle.codespan_core.proofs.Std.{repeat, encode_utf8, nat_tests, sum_by-append}
+use Rattle.codespan_core.specs.Streams.{Stream, Byte, Mark, Slot, byte_stream, style_mark, spaces}
+use Rattle.codespan_core.specs.Streams.{repeated, glyph, text_of}
 use Rattle.codespan_core.specs.declared.term.config.style_mark.StyleMark.{StyleMark}
-use Rattle.codespan_picture.specs.RowLaws.{is_continuation, character_count, row_length}
+use Rattle.codespan_picture.specs.{is_continuation, character_count, row_length}
 
 -- ---- texts of streams
 

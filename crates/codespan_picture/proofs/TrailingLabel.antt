@@ -1,16 +1,17 @@
 -- For `Messages::of`: which label's message trails.
-use Rattle.std.proofs.Common.{◌||◌, ◌≡◌, ℕ, zero, suc, ◌+◌, ◌<◌, Bool, true, false, cond, ◌==◌, ◌&&◌, List, [], ◌∷◌, ◌++◌, length, get_or, take, drop, filter, Option, Some, None, refl, sym, ap, subst, ◌∙◌, arith, drop-cons, add-one}
-use Rattle.std.specs.Prelude.{not}
-use Rattle.std.specs.List.{list_any, enumerate_from, last_or, remove, take-map, drop-map}
-use Rattle.std.specs.Option.{option_map, option_map_or}
-use Rattle.std.proofs.lemmas.Bool.{eq-eqb, ne_eqb}
+use Rattle.codespan_core.proofs.Std.{◌||◌, ◌≡◌, ℕ, zero, suc, ◌+◌, ◌<◌, Bool, true, false, cond}
+use Rattle.codespan_core.proofs.Std.{◌==◌, ◌&&◌, List, [], ◌∷◌, ◌++◌, length, get_or, take, drop}
+use Rattle.codespan_core.proofs.Std.{filter, Option, Some, None, refl, sym, ap, subst, ◌∙◌, arith}
+use Rattle.codespan_core.proofs.Std.{drop-cons, add-one, not, list_any, enumerate_from, remove}
+use Rattle.codespan_core.proofs.Std.{take-map, drop-map, option_map, option_map_or, eq-eqb, ne_eqb}
+use Rattle.codespan_core.proofs.Std.{list_any-append}
+use Rattle.std.specs.List.{last_or}
 use Rattle.std.proofs.lemmas.Option.{slice_get-get_or}
-use Rattle.std.proofs.lemmas.List.Folds.{list_any-append}
 use Rattle.codespan_core.specs.Labels.{LabelModel, has_message, is_empty_stream}
 use Rattle.codespan_core.specs.Streams.{byte_stream}
-use Rattle.codespan_picture.specs.Arguments.{SingleLabelTuple, single_label_view, single_label_views}
-use Rattle.codespan_picture.specs.Rows.{last_with_end, overlaps_any, does_trail}
-use Rattle.codespan_picture.specs.Private.RowLabels.{indexed_label_view}
+use Rattle.codespan_picture.specs.{SingleLabelTuple, single_label_view, single_label_views}
+use Rattle.codespan_picture.specs.{last_with_end, overlaps_any, does_trail}
+use Rattle.codespan_picture.specs.Private.{indexed_label_view}
 
 -- a text is empty as a stream where it is empty
 pub is_empty_bytes : (text : List ℕ) → is_empty_stream (byte_stream text) ≡ (length text == 0)

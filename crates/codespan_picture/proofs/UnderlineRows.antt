@@ -1,31 +1,28 @@
 -- For `write_underlines` and `write_note`: the underlines of multi-line labels, and the rows of a
 -- note.
-use Rattle.std.proofs.Common.{◌≡◌, ℕ, ◌+◌, ◌<◌, Bool, true, false, List, [], ◌∷◌, ◌++◌, append_assoc, length, drop, None, Some, refl, sym, ap, arith, get_or, add-one, drop-cons}
-use Rattle.std.specs.Prelude.{filter, map, if◌then◌else◌}
+use Rattle.codespan_core.proofs.Std.{◌≡◌, ℕ, ◌+◌, ◌<◌, Bool, true, false, List, [], ◌∷◌, ◌++◌}
+use Rattle.codespan_core.proofs.Std.{append_assoc, length, drop, None, Some, refl, sym, ap, arith}
+use Rattle.codespan_core.proofs.Std.{get_or, add-one, drop-cons, filter, map, if◌then◌else◌}
 use Rattle.std.specs.Borrow.{Bor}
-use Rattle.codespan_core.specs.declared.diagnostic.LabelStyle.{LabelStyle}
 use Rattle.std.specs.declared.str.Lines.{Lines as TextLines}
 use Rattle.std.specs.Str.Iter.{lines_steps}
 use Rattle.std.proofs.lemmas.Iterator.{YieldsList}
 use Rattle.codespan_core.specs.Labels.{LaneMark, MultiLabel, Top, Left, Bottom}
-use Rattle.codespan_core.specs.declared.term.config.chars.Chars.{Chars}
 use Rattle.codespan_core.specs.Streams.{Stream, byte_stream, newline, space}
 use Rattle.codespan_core.specs.WriterLaw.{Sink}
-use Rattle.codespan_core.proofs.Loops.{StillToWrite}
-use Rattle.codespan_picture.specs.declared.char_metrics.Metrics.{Metrics}
-use Rattle.codespan_picture.specs.declared.arguments.MultiLabel as rust_multi_label
+use Rattle.codespan_picture.specs.Types.{LabelStyle, Chars, Metrics}
 use Rattle.codespan_picture.specs.declared.rows.lanes.LaneRowKind.TheVariants.{Underline}
-use Rattle.codespan_picture.specs.CharMetrics.{leading_whitespace}
-use Rattle.codespan_picture.specs.Arguments.{LaneMarkTuple, lane_mark_view, multi_label_view}
-use Rattle.codespan_picture.specs.Private.LineViews.{row_lanes_stream}
-use Rattle.codespan_picture.specs.Rows.{RowContext, Lanes, Line, UnderlineRow, has_underline}
+use Rattle.codespan_picture.specs.{leading_whitespace, LaneMarkTuple, lane_mark_view}
+use Rattle.codespan_picture.specs.{multi_label_view, RowContext, Line, UnderlineRow, has_underline}
+use Rattle.codespan_picture.specs.{inner_gutter, underline, underline_message, first_note_row}
+use Rattle.codespan_picture.specs.{later_note_row, underline_row, stream_of_rows}
+use Rattle.codespan_picture.specs.{later_note_rows_stream}
+use Rattle.codespan_picture.specs.Private.{row_lanes_stream, underline_by_width, underline_width}
+use Rattle.codespan_picture.specs.Private.{note_bullet, note_row_stream}
+use Rattle.codespan_picture.specs.Rows.{Lanes}
+use Rattle.codespan_core.proofs.Loops.{StillToWrite}
+use Rattle.codespan_picture.specs.declared.arguments.MultiLabel as rust_multi_label
 use Rattle.codespan_picture.specs.Lanes as kind
-use Rattle.codespan_picture.specs.RowParts.{inner_gutter, underline, underline_message}
-use Rattle.codespan_picture.specs.Private.Underlines.{underline_by_width, underline_width}
-use Rattle.codespan_picture.specs.RowStreams.{first_note_row, later_note_row, underline_row}
-use Rattle.codespan_picture.specs.RowStreams.{stream_of_rows}
-use Rattle.codespan_picture.specs.Private.WrittenParts.{note_bullet, note_row_stream}
-use Rattle.codespan_picture.specs.RenderedRows.{later_note_rows_stream}
 
 -- ---- the lanes of an underline row
 

@@ -1,18 +1,14 @@
 -- For the clauses `value` of `codespan_native`, and for the outputs of `report`: the picture
 -- of a diagnostic is that of its view, by an equal configuration.
-use Rattle.std.proofs.Common.{◌≡◌, List, [], ◌∷◌, map, refl, ap, ◌∙◌}
-use Rattle.codespan_core.specs.declared.diagnostic.Diagnostic.{Diagnostic}
-use Rattle.codespan_core.specs.declared.diagnostic.Label.{Label}
-use Rattle.codespan_core.specs.declared.term.config.Config.{Config}
-use Rattle.codespan_core.specs.declared.term.config.DisplayStyle.{DisplayStyle}
+use Rattle.codespan_core.proofs.Std.{◌≡◌, List, [], ◌∷◌, map, refl, ap, ◌∙◌}
 use Rattle.codespan_core.specs.ConfigEquality.{IsEqualConfig}
 use Rattle.codespan_core.specs.Diagnostics.{diagnostic_view, label_view}
 use Rattle.codespan_core.specs.FileModel.{FileDatabase}
 use Rattle.codespan_core.specs.Streams.{Stream}
-use Rattle.codespan_picture.specs.OutputStreams.{header_text_of, label_of, labels_of, locus_bytes, notes_of, rendered}
-use Rattle.codespan_picture.specs.Picture.{picture, stated_locus}
-use Rattle.codespan_picture.specs.Snippets.{LabelInFile, labeled_file_models}
-use Rattle.codespan_picture.specs.ViewPictures.{label_of_view, picture_of_diagnostic_view}
+use Rattle.codespan_picture.specs.Types.{Diagnostic, Label, Config, DisplayStyle}
+use Rattle.codespan_picture.specs.{header_text_of, label_of, labels_of, locus_bytes, notes_of}
+use Rattle.codespan_picture.specs.{rendered, picture, stated_locus, LabelInFile}
+use Rattle.codespan_picture.specs.{labeled_file_models, label_of_view, picture_of_diagnostic_view}
 use Rattle.codespan_picture.proofs.EqualConfigs.{rendered_equal}
 
 -- the labels of a diagnostic are those of its view
@@ -39,5 +35,7 @@ module _ {Id : Type 0} (expected config : Config) (files : FileDatabase Id) (d :
         (ap (λ (c : Config). c.display_style) equal.others)
         ∙ rendered_equal expected config equal d.severity (header_text_of d)
         (map stated_locus (locus_bytes files.same files.file (labels_of d) expected.display_style))
-        (labeled_file_models files.same files.file (labels_of d)) (notes_of d) expected.display_style
-        ∙ ap (λ xs. rendered_with expected.display_style expected xs) (labels-of_view d.labels.items)
+        (labeled_file_models files.same files.file (labels_of d)) (notes_of d)
+        expected.display_style
+        ∙ ap (λ xs. rendered_with expected.display_style expected xs)
+        (labels-of_view d.labels.items)

@@ -1,12 +1,9 @@
 -- For `width_before` and `width_up_to`: how wide the characters of a line are up to a byte index.
-use Rattle.std.proofs.Common.{◌≡◌, ℕ, ◌+◌, ◌≤◌, ◌<◌, Bool, true, false, cond, List, [], ◌∷◌, refl, ap, ◌∙◌, arith}
-use Rattle.std.specs.Prelude.{nat_lt, nat_le}
-use Rattle.std.proofs.lemmas.Bool.{le-leb, lt-leb, le-ltb}
-use Rattle.std.proofs.lemmas.Bool.Decides.{nat_tests}
-use Rattle.std.proofs.lemmas.List.Sums.{sum_by-cons}
-use Rattle.codespan_picture.specs.declared.char_metrics.Metrics.{Metrics}
-use Rattle.codespan_picture.specs.CharMetrics.{width_of}
-use Rattle.codespan_picture.specs.RowParts.{metrics_before, metrics_up_to}
+use Rattle.codespan_core.proofs.Std.{◌≡◌, ℕ, ◌+◌, ◌≤◌, ◌<◌, Bool, true, false, cond, List, [], ◌∷◌}
+use Rattle.codespan_core.proofs.Std.{refl, ap, ◌∙◌, arith, nat_lt, nat_le, le-leb, lt-leb, le-ltb}
+use Rattle.codespan_core.proofs.Std.{nat_tests, sum_by-cons}
+use Rattle.codespan_picture.specs.Types.{Metrics}
+use Rattle.codespan_picture.specs.{width_of, metrics_before, metrics_up_to}
 
 -- a character that begins at the byte index or before it is counted
 pub width-in : (byte_index : ℕ) (x : Metrics) (cs : List Metrics) → x.byte_index ≤ byte_index

@@ -35,3 +35,32 @@ pub mod RichLaws
 pub mod RenderedRows
 -- definitions for proofs, and for the contracts of calls that users do not name
 pub mod Private
+-- all of their names
+unfoldable pub use Rattle.codespan_picture.specs.Types.*
+unfoldable pub use Rattle.codespan_picture.specs.CharMetrics.*
+unfoldable pub use Rattle.codespan_picture.specs.Carets.*
+unfoldable pub use Rattle.codespan_picture.specs.Lanes.*
+unfoldable pub use Rattle.codespan_picture.specs.Rows.*
+unfoldable pub use Rattle.codespan_picture.specs.RowParts.*
+unfoldable pub use Rattle.codespan_picture.specs.RowStreams.*
+unfoldable pub use Rattle.codespan_picture.specs.RowDefinitions.*
+unfoldable pub use Rattle.codespan_picture.specs.Lines.*
+unfoldable pub use Rattle.codespan_picture.specs.Sequences.*
+unfoldable pub use Rattle.codespan_picture.specs.Snippets.*
+unfoldable pub use Rattle.codespan_picture.specs.Padding.*
+unfoldable pub use Rattle.codespan_picture.specs.OutputStreams.*
+unfoldable pub use Rattle.codespan_picture.specs.Picture.*
+unfoldable pub use Rattle.codespan_picture.specs.ViewPictures.*
+unfoldable pub use Rattle.codespan_picture.specs.Lookups.*
+unfoldable pub use Rattle.codespan_picture.specs.Arguments.*
+unfoldable pub use Rattle.codespan_picture.specs.CaretLaws.*
+unfoldable pub use Rattle.codespan_picture.specs.LaneLaws.*
+unfoldable pub use Rattle.codespan_picture.specs.LineLaws.*
+unfoldable pub use Rattle.codespan_picture.specs.MessageLaws.*
+unfoldable pub use Rattle.codespan_picture.specs.RowLaws.*
+unfoldable pub use Rattle.codespan_picture.specs.SortLaws.*
+unfoldable pub use Rattle.codespan_picture.specs.Utf8Laws.*
+unfoldable pub use Rattle.codespan_picture.specs.TrailingLaws.*
+unfoldable pub use Rattle.codespan_picture.specs.StatedNames.*
+unfoldable pub use Rattle.codespan_picture.specs.RichLaws.*
+unfoldable pub use Rattle.codespan_picture.specs.RenderedRows.*

@@ -10,3 +10,14 @@ pub mod PrimaryCover
 pub mod Runs
 pub mod RowLabels
 pub mod Underlines
+-- all of their names
+unfoldable pub use Rattle.codespan_picture.specs.Private.LineViews.*
+unfoldable pub use Rattle.codespan_picture.specs.Private.WrittenParts.*
+unfoldable pub use Rattle.codespan_picture.specs.Private.CharCursors.*
+unfoldable pub use Rattle.codespan_picture.specs.Private.PointerLists.*
+unfoldable pub use Rattle.codespan_picture.specs.Private.LineCharacters.*
+unfoldable pub use Rattle.codespan_picture.specs.Private.RemainingLaneMarks.*
+unfoldable pub use Rattle.codespan_picture.specs.Private.PrimaryCover.*
+unfoldable pub use Rattle.codespan_picture.specs.Private.Runs.*
+unfoldable pub use Rattle.codespan_picture.specs.Private.RowLabels.*
+unfoldable pub use Rattle.codespan_picture.specs.Private.Underlines.*

@@ -15,3 +15,4 @@ pub use Rattle.codespan_core.specs.declared.term.config.DisplayStyle.TheVariants
 pub use Rattle.codespan_core.specs.declared.term.config.DisplayStyle.TheVariants.{Short}
 pub use Rattle.codespan_core.specs.declared.term.config.Layout.{Layout}
 pub use Rattle.codespan_core.specs.declared.term.config.Layout.TheVariants.{Classic, Unbroken}
+pub use Rattle.codespan_picture.specs.declared.char_metrics.Metrics.{Metrics}

@@ -1,15 +1,15 @@
 -- The cached characters of a line and the scan of the others: serves `cache_metrics`, and the
 -- cursors of a cached line.
-use Rattle.std.proofs.Common.{◌≡◌, ℕ, ◌-◌, ◌<◌, Bool, List, [], ◌∷◌, ◌++◌, take, drop, length, append_assoc, sym, ap, ◌∙◌, arith}
-use Rattle.std.specs.Str.{chars}
+use Rattle.codespan_core.proofs.Std.{◌≡◌, ℕ, ◌-◌, ◌<◌, Bool, List, [], ◌∷◌, ◌++◌, take, drop}
+use Rattle.codespan_core.proofs.Std.{length, append_assoc, sym, ap, ◌∙◌, arith, chars}
 use Rattle.std.specs.Str.Iter.{chars_rest}
 use Rattle.codespan_picture.specs.declared.char_metrics.Metrics.{Metrics}
 use Rattle.codespan_picture.specs.CharMetrics.{metrics_then}
 use Rattle.codespan_picture.specs.RowParts.{metrics_up_to}
-use Rattle.codespan_picture.proofs.Consecutive.{char_metrics-consecutive}
 use Rattle.codespan_renderer.specs.declared.term.renderer.char_metrics.CharMetrics.{CharMetrics}
-use Rattle.codespan_renderer.specs.Private.RemainingMetrics.{MetricsAfterEnd, GoesOver, after_last, metrics_from, remaining_metrics, no_more}
-use Rattle.codespan_renderer.specs.Private.CachedMetrics.{AreCached}
+use Rattle.codespan_renderer.specs.Private.{MetricsAfterEnd, GoesOver, after_last, metrics_from}
+use Rattle.codespan_renderer.specs.Private.{remaining_metrics, no_more, AreCached}
+use Rattle.codespan_picture.proofs.Consecutive.{char_metrics-consecutive}
 use Rattle.codespan_picture.proofs.Pieces.{taken-dropped}
 use Rattle.codespan_renderer.proofs.WidthSearch.{past-none}
 
@@ -19,7 +19,8 @@ cached-after : (tab : ℕ) (text : List ℕ) (cached : List Metrics) (rest fork 
     → AreCached tab text cached rest
     → ((after : MetricsAfterEnd) → metrics_from after fork ≡ metrics_from after rest)
     → fork.has_placeholder ≡ has_placeholder
-    → cached ++ remaining_metrics fork ≡ metrics_then (after_last has_placeholder) tab 0 0 (chars text)
+    → cached ++ remaining_metrics fork ≡ metrics_then (after_last has_placeholder) tab 0 0
+    (chars text)
 cached-after tab text cached rest fork has_placeholder are same end =
     ap (λ (e : Bool). cached ++ metrics_from (after_last e) fork) end
     ∙ ap (λ (cs : List Metrics). cached ++ cs) (same (after_last has_placeholder))
@@ -35,7 +36,8 @@ pub cached-from : (tab : ℕ) (text : List ℕ) (cached : List Metrics) (rest fo
     cached ++ (take (length cached - n) (drop n cached) ++ remaining_metrics fork)
     ≡ metrics_then (after_last has_placeholder) tab 0 0 (chars text)
 cached-from tab text cached rest fork has_placeholder n are same end =
-    sym (append_assoc (take n cached) (take (length cached - n) (drop n cached)) (remaining_metrics fork))
+    sym (append_assoc (take n cached) (take (length cached - n) (drop n cached))
+    (remaining_metrics fork))
     ∙ ap (λ (cs : List Metrics). cs ++ remaining_metrics fork) (taken-dropped n cached)
     ∙ cached-after tab text cached rest fork has_placeholder are same end
 

@@ -1,27 +1,24 @@
 -- For `LabelCursor::advance`, `StartCursor::start_style` and the calls of `CachedCursor`: a cursor
 -- over the labels of a line, which passes them as they start.
+use Rattle.codespan_core.proofs.Std.{◌≡◌, ℕ, ◌+◌, ◌<◌, ◌≤◌, max, Bool, true, false, ◌&&◌, ◌||◌}
+use Rattle.codespan_core.proofs.Std.{nat_lt, nat_le, List, [], ◌∷◌, ◌++◌, length, drop, get_or}
+use Rattle.codespan_core.proofs.Std.{drop-cons, add-one, refl, sym, ap, subst, ◌∙◌, arith, Option}
+use Rattle.codespan_core.proofs.Std.{Some, None, if◌then◌else◌, IfSome, and_parts, nat_tests}
+use Rattle.codespan_core.proofs.Std.{len_utf8, chars, len_utf8_bounds}
 use Rattle.std.proofs.Props.{props}
 use Rattle.std.proofs.Math.Logic.{∥∥₁_elim}
-use Rattle.std.proofs.Common.{◌≡◌, ℕ, ◌+◌, ◌<◌, ◌≤◌, max, Bool, true, false, ◌&&◌, ◌||◌, nat_lt, nat_le, List, [], ◌∷◌, ◌++◌, length, drop, get_or, drop-cons, add-one, refl, sym, ap, subst, ◌∙◌, arith, Option, Some, None}
-use Rattle.std.specs.Prelude.{if◌then◌else◌, IfSome}
 use Rattle.std.specs.Iterator.{YieldsFirst}
-use Rattle.std.proofs.lemmas.Bool.{and_parts}
-use Rattle.std.proofs.lemmas.Bool.Decides.{nat_tests}
 use Rattle.codespan_core.specs.Labels.{LabelModel}
 use Rattle.codespan_picture.specs.declared.char_metrics.Metrics.{Metrics}
-use Rattle.std.specs.Char.{len_utf8}
-use Rattle.std.specs.Str.{chars}
-use Rattle.std.proofs.lemmas.Str.{len_utf8_bounds}
-use Rattle.codespan_renderer.specs.declared.term.renderer.cached.label_cursor.LabelCursor.{LabelCursor}
 use Rattle.codespan_picture.specs.CharMetrics.{metrics_then, placeholder, width_at}
-use Rattle.codespan_renderer.specs.Private.RemainingMetrics.{after_last, no_more}
 use Rattle.codespan_picture.specs.Carets.{covers}
-use Rattle.codespan_picture.specs.Arguments.{SingleLabelTuple, single_label_view, single_label_views, starts_from}
-use Rattle.codespan_renderer.specs.declared.term.renderer.cached.cached_metrics.MetricsFromCache.{MetricsFromCache}
-use Rattle.codespan_renderer.specs.Private.CachedMetrics.{remaining_from_cache}
+use Rattle.codespan_picture.specs.Arguments.{SingleLabelTuple, single_label_view}
+use Rattle.codespan_picture.specs.Arguments.{single_label_views, starts_from}
 use Rattle.codespan_picture.specs.Private.CharCursors.{AreContiguous, is_covered}
-use Rattle.codespan_renderer.specs.Private.CursorStates.{IsBefore, HasReturned}
-use Rattle.codespan_renderer.specs.Private.LabelCursors.{end_with, IsCoverEnd, HasPassedLabels}
+use Rattle.codespan_renderer.specs.declared.term.renderer.cached.label_cursor.LabelCursor.{LabelCursor}
+use Rattle.codespan_renderer.specs.Private.{after_last, no_more, remaining_from_cache, IsBefore}
+use Rattle.codespan_renderer.specs.Private.{HasReturned, end_with, IsCoverEnd, HasPassedLabels}
+use Rattle.codespan_renderer.specs.declared.term.renderer.cached.cached_metrics.MetricsFromCache.{MetricsFromCache}
 
 -- a label that starts before the character's end covers it where the label has a byte and ends past
 -- the byte index of the character
@@ -203,7 +200,12 @@ pub cursor-start : (s : LabelCursor) (before left : List Metrics) → HasPassedL
     → AreContiguous 0 (before ++ left) → ∥ IsBefore s left ∥₁
 cursor-start s before left passed follow =
     let later = follow-rest 0 before left follow in
-    ∣ record { byte_index = later.0; passed = passed-later s 0 later.0 later.1 passed; contiguous = later.2 } ∣₁
+    ∣ record {
+      byte_index = later.0;
+      passed = passed-later s 0 later.0 later.1 passed;
+      contiguous =
+          later.2;
+    } ∣₁
 
 module _ (s : LabelCursor) (left rest : List Metrics) (c : Metrics) (step : left ≡ c ∷ rest) where
   here : (w : IsBefore s left) → AreContiguous w.byte_index (c ∷ rest)
@@ -260,7 +262,11 @@ pub cursor-passed : (s t : LabelCursor) (rest : List Metrics) (c : Metrics)
     → ∥ HasReturned c s rest ∥₁ → HasPassedLabels (c.byte_index + c.bytes) t → ∥ IsBefore t rest ∥₁
 cursor-passed s t rest c returned passed =
     ∥∥₁_elim returned (Prim.hlevel props)
-    (λ g. ∣ record { byte_index = c.byte_index + c.bytes; passed = passed; contiguous = g.contiguous } ∣₁)
+    (λ g. ∣ record {
+      byte_index = c.byte_index + c.bytes;
+      passed = passed;
+      contiguous = g.contiguous;
+    } ∣₁)
 
 -- the labels that it has passed, and the character that it has returned
 pub returned-passed : (s : LabelCursor) (rest : List Metrics) (c : Metrics)

@@ -1,13 +1,12 @@
 -- For `CharMetrics::next_metrics` and `width_at`: a step over one character of a line.
-use Rattle.std.proofs.Common.{◌≡◌, ℕ, ◌+◌, ◌-◌, ◌≤◌, nat_lt, nat_le, ◌==◌, lt-ltb, true, false, List, [], ◌∷◌, ◌++◌, length, length-append, refl, ap, ◌∙◌, arith}
-use Rattle.std.specs.Char.{encode_utf8, len_utf8}
-use Rattle.std.specs.Str.{IsUtf8, chars}
-use Rattle.std.proofs.lemmas.Bool.{ne_eqb}
-use Rattle.std.proofs.lemmas.Bool.Decides.{nat_tests}
-use Rattle.std.proofs.lemmas.Str.{chars_past_char, chars-nil, length-encode}
-use Rattle.unicode_width.specs.Width.{char_width}
+use Rattle.codespan_core.proofs.Std.{◌≡◌, ℕ, ◌+◌, ◌-◌, ◌≤◌, nat_lt, nat_le, ◌==◌, lt-ltb, true}
+use Rattle.codespan_core.proofs.Std.{false, List, [], ◌∷◌, ◌++◌, length, length-append, refl, ap}
+use Rattle.codespan_core.proofs.Std.{◌∙◌, arith, encode_utf8, len_utf8, IsUtf8, chars, ne_eqb}
+use Rattle.codespan_core.proofs.Std.{nat_tests, length-encode}
+use Rattle.std.proofs.lemmas.Str.{chars_past_char, chars-nil}
 use Rattle.codespan_picture.specs.declared.char_metrics.Metrics.{Metrics}
 use Rattle.codespan_picture.specs.CharMetrics.{metrics_then, width_at}
+use Rattle.unicode_width.specs.Width.{char_width}
 
 -- a printable character of ASCII occupies one cell
 pub width_at-printable : (tab column c : ℕ) → 32 ≤ c → c ≤ 126 → 1 ≡ width_at tab column c

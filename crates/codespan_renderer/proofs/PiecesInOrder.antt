@@ -1,11 +1,11 @@
 -- For `find_pointers`: prefixes and suffixes of labels in order are in order.
-use Rattle.std.proofs.Common.{◌≡◌, ℕ, ◌≤◌, true, nat_le, List, [], ◌∷◌, ◌++◌, refl, ap, ◌∙◌, arith}
+use Rattle.codespan_core.proofs.Std.{◌≡◌, ℕ, ◌≤◌, true, nat_le, List, [], ◌∷◌, ◌++◌, refl, ap, ◌∙◌}
+use Rattle.codespan_core.proofs.Std.{arith, and_parts, nat_tests}
 use Rattle.std.proofs.Math.Logic.{∥∥₁_elim}
 use Rattle.std.proofs.Props.{props}
-use Rattle.std.proofs.lemmas.Bool.{and_parts}
-use Rattle.std.proofs.lemmas.Bool.Decides.{nat_tests}
 use Rattle.codespan_core.specs.Labels.{LabelModel}
-use Rattle.codespan_picture.specs.Arguments.{SingleLabelTuple, single_label_views, starts_from, starts_in_order}
+use Rattle.codespan_picture.specs.Arguments.{SingleLabelTuple, single_label_views, starts_from}
+use Rattle.codespan_picture.specs.Arguments.{starts_in_order}
 use Rattle.codespan_picture.specs.Private.RowLabels.{ArePrefixAndSuffix}
 use Rattle.codespan_renderer.proofs.LabelCursorSteps.{starts-lower}
 use Rattle.codespan_picture.proofs.Pieces.{whole}

@@ -1,22 +1,18 @@
 -- For `next_pointer` and `find_pointers`: the style of a pointer.
-use Rattle.std.proofs.Common.{◌≡◌, ℕ, suc, ◌+◌, ◌<◌, Bool, true, false, cond, ◌==◌, ◌&&◌, ◌||◌}
-use Rattle.std.proofs.Common.{List, [], ◌∷◌, ◌++◌, length, get_or, drop, filter, fold, Option, Some}
-use Rattle.std.proofs.Common.{None, refl, sym, ap, ◌∙◌, drop-cons, add-one}
-use Rattle.std.specs.Prelude.{not, if◌then◌else◌}
-use Rattle.std.specs.List.{list_any}
-use Rattle.std.proofs.lemmas.List.Elements.{filter-append}
-use Rattle.std.proofs.lemmas.List.Sums.{fold-append}
-use Rattle.codespan_core.specs.declared.diagnostic.LabelStyle.{LabelStyle}
-use Rattle.codespan_core.specs.declared.diagnostic.LabelStyle.TheVariants.{Primary, Secondary}
+use Rattle.codespan_core.proofs.Std.{◌≡◌, ℕ, suc, ◌+◌, ◌<◌, Bool, true, false, cond, ◌==◌, ◌&&◌}
+use Rattle.codespan_core.proofs.Std.{◌||◌, List, [], ◌∷◌, ◌++◌, length, get_or, drop, filter, fold}
+use Rattle.codespan_core.proofs.Std.{Option, Some, None, refl, sym, ap, ◌∙◌, drop-cons, add-one}
+use Rattle.codespan_core.proofs.Std.{not, if◌then◌else◌, list_any, filter-append, fold-append}
 use Rattle.codespan_core.specs.Labels.{LabelModel, has_message, is_primary, is_primary_style}
+use Rattle.codespan_picture.specs.Types.{LabelStyle, Primary, Secondary}
 use Rattle.codespan_picture.specs.declared.char_metrics.Metrics.{Metrics}
 use Rattle.codespan_picture.specs.Arguments.{SingleLabelTuple, single_label_view}
 use Rattle.codespan_picture.specs.Arguments.{single_label_views}
 use Rattle.codespan_picture.specs.Rows.{hanging_labels}
 use Rattle.codespan_picture.specs.RowParts.{starts_in, pointer_style}
 use Rattle.codespan_picture.specs.Private.PointerLists.{pointer_style_if_any}
-use Rattle.codespan_renderer.specs.Private.PreferredStyles.{prefer_primary, preferred_style}
 use Rattle.codespan_picture.specs.Private.RowLabels.{AreHanging}
+use Rattle.codespan_renderer.specs.Private.{prefer_primary, preferred_style}
 use Rattle.codespan_renderer.proofs.PreferredStyles.{preferred-cons, preferred-primary}
 use Rattle.codespan_picture.proofs.TrailingLabel.{is_empty_bytes}
 use Rattle.codespan_picture.proofs.Hanging.{hanging_parts}

@@ -1,11 +1,9 @@
 -- For `style_under` and `start_style`: the style that takes precedence among those of some labels.
-use Rattle.std.proofs.Common.{◌≡◌, Bool, true, false, cond, List, [], ◌∷◌, filter, fold, Option, None, Some, refl}
-use Rattle.std.specs.Prelude.{◌&&◌, if◌then◌else◌}
-use Rattle.std.specs.List.{list_any}
-use Rattle.codespan_core.specs.declared.diagnostic.LabelStyle.{LabelStyle}
-use Rattle.codespan_core.specs.declared.diagnostic.LabelStyle.TheVariants.{Primary, Secondary}
+use Rattle.codespan_core.proofs.Std.{◌≡◌, Bool, true, false, cond, List, [], ◌∷◌, filter, fold}
+use Rattle.codespan_core.proofs.Std.{Option, None, Some, refl, ◌&&◌, if◌then◌else◌, list_any}
 use Rattle.codespan_core.specs.Labels.{LabelModel, is_primary}
-use Rattle.codespan_renderer.specs.Private.PreferredStyles.{prefer_primary, preferred_style}
+use Rattle.codespan_picture.specs.Types.{LabelStyle, Primary, Secondary}
+use Rattle.codespan_renderer.specs.Private.{prefer_primary, preferred_style}
 
 -- the style of the first label counts if the label passes, and then those of the others
 pub preferred-cons : (test : LabelModel → Bool) (found : Option LabelStyle) (x : LabelModel)

@@ -1,7 +1,6 @@
 -- For `Renders` of the `render_` calls: what rows wrote through the row writer came to the
 -- renderer's writer.
-use Rattle.std.proofs.Common.{◌≡◌, ℕ, List, [], ◌∷◌, ap, sym, ◌∙◌, Result, Ok, Err}
-use Rattle.std.specs.Prelude.{IfErr}
+use Rattle.codespan_core.proofs.Std.{◌≡◌, ℕ, List, [], ◌∷◌, ap, sym, ◌∙◌, Result, Ok, Err, IfErr}
 use Rattle.std.specs.Borrow.{GName}
 use Rattle.codespan_core.specs.Errors.{IsIo}
 use Rattle.codespan_core.specs.Streams.{Stream}
@@ -9,8 +8,9 @@ use Rattle.codespan_core.specs.WriterLaw.{Sink, Frame, is_known, with_written, W
 use Rattle.codespan_picture.specs.Rows.{Line, RowContext, rows_of}
 use Rattle.codespan_picture.specs.RowStreams.{stream_of_rows}
 use Rattle.codespan_picture.specs.Types.{Error}
-use Rattle.codespan_renderer.specs.Private.RowWriters.{SameOutcome, inner_reference, inner_writer, row_writer_sink}
-use Rattle.codespan_renderer.specs.Renderers.{Renders, SameRenderer, sink_through, writer_of}
+use Rattle.codespan_renderer.specs.Private.{SameOutcome, inner_reference, inner_writer}
+use Rattle.codespan_renderer.specs.Private.{row_writer_sink}
+use Rattle.codespan_renderer.specs.{Renders, SameRenderer, sink_through, writer_of}
 use Rattle.codespan_renderer.specs.declared.term.renderer.Renderer.{Renderer}
 use Rattle.codespan_renderer.specs.declared.term.renderer.row_writer.RowWriter.{RowWriter}
 

@@ -1,15 +1,16 @@
 -- For `StartCursor::start_style`: the starts of labels with messages, as a cursor over labels
 -- passes them.
-use Rattle.std.proofs.Common.{◌≡◌, ℕ, ◌+◌, ◌<◌, ◌≤◌, Bool, true, false, cond, ◌==◌, nat_lt, nat_le, List, [], ◌∷◌, length, drop, get_or, filter, Option, refl, sym, ◌∙◌, arith}
-use Rattle.std.specs.Prelude.{not, if◌then◌else◌}
-use Rattle.std.proofs.lemmas.Bool.{and_parts}
-use Rattle.std.proofs.lemmas.Bool.Decides.{nat_tests}
-use Rattle.codespan_core.specs.declared.diagnostic.LabelStyle.{LabelStyle}
+use Rattle.codespan_core.proofs.Std.{◌≡◌, ℕ, ◌+◌, ◌<◌, ◌≤◌, Bool, true, false, cond, ◌==◌, nat_lt}
+use Rattle.codespan_core.proofs.Std.{nat_le, List, [], ◌∷◌, length, drop, get_or, filter, Option}
+use Rattle.codespan_core.proofs.Std.{refl, sym, ◌∙◌, arith, not, if◌then◌else◌, and_parts}
+use Rattle.codespan_core.proofs.Std.{nat_tests}
 use Rattle.codespan_core.specs.Labels.{LabelModel, has_message}
+use Rattle.codespan_picture.specs.Types.{LabelStyle}
 use Rattle.codespan_picture.specs.declared.char_metrics.Metrics.{Metrics}
-use Rattle.codespan_picture.specs.Arguments.{SingleLabelTuple, single_label_view, single_label_views, starts_from}
+use Rattle.codespan_picture.specs.Arguments.{SingleLabelTuple, single_label_view}
+use Rattle.codespan_picture.specs.Arguments.{single_label_views, starts_from}
 use Rattle.codespan_picture.specs.RowParts.{starts_in}
-use Rattle.codespan_renderer.specs.Private.PreferredStyles.{prefer_primary, preferred_style}
+use Rattle.codespan_renderer.specs.Private.{prefer_primary, preferred_style}
 use Rattle.codespan_renderer.proofs.PreferredStyles.{preferred-cons}
 use Rattle.codespan_renderer.proofs.PointerStyles.{preferred-step}
 

@@ -1,11 +1,12 @@
 -- For `put` of `Renderer` and `RowWriter`, the `set_` calls and `reset` of `Renderer`, and
 -- `put_mark` of `RowWriter`: a writer behind a reference takes what the writer takes.
-use Rattle.std.proofs.Common.{◌≡◌, ℕ, Bool, true, false, cond, List, ◌∷◌, length, refl, ap, ◌∙◌, Result, Ok, Err}
-use Rattle.std.specs.Prelude.{◌==◌, ◌&&◌, nat_lt}
+use Rattle.codespan_core.proofs.Std.{◌≡◌, ℕ, Bool, true, false, cond, List, ◌∷◌, length, refl, ap}
+use Rattle.codespan_core.proofs.Std.{◌∙◌, Result, Ok, Err, ◌==◌, ◌&&◌, nat_lt}
 use Rattle.std.specs.Borrow.{GName}
 use Rattle.codespan_core.specs.Streams.{Stream}
-use Rattle.codespan_core.specs.WriterLaw.{Sink, Frame, is_known, failed_frame, with_written, PrefixWritten, Writes, Puts}
-use Rattle.codespan_renderer.specs.Renderers.{sink_through}
+use Rattle.codespan_core.specs.WriterLaw.{Sink, Frame, is_known, failed_frame, with_written}
+use Rattle.codespan_core.specs.WriterLaw.{PrefixWritten, Writes, Puts}
+use Rattle.codespan_renderer.specs.{sink_through}
 
 prefix_through : (name : GName) (s : Sink) (items : Stream) (t : Sink) → PrefixWritten s items t
     → PrefixWritten (sink_through name s) items (sink_through name t)

@@ -1,21 +1,18 @@
 -- The width up to a byte index, by a search among the cached characters of a line: serves
 -- `width_up_to` of a cached line and `column_past` of a scan.
-use Rattle.std.proofs.Common.{◌≡◌, ℕ, zero, suc, ◌+◌, ◌<◌, ◌≤◌, true, false, List, [], ◌∷◌, ◌++◌, length, get_or, leb, refl, sym, ap, subst, arith}
-use Rattle.std.proofs.lemmas.Bool.{lt-leb}
-use Rattle.std.proofs.lemmas.Str.{len_utf8_bounds}
-use Rattle.std.specs.Char.{len_utf8}
-use Rattle.std.specs.Prelude.{nat_le}
+use Rattle.codespan_core.proofs.Std.{◌≡◌, ℕ, zero, suc, ◌+◌, ◌<◌, ◌≤◌, true, false, List, [], ◌∷◌}
+use Rattle.codespan_core.proofs.Std.{◌++◌, length, get_or, leb, refl, sym, ap, subst, arith, lt-leb}
+use Rattle.codespan_core.proofs.Std.{len_utf8_bounds, len_utf8, nat_le, chars, nat_tests}
 use Rattle.std.specs.List.Sorted.{IsPartitionPoint}
-use Rattle.std.specs.Str.{chars}
 use Rattle.std.specs.Str.Iter.{chars_rest}
-use Rattle.std.proofs.lemmas.Bool.Decides.{nat_tests}
 use Rattle.codespan_picture.specs.declared.char_metrics.Metrics.{Metrics}
-use Rattle.codespan_picture.specs.CharMetrics.{char_metrics, metrics_then, placeholder, width_of, width_at}
+use Rattle.codespan_picture.specs.CharMetrics.{char_metrics, metrics_then, placeholder, width_of}
+use Rattle.codespan_picture.specs.CharMetrics.{width_at}
 use Rattle.codespan_picture.specs.RowParts.{metrics_up_to}
-use Rattle.codespan_picture.proofs.Consecutive.{AreConsecutive, char_metrics-consecutive, none-before}
 use Rattle.codespan_renderer.specs.declared.term.renderer.char_metrics.CharMetrics.{CharMetrics}
-use Rattle.codespan_renderer.specs.Private.RemainingMetrics.{metrics_from, no_more}
-use Rattle.codespan_renderer.specs.Private.CachedMetrics.{AreCached}
+use Rattle.codespan_renderer.specs.Private.{metrics_from, no_more, AreCached}
+use Rattle.codespan_picture.proofs.Consecutive.{AreConsecutive, char_metrics-consecutive}
+use Rattle.codespan_picture.proofs.Consecutive.{none-before}
 use Rattle.codespan_picture.proofs.Widths.{width-in}
 
 -- the default of `get_or`, for an index past the end of the list

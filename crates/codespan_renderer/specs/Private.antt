@@ -6,3 +6,10 @@ pub mod CachedMetrics
 pub mod RowWriters
 pub mod PreferredStyles
 pub mod LabelCursors
+-- all of their names
+unfoldable pub use Rattle.codespan_renderer.specs.Private.RemainingMetrics.*
+unfoldable pub use Rattle.codespan_renderer.specs.Private.CursorStates.*
+unfoldable pub use Rattle.codespan_renderer.specs.Private.CachedMetrics.*
+unfoldable pub use Rattle.codespan_renderer.specs.Private.RowWriters.*
+unfoldable pub use Rattle.codespan_renderer.specs.Private.PreferredStyles.*
+unfoldable pub use Rattle.codespan_renderer.specs.Private.LabelCursors.*

@@ -5,8 +5,8 @@ use Rattle.codespan_base.specs.declared.term.config.styles.Styles.{Styles}
 use Rattle.codespan_base.specs.Streams.{Stream, Byte, Mark, Slot, spelled}
 use Rattle.codespan_base.specs.declared.term.config.style_mark.StyleMark.{StyleMark}
 use Rattle.codespan_base.specs.declared.term.config.style_mark.StyleMark.TheVariants.{Reset}
-use Rattle.codespan_styled.specs.Runs.{runs_from, runs_of}
 use Rattle.codespan_base.specs.StyleSpellings.{ansi_spelling}
+use Rattle.codespan_styled.specs.Runs.{runs_from, runs_of}
 use Rattle.codespan_styled.specs.Terminal.{AreSafe, runs_bytes, terminal_text}
 
 -- the runs of a stream after a text in a style

@@ -1,6 +1,7 @@
 -- UTF-8 has bytes alone: for the field `runs_are` of `AreRuns`, in the clause of `styled_text`,
 -- where no byte of a text may be taken for the number of a style.
-use Rattle.std.proofs.Common.{◌≡◌, ℕ, ◌+◌, ◌/◌, ◌%◌, ◌<◌, true, List, [], ◌∷◌, ◌++◌, ⊎_elim, subst, arith, encode_utf8_all, map, string_bytes}
+use Rattle.std.proofs.Common.{◌≡◌, ℕ, ◌+◌, ◌/◌, ◌%◌, ◌<◌, true, List, [], ◌∷◌, ◌++◌, ⊎_elim, subst}
+use Rattle.std.proofs.Common.{arith, encode_utf8_all, map, string_bytes}
 use Rattle.std.specs.Prelude.{nat_lt, ◌&&◌, Bool}
 use Rattle.std.specs.Char.{IsScalar, encode_utf8}
 use Rattle.std.specs.Str.{IsUtf8, all_scalars}

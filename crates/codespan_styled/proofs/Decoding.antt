@@ -1,10 +1,12 @@
 -- What the writer of runs holds, read back as runs: for the fields `runs_are` and `text_is` of
 -- `AreRuns`, in the clause of `styled_text`.
-use Rattle.std.proofs.Common.{◌≡◌, ℕ, ◌-◌, ◌<◌, true, List, [], ◌∷◌, ◌++◌, get_or, refl, sym, ap, ◌∙◌, append_assoc, append-nil, arith}
+use Rattle.std.proofs.Common.{◌≡◌, ℕ, ◌-◌, ◌<◌, true, List, [], ◌∷◌, ◌++◌, get_or, refl, sym, ap}
+use Rattle.std.proofs.Common.{◌∙◌, append_assoc, append-nil, arith}
 use Rattle.std.specs.Prelude.{Bool, nat_lt, if◌then◌else◌}
 use Rattle.std.proofs.lemmas.Bool.Decides.{nat_tests}
 use Rattle.codespan_base.specs.declared.diagnostic.LabelStyle.TheVariants.{Primary, Secondary}
-use Rattle.codespan_base.specs.declared.diagnostic.Severity.TheVariants.{Bug, Error, Warning, Note, Help}
+use Rattle.codespan_base.specs.declared.diagnostic.Severity.TheVariants.{Bug, Error, Warning, Note}
+use Rattle.codespan_base.specs.declared.diagnostic.Severity.TheVariants.{Help}
 use Rattle.codespan_base.specs.declared.term.config.style_mark.StyleMark.{StyleMark}
 use Rattle.codespan_base.specs.declared.term.config.style_mark.StyleMark.TheVariants.{Header}
 use Rattle.codespan_base.specs.declared.term.config.style_mark.StyleMark.TheVariants.{HeaderMessage}
@@ -13,7 +15,8 @@ use Rattle.codespan_base.specs.declared.term.config.style_mark.StyleMark.TheVari
 use Rattle.codespan_base.specs.declared.term.config.style_mark.StyleMark.TheVariants.{SourceBorder}
 use Rattle.codespan_base.specs.declared.term.config.style_mark.StyleMark.TheVariants.{Label, Reset}
 use Rattle.codespan_base.specs.Streams.{Stream, Byte, Mark, Slot, spelled, text_of}
-use Rattle.codespan_styled.specs.Private.Recorded.{TextsAreBytes, AreBytes, recorded_runs, style_number, style_spelling}
+use Rattle.codespan_styled.specs.Private.Recorded.{TextsAreBytes, AreBytes, recorded_runs}
+use Rattle.codespan_styled.specs.Private.Recorded.{style_number, style_spelling}
 use Rattle.codespan_styled.specs.Runs.{RunView, joined, runs_from, runs_of}
 
 -- a run
@@ -49,7 +52,8 @@ byte-step : (style : StyleMark) (text : List ℕ) (n : ℕ) (ns : List ℕ) → 
     → decoded style text (n ∷ ns) ≡ decoded style (text ++ n ∷ []) ns
 byte-step style text n ns small =
     let is : nat_lt n 256 ≡ true = grind (arith, nat_tests, small) in
-    ap (λ (b : Bool). if b then decoded style (text ++ n ∷ []) ns else run_of style text ∷ decoded (style_at n) [] ns) is
+    ap (λ (b : Bool). if b then decoded style (text ++ n ∷ []) ns else run_of style text
+    ∷ decoded (style_at n) [] ns) is
 
 -- the number of a style mark
 style-step : (old : StyleMark) (text : List ℕ) (style : StyleMark) (ns : List ℕ)
@@ -114,7 +118,8 @@ rest_of [] = []
 rest_of (run ∷ runs) = runs
 
 -- runs that are recorded as a stream is, after the number of the reset, are those of the stream
-pub runs_of_recorded : (runs : List RunView) (s : Stream) → TextsAreBytes runs → AreBytes (text_of s)
+pub runs_of_recorded : (runs : List RunView) (s : Stream) → TextsAreBytes runs
+    → AreBytes (text_of s)
     → recorded_runs runs ≡ style_number Reset ∷ spelled style_spelling s → runs ≡ runs_of s
 unfolding rest_of
 runs_of_recorded runs s small bytes contents =

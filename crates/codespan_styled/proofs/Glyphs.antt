@@ -1,6 +1,8 @@
 -- Glyphs one by one: of which run they are, which cells they take, and in which text they are: for
 -- the clause `document` of `to_svg`.
-use Rattle.std.proofs.Common.{◌≡◌, ◌+◌, ◌-◌, ◌≤◌, ◌<◌, ℕ, List, [], ◌∷◌, ◌++◌, length, length-drop, map, max, take, drop, get_or, codes, false, Some, sym, ◌∙◌, ap, append_assoc, append-nil, arith}
+use Rattle.std.proofs.Common.{◌≡◌, ◌+◌, ◌-◌, ◌≤◌, ◌<◌, ℕ, List, [], ◌∷◌, ◌++◌, length, length-drop}
+use Rattle.std.proofs.Common.{map, max, take, drop, get_or, codes, false, Some, sym, ◌∙◌, ap}
+use Rattle.std.proofs.Common.{append_assoc, append-nil, arith}
 use Rattle.std.specs.Prelude.{if◌then◌else◌}
 use Rattle.std.proofs.lemmas.Grind.{flat_map-append}
 use Rattle.std.proofs.lemmas.List.{drop_all, drop_more, map-append, take_all, take_more}
@@ -13,7 +15,9 @@ use Rattle.codespan_styled.specs.Glyphs.{after_glyph, cells_of, extent_from, fol
 use Rattle.codespan_styled.specs.Glyphs.{glyphs_of_run, joins_next, is_white_space, joined_cells}
 use Rattle.codespan_styled.specs.Glyphs.{start}
 use Rattle.codespan_styled.specs.Runs.{run_view}
-use Rattle.codespan_styled.specs.Svg.{first_pen, font_attributes, glyph_text, background_tag_content, next_pen, svg_tag_start, svg_document, text_tag, texts_from, xml_character}
+use Rattle.codespan_styled.specs.Svg.{first_pen, font_attributes, glyph_text}
+use Rattle.codespan_styled.specs.Svg.{background_tag_content, next_pen, svg_tag_start, svg_document}
+use Rattle.codespan_styled.specs.Svg.{text_tag, texts_from, xml_character}
 
 -- ---- runs
 
@@ -109,7 +113,8 @@ module _ (glyphs : List Glyph) (i : ℕ) (other : Glyph) (inside : i < length gl
   next_texts pen position old new all after is before =
       let text = glyph_text pen glyph (drop (i + 1) glyphs) in
       let rest = texts_from (next_pen pen glyph) (drop (i + 1) glyphs) in
-      ap (λ p. new ++ texts_from (record { position = p; before = Some glyph }) (drop (i + 1) glyphs)) after
+      ap (λ p. new ++ texts_from (record { position = p; before = Some glyph })
+      (drop (i + 1) glyphs)) after
       ∙ ap (λ bytes. bytes ++ rest) (is ∙ ap (λ gs. old ++ glyph_text pen glyph gs) others)
       ∙ append_assoc old text rest ∙ ap (λ gs. old ++ texts_from pen gs) (sym left) ∙ before
 
@@ -142,6 +147,9 @@ pub document-written : (glyphs : List Glyph) (extent : CellPosition) (b0 b1 b2 b
 document-written glyphs extent b0 b1 b2 b3 b4 e0 is e1 e2 e3 e4 =
     let texts = texts_from first_pen glyphs in
     let after = font_attributes ++ codes ">\n<" ++ background_tag_content ++ codes ">\n" in
-    e4 ∙ ap (λ b. b ++ codes "</svg>\n") (e3 ∙ ap (λ b. b ++ texts) (e2 ∙ ap (λ b. b ++ after) (e1 ∙ ap (λ b. b ++ codes "<" ++ svg_tag_start extent) e0 ∙ ap (λ p. codes "<" ++ svg_tag_start p) is)))
+    e4 ∙ ap (λ b. b ++ codes "</svg>\n")
+    (e3 ∙ ap (λ b. b ++ texts) (e2 ∙ ap
+    (λ b. b ++ after) (e1 ∙ ap (λ b. b ++ codes "<" ++ svg_tag_start extent) e0 ∙ ap
+    (λ p. codes "<" ++ svg_tag_start p) is)))
     ∙ regrouped (codes "<") (svg_tag_start (extent_from start glyphs)) font_attributes
     (codes ">\n<") background_tag_content (codes ">\n") texts (codes "</svg>\n")

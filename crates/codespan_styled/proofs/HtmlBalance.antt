@@ -6,9 +6,9 @@ use Rattle.std.specs.Char.{encode_utf8}
 use Rattle.std.specs.List.{flat_map}
 use Rattle.std.specs.Str.{chars}
 use Rattle.codespan_styled.specs.Html.{box_class, is_wide, replaced_character, style_class}
-use Rattle.codespan_styled.specs.HtmlReading.{Token, Tag, TextByte, cell_tokens}
-use Rattle.codespan_styled.specs.HtmlReading.{character_tokens, element_tokens, open_after}
-use Rattle.codespan_styled.specs.HtmlReading.{open_from, run_tokens, span_tokens, text_tokens}
+use Rattle.codespan_styled.specs.HtmlReading.{Token, Tag, TextByte, cell_tokens, character_tokens}
+use Rattle.codespan_styled.specs.HtmlReading.{element_tokens, open_after, open_from, run_tokens}
+use Rattle.codespan_styled.specs.HtmlReading.{span_tokens, text_tokens}
 use Rattle.codespan_styled.specs.Runs.{RunView, is_plain}
 
 -- the same elements are open after the tokens as before them

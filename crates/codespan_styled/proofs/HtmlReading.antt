@@ -1,5 +1,7 @@
 -- An element reads back as its tags and its text: for the clauses `tokens` and `text` of `to_html`.
-use Rattle.std.proofs.Common.{◌≡◌, ℕ, ◌+◌, ◌≤◌, ◌/◌, ◌%◌, true, false, List, [], ◌∷◌, ◌++◌, map, codes, encode_utf8_all, refl, sym, subst, ap, ◌∙◌, append_assoc, append-nil, arith, string_bytes}
+use Rattle.std.proofs.Common.{◌≡◌, ℕ, ◌+◌, ◌≤◌, ◌/◌, ◌%◌, true, false, List, [], ◌∷◌, ◌++◌, map}
+use Rattle.std.proofs.Common.{codes, encode_utf8_all, refl, sym, subst, ap, ◌∙◌, append_assoc}
+use Rattle.std.proofs.Common.{append-nil, arith, string_bytes}
 use Rattle.std.specs.Prelude.{Bool, ◌==◌, ◌&&◌, ◌||◌, nat_lt, if◌then◌else◌}
 use Rattle.std.specs.Char.{encode_utf8}
 use Rattle.std.specs.List.{AllByRecursion, flat_map}
@@ -8,9 +10,11 @@ use Rattle.std.proofs.Math.Utf8.{scalar}
 use Rattle.std.proofs.lemmas.Bool.{cond_both}
 use Rattle.std.proofs.lemmas.Bool.Decides.{nat_tests}
 use Rattle.std.proofs.lemmas.Grind.{flat_map-append}
-use Rattle.std.proofs.lemmas.Str.{IsUtf8-append, IsUtf8-nil, IsUtf8-string_bytes, chars-encodes, chars-nil, chars_past_char}
+use Rattle.std.proofs.lemmas.Str.{IsUtf8-append, IsUtf8-nil, IsUtf8-string_bytes, chars-encodes}
+use Rattle.std.proofs.lemmas.Str.{chars-nil, chars_past_char}
 use Rattle.codespan_base.specs.declared.diagnostic.LabelStyle.TheVariants.{Primary, Secondary}
-use Rattle.codespan_base.specs.declared.diagnostic.Severity.TheVariants.{Bug, Error, Warning, Note, Help}
+use Rattle.codespan_base.specs.declared.diagnostic.Severity.TheVariants.{Bug, Error, Warning, Note}
+use Rattle.codespan_base.specs.declared.diagnostic.Severity.TheVariants.{Help}
 use Rattle.codespan_base.specs.declared.term.config.style_mark.StyleMark.{StyleMark}
 use Rattle.codespan_base.specs.declared.term.config.style_mark.StyleMark.TheVariants.{Header}
 use Rattle.codespan_base.specs.declared.term.config.style_mark.StyleMark.TheVariants.{HeaderMessage}
@@ -20,11 +24,10 @@ use Rattle.codespan_base.specs.declared.term.config.style_mark.StyleMark.TheVari
 use Rattle.codespan_base.specs.declared.term.config.style_mark.StyleMark.TheVariants.{Label, Reset}
 use Rattle.codespan_styled.specs.declared.text.Run.{Run}
 use Rattle.codespan_styled.specs.Cells.{character_cells}
-use Rattle.codespan_styled.specs.Html.{box_class, escaped_text, html_cell}
-use Rattle.codespan_styled.specs.Html.{html_character, html_element, html_run, html_span}
-use Rattle.codespan_styled.specs.Html.{is_forbidden_control, is_noncharacter, is_wide}
-use Rattle.codespan_styled.specs.Html.{replaced_character, shown_text, span_tag}
-use Rattle.codespan_styled.specs.Html.{span_tag_content, style_class}
+use Rattle.codespan_styled.specs.Html.{box_class, escaped_text, html_cell, html_character}
+use Rattle.codespan_styled.specs.Html.{html_element, html_run, html_span, is_forbidden_control}
+use Rattle.codespan_styled.specs.Html.{is_noncharacter, is_wide, replaced_character, shown_text}
+use Rattle.codespan_styled.specs.Html.{span_tag, span_tag_content, style_class}
 use Rattle.codespan_styled.specs.HtmlReading.{InEntity, InTag, InText, Token, Tag, TextByte}
 use Rattle.codespan_styled.specs.HtmlReading.{cell_tokens, character_tokens, element_tokens}
 use Rattle.codespan_styled.specs.HtmlReading.{read_tokens, tokens_from, run_tokens, span_tokens}

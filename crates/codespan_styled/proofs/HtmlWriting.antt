@@ -7,8 +7,8 @@ use Rattle.std.specs.List.{flat_map}
 use Rattle.std.specs.Str.{IsUtf8}
 use Rattle.std.proofs.lemmas.Str.{chars-nil, chars_past_char}
 use Rattle.codespan_styled.specs.declared.text.Run.{Run}
-use Rattle.codespan_styled.specs.Html.{escaped_text, html_cell, html_element, html_run}
-use Rattle.codespan_styled.specs.Html.{html_span, span_tag}
+use Rattle.codespan_styled.specs.Html.{escaped_text, html_cell, html_element, html_run, html_span}
+use Rattle.codespan_styled.specs.Html.{span_tag}
 use Rattle.codespan_styled.specs.Runs.{run_view}
 
 -- a character of the text that is left

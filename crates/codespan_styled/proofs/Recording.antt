@@ -1,12 +1,14 @@
 -- What the writer of runs holds after each call: for the law of writers.
-use Rattle.std.proofs.Common.{◌≡◌, ℕ, List, [], ◌∷◌, ◌++◌, map, Some, Result, Ok, Err, IsErr, refl, sym, ◌∙◌, ap, append_assoc, append-nil, string_bytes}
+use Rattle.std.proofs.Common.{◌≡◌, ℕ, List, [], ◌∷◌, ◌++◌, map, Some, Result, Ok, Err, IsErr, refl}
+use Rattle.std.proofs.Common.{sym, ◌∙◌, ap, append_assoc, append-nil, string_bytes}
 use Rattle.std.proofs.lemmas.Grind.{flat_map-append}
 use Rattle.std.proofs.lemmas.List.{map-append}
 use Rattle.codespan_base.specs.WriterLaw.{PrefixAppended, extended, AppendsBytes}
-use Rattle.codespan_styled.specs.declared.recorder.Recorder.{Recorder}
 use Rattle.codespan_base.specs.declared.term.config.style_mark.StyleMark.{StyleMark}
+use Rattle.codespan_styled.specs.declared.recorder.Recorder.{Recorder}
 use Rattle.codespan_styled.specs.declared.text.Run.{Run}
-use Rattle.codespan_styled.specs.Private.Recorded.{ended_runs, recorded_run, recorded_runs, recorded, style_number}
+use Rattle.codespan_styled.specs.Private.Recorded.{ended_runs, recorded_run, recorded_runs}
+use Rattle.codespan_styled.specs.Private.Recorded.{recorded, style_number}
 use Rattle.codespan_styled.specs.Runs.{run_view}
 
 -- bytes that the last run takes are recorded last

@@ -1,6 +1,7 @@
 -- The runs that a writer received are those of the output, and which errors are of lookups: for
 -- `styled_text`.
-use Rattle.std.proofs.Common.{◌≡◌, ℕ, true, false, List, [], ◌∷◌, ◌++◌, Some, Result, Ok, Err, inl, inr, ⊎_elim, sym, ap, ◌∙◌, true≢false}
+use Rattle.std.proofs.Common.{◌≡◌, ℕ, true, false, List, [], ◌∷◌, ◌++◌, Some, Result, Ok, Err, inl}
+use Rattle.std.proofs.Common.{inr, ⊎_elim, sym, ap, ◌∙◌, true≢false}
 use Rattle.std.specs.Prelude.{MatchResult}
 use Rattle.codespan_base.specs.declared.diagnostic.Diagnostic.{Diagnostic}
 use Rattle.codespan_base.specs.declared.files.Error.{Error}
@@ -11,12 +12,12 @@ use Rattle.codespan_base.specs.LawfulFiles.{IsLawful}
 use Rattle.codespan_base.specs.Streams.{Stream, Byte, Mark, Slot, Spelling, spelled}
 use Rattle.codespan_base.specs.WriterLaw.{Frame, Sink, are_known, extended, is_known, with_written}
 use Rattle.codespan_base.specs.Writers.{fresh_sink}
-use Rattle.codespan_picture.specs.Utf8Laws.{CharsAreScalars, AreUtf8After}
-use Rattle.codespan_picture.proofs.PictureTexts.{text-output}
-use Rattle.codespan_views.specs.Output.{IsEmitError}
-use Rattle.codespan_views.specs.WriteCalls.{WritesStyled}
 use Rattle.codespan_base.specs.declared.term.config.style_mark.StyleMark.{StyleMark}
 use Rattle.codespan_base.specs.declared.term.config.style_mark.StyleMark.TheVariants.{Reset}
+use Rattle.codespan_picture.specs.Utf8Laws.{CharsAreScalars, AreUtf8After}
+use Rattle.codespan_views.specs.Output.{IsEmitError}
+use Rattle.codespan_views.specs.WriteCalls.{WritesStyled}
+use Rattle.codespan_picture.proofs.PictureTexts.{text-output}
 use Rattle.codespan_styled.specs.declared.text.StyledText.{StyledText}
 use Rattle.codespan_styled.specs.Private.Recorded.{recorded_runs, style_number, style_spelling}
 use Rattle.codespan_styled.specs.Runs.{TextsAreUtf8, joined, runs_from, styled_runs}

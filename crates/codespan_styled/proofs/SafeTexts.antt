@@ -1,6 +1,8 @@
 -- A text without its unsafe characters, as it is made: for the clauses of `terminal::push_safe`
 -- and `terminal::push_text`.
-use Rattle.std.proofs.Common.{◌≡◌, ◌≤◌, ◌-◌, ℕ, Bool, true, cond, List, [], ◌∷◌, ◌++◌, drop, get_or, length, map, take, refl, sym, ap, ◌∙◌, append_assoc, append-nil, arith, string_bytes}
+use Rattle.std.proofs.Common.{◌≡◌, ◌≤◌, ◌-◌, ℕ, Bool, true, cond, List, [], ◌∷◌, ◌++◌, drop, get_or}
+use Rattle.std.proofs.Common.{length, map, take, refl, sym, ap, ◌∙◌, append_assoc, append-nil}
+use Rattle.std.proofs.Common.{arith, string_bytes}
 use Rattle.std.specs.Char.{encode_utf8}
 use Rattle.std.specs.Str.{encode_utf8_all}
 use Rattle.std.proofs.lemmas.List.{take_all}
@@ -9,7 +11,8 @@ use Rattle.std.proofs.lemmas.Str.{encodes-append}
 use Rattle.codespan_base.specs.declared.term.config.styles.Styles.{Styles}
 use Rattle.codespan_styled.specs.declared.text.Run.{Run}
 use Rattle.codespan_styled.specs.Runs.{run_view}
-use Rattle.codespan_styled.specs.Terminal.{is_safe, first_sequences, runs_bytes, safe_characters, safe_text, terminal_text}
+use Rattle.codespan_styled.specs.Terminal.{is_safe, first_sequences, runs_bytes, safe_characters}
+use Rattle.codespan_styled.specs.Terminal.{safe_text, terminal_text}
 
 -- a safe character goes to the end
 pub pushed_safe : (start now next cs : List ℕ) (c : ℕ)

@@ -1,5 +1,6 @@
 -- Rules that are appended to a style sheet one by one: for the clause `css_text` of `html_styles`.
-use Rattle.std.proofs.Common.{◌≡◌, ℕ, ◌+◌, ◌<◌, ◌≤◌, Bool, List, ◌∷◌, ◌++◌, codes, drop, get_or, length, sym, ap, ◌∙◌, append_assoc, append-nil, Some}
+use Rattle.std.proofs.Common.{◌≡◌, ℕ, ◌+◌, ◌<◌, ◌≤◌, Bool, List, ◌∷◌, ◌++◌, codes, drop, get_or}
+use Rattle.std.proofs.Common.{length, sym, ap, ◌∙◌, append_assoc, append-nil, Some}
 use Rattle.std.specs.Prelude.{if◌then◌else◌}
 use Rattle.std.specs.List.{flat_map}
 use Rattle.std.proofs.lemmas.List.{drop_all, drop_more}
@@ -8,7 +9,9 @@ use Rattle.codespan_base.specs.declared.term.config.color.ColorSpec.{ColorSpec}
 use Rattle.codespan_base.specs.declared.term.config.style_mark.StyleMark.{StyleMark}
 use Rattle.codespan_base.specs.declared.term.config.styles.Styles.{Styles}
 use Rattle.codespan_styled.specs.Html.{style_class}
-use Rattle.codespan_styled.specs.StyleSheet.{bright_color, color_declaration, declarations, normal_color, rule, color_spec_of_style, weight_declaration}
+use Rattle.codespan_styled.specs.StyleSheet.{bright_color, color_declaration, declarations}
+use Rattle.codespan_styled.specs.StyleSheet.{normal_color, rule, color_spec_of_style}
+use Rattle.codespan_styled.specs.StyleSheet.{weight_declaration}
 
 -- a color
 pub color-written : (property code front b1 b2 b3 : List ℕ) (intense : Bool) (color : Color)
@@ -26,7 +29,9 @@ pub declarations-written : (spec : ColorSpec) (front b1 b2 b3 : List ℕ)
 declarations-written spec front b1 b2 b3 e1 e2 e3 =
     let fg = color_declaration (codes "color: ") spec.intense spec.fg in
     let bg = color_declaration (codes "background-color: ") spec.intense spec.bg in
-    e3 ∙ ap (λ b. b ++ weight_declaration spec.bold) (e2 ∙ ap (λ b. b ++ bg) e1 ∙ append_assoc front fg bg) ∙ append_assoc front (fg ++ bg) (weight_declaration spec.bold)
+    e3 ∙ ap (λ b. b ++ weight_declaration spec.bold)
+    (e2 ∙ ap (λ b. b ++ bg) e1 ∙ append_assoc front fg bg) ∙ append_assoc front (fg ++ bg)
+    (weight_declaration spec.bold)
 
 -- a rule
 pub rule-written : (styles : Styles) (style : StyleMark) (spec : ColorSpec)
@@ -46,7 +51,8 @@ rule-written styles style spec class front b1 b2 b3 b4 b5 e1 named e2 e3 of e4 e
         ++ declarations
         (color_spec_of_style styles style) ++ codes "}\n" ≡ front ++ rule styles style
     joined =
-        ap (λ b. ((b ++ codes " { ") ++ declarations (color_spec_of_style styles style)) ++ codes "}\n") (append_assoc front (codes ".diagnostic .") (style_class style))
+        ap (λ b. ((b ++ codes " { ") ++ declarations (color_spec_of_style styles style))
+        ++ codes "}\n") (append_assoc front (codes ".diagnostic .") (style_class style))
         ∙ ap (λ b. (b ++ declarations (color_spec_of_style styles style)) ++ codes "}\n")
         (append_assoc front (codes ".diagnostic ." ++ style_class style) (codes " { "))
         ∙ ap (λ b. b ++ codes "}\n")

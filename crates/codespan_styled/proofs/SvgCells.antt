@@ -5,7 +5,9 @@ use Rattle.std.proofs.Common.{Some, Option}
 use Rattle.std.specs.Prelude.{Bool, ◌==◌, ◌&&◌, not, if◌then◌else◌}
 use Rattle.std.specs.List.{flat_map}
 use Rattle.codespan_base.specs.declared.term.config.color.Color.{Color}
-use Rattle.codespan_base.specs.declared.term.config.color.Color.TheVariants.{Black, Red, Green, Yellow, Blue, Magenta, Cyan, White}
+use Rattle.codespan_base.specs.declared.term.config.color.Color.TheVariants.{Black, Red, Green}
+use Rattle.codespan_base.specs.declared.term.config.color.Color.TheVariants.{Yellow, Blue, Magenta}
+use Rattle.codespan_base.specs.declared.term.config.color.Color.TheVariants.{Cyan, White}
 use Rattle.codespan_styled.specs.declared.svg.glyph.Glyph.{Glyph}
 use Rattle.codespan_styled.specs.declared.svg.ink.Ink.{Ink}
 use Rattle.codespan_styled.specs.declared.svg.position.CellPosition.{CellPosition}
@@ -169,4 +171,6 @@ no_cells_before (glyph ∷ glyphs) = refl
 pub cells_of_pieces : (glyphs : List Glyph)
     → flat_map piece_characters (pieces_from first_pen glyphs) ≡ characters_from start glyphs
 cells_of_pieces glyphs =
-    sym (cells_by_pieces first_pen glyphs ∙ ap (λ (cs : List CharacterInCell). cs ++ flat_map piece_characters (pieces_from first_pen glyphs)) (no_cells_before glyphs))
+    sym (cells_by_pieces first_pen glyphs ∙ ap
+    (λ (cs : List CharacterInCell). cs ++ flat_map piece_characters
+    (pieces_from first_pen glyphs)) (no_cells_before glyphs))

@@ -1,6 +1,8 @@
 -- The elements of an SVG document and their numbers read back, and so do its characters: for the
 -- clauses `tokens` and `text` of `to_svg`.
-use Rattle.std.proofs.Common.{◌≡◌, ℕ, ◌+◌, ◌/◌, ◌%◌, true, false, List, [], ◌∷◌, ◌++◌, map, codes, decimal, refl, sym, subst, ap, ◌∙◌, append_assoc, append-nil, ◌*◌, arith, zero, suc, None, Some, Option}
+use Rattle.std.proofs.Common.{◌≡◌, ℕ, ◌+◌, ◌/◌, ◌%◌, true, false, List, [], ◌∷◌, ◌++◌, map, codes}
+use Rattle.std.proofs.Common.{decimal, refl, sym, subst, ap, ◌∙◌, append_assoc, append-nil, ◌*◌}
+use Rattle.std.proofs.Common.{arith, zero, suc, None, Some, Option}
 use Rattle.std.specs.Prelude.{Bool, ◌==◌, ◌&&◌, ◌||◌, not, nat_lt, if◌then◌else◌}
 use Rattle.std.specs.Char.{encode_utf8}
 use Rattle.std.specs.Fmt.{digit_glyph, digits, digits_onto}
@@ -8,13 +10,18 @@ use Rattle.std.specs.List.{AllByRecursion}
 use Rattle.std.proofs.lemmas.Bool.{cond_both}
 use Rattle.std.proofs.lemmas.Bool.Decides.{nat_tests}
 use Rattle.codespan_base.specs.declared.term.config.color.Color.{Color}
-use Rattle.codespan_base.specs.declared.term.config.color.Color.TheVariants.{Black, Red, Green, Yellow, Blue, Magenta, Cyan, White}
+use Rattle.codespan_base.specs.declared.term.config.color.Color.TheVariants.{Black, Red, Green}
+use Rattle.codespan_base.specs.declared.term.config.color.Color.TheVariants.{Yellow, Blue, Magenta}
+use Rattle.codespan_base.specs.declared.term.config.color.Color.TheVariants.{Cyan, White}
 use Rattle.codespan_styled.specs.declared.svg.ink.Ink.{Ink}
 use Rattle.codespan_styled.specs.declared.svg.position.CellPosition.{CellPosition}
 use Rattle.codespan_styled.specs.HtmlReading.{InTag, InText, Tag, TextByte, tokens_from}
-use Rattle.codespan_styled.specs.Svg.{y_of, color_attribute, font_attributes, height, is_forbidden_in_xml, x_of, svg_tag_start, svg_tag_content, text_tag_content, weight_attribute, width, xml_character}
+use Rattle.codespan_styled.specs.Svg.{y_of, color_attribute, font_attributes, height}
+use Rattle.codespan_styled.specs.Svg.{is_forbidden_in_xml, x_of, svg_tag_start, svg_tag_content}
+use Rattle.codespan_styled.specs.Svg.{text_tag_content, weight_attribute, width, xml_character}
 use Rattle.codespan_styled.specs.SvgReading.{shown_in_svg}
-use Rattle.codespan_styled.proofs.HtmlReading.{IsTextByte, and_true, bytes-read, character-bytes, is_code}
+use Rattle.codespan_styled.proofs.HtmlReading.{IsTextByte, and_true, bytes-read, character-bytes}
+use Rattle.codespan_styled.proofs.HtmlReading.{is_code}
 
 -- ---- tags
 
@@ -166,7 +173,8 @@ module _ (c : ℕ) (rest : List ℕ) (ends : (c == 10) ≡ false) where
       → (c == n) ≡ true → ReadsAs bs
   by_code n bs is t =
       subst
-      (λ k. tokens_from InText (bs ++ rest) ≡ map TextByte (shown_in_svg k) ++ tokens_from InText rest)
+      (λ k. tokens_from InText (bs ++ rest) ≡ map TextByte (shown_in_svg k)
+      ++ tokens_from InText rest)
       (sym (is_code c n t)) is
 
   -- a character that is neither spelled by an entity nor by a backslash
@@ -176,7 +184,8 @@ module _ (c : ℕ) (rest : List ℕ) (ends : (c == 10) ≡ false) where
   other amp lt escape null return tab =
       let contents = if is_forbidden_in_xml c then encode_utf8 65533 else encode_utf8 c in
       let shown : shown_in_svg c ≡ contents =
-      ap (λ t. if t then 10 ∷ [] else if c == 27 then codes "\\e" else if c == 0 then codes "\\0" else if c == 13 then codes "\\r" else if c == 9 then codes "\\t" else contents) ends
+      ap (λ t. if t then 10 ∷ [] else if c == 27 then codes "\\e" else if c == 0 then codes "\\0"
+      else if c == 13 then codes "\\r" else if c == 9 then codes "\\t" else contents) ends
       ∙ ap
       (λ t. if t then codes "\\e" else if c == 0 then codes "\\0" else if c == 13 then codes "\\r"
       else if c == 9 then codes "\\t" else contents)

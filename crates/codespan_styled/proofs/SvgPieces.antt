@@ -1,19 +1,19 @@
 -- The tokens of glyphs are those of their pieces, and each character has its cell: for the clause
 -- `tokens` of `to_svg`, and for `svg::laws`.
-use Rattle.std.proofs.Common.{◌≡◌, ℕ, ◌+◌, true, false, List, [], ◌∷◌, ◌++◌, map, codes, refl, sym, ap, ◌∙◌, append_assoc, None, Some, Option}
+use Rattle.std.proofs.Common.{◌≡◌, ℕ, ◌+◌, true, false, List, [], ◌∷◌, ◌++◌, map, codes, refl, sym}
+use Rattle.std.proofs.Common.{ap, ◌∙◌, append_assoc, None, Some, Option}
 use Rattle.std.specs.Prelude.{Bool, ◌&&◌, not, nat_le, if◌then◌else◌}
 use Rattle.std.specs.List.{flat_map}
 use Rattle.std.proofs.lemmas.List.{map-append}
 use Rattle.codespan_styled.specs.declared.svg.glyph.Glyph.{Glyph}
 use Rattle.codespan_styled.specs.declared.svg.Pen.{Pen}
-use Rattle.codespan_styled.specs.Glyphs.{cells_of, follows, joins_next, is_narrow}
-use Rattle.codespan_styled.specs.Glyphs.{is_white_space, joined_cells, joins}
+use Rattle.codespan_styled.specs.Glyphs.{cells_of, follows, joins_next, is_narrow, is_white_space}
+use Rattle.codespan_styled.specs.Glyphs.{joined_cells, joins}
 use Rattle.codespan_styled.specs.HtmlReading.{Token, Tag, TextByte}
 use Rattle.codespan_styled.specs.Inks.{same_ink}
 use Rattle.codespan_styled.specs.Svg.{first_pen, next_pen, text_tag_content}
-use Rattle.codespan_styled.specs.SvgReading.{Piece, WhiteSpace, Text, joined_glyphs}
-use Rattle.codespan_styled.specs.SvgReading.{piece_tokens, pieces_from, shown_glyphs}
-use Rattle.codespan_styled.specs.SvgReading.{shown_in_svg, text_width}
+use Rattle.codespan_styled.specs.SvgReading.{Piece, WhiteSpace, Text, joined_glyphs, piece_tokens}
+use Rattle.codespan_styled.specs.SvgReading.{pieces_from, shown_glyphs, shown_in_svg, text_width}
 
 -- ---- glyph by glyph
 
@@ -29,7 +29,8 @@ glyph_tokens pen glyph others =
     else Tag
     (text_tag_content pen.position (cells_of glyph + joined_cells glyph others) glyph.ink)
     ∷ [])
-    ++ map TextByte (shown_in_svg glyph.character) ++ (if joins_next glyph others then [] else end_tag)
+    ++ map TextByte (shown_in_svg glyph.character)
+    ++ (if joins_next glyph others then [] else end_tag)
 
 -- the tokens of glyphs
 abbrev pub tokens_of_glyphs : Pen → List Glyph → List Token

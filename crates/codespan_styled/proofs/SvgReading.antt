@@ -12,18 +12,21 @@ use Rattle.codespan_base.specs.declared.term.config.styles.Styles.{Styles}
 use Rattle.codespan_styled.specs.declared.svg.glyph.Glyph.{Glyph}
 use Rattle.codespan_styled.specs.declared.svg.ink.Ink.{Ink}
 use Rattle.codespan_styled.specs.declared.svg.Pen.{Pen}
-use Rattle.codespan_styled.specs.Glyphs.{cells_of, extent_from, follows, glyphs_of}
-use Rattle.codespan_styled.specs.Glyphs.{glyphs_of_run, joins_next, is_white_space, joined_cells}
-use Rattle.codespan_styled.specs.Glyphs.{start}
-use Rattle.codespan_styled.specs.HtmlReading.{InText, Token, Tag, TextByte, read_tokens, tokens_from, text_of_tokens}
+use Rattle.codespan_styled.specs.Glyphs.{cells_of, extent_from, follows, glyphs_of, glyphs_of_run}
+use Rattle.codespan_styled.specs.Glyphs.{joins_next, is_white_space, joined_cells, start}
+use Rattle.codespan_styled.specs.HtmlReading.{InText, Token, Tag, TextByte, read_tokens}
+use Rattle.codespan_styled.specs.HtmlReading.{tokens_from, text_of_tokens}
 use Rattle.codespan_styled.specs.Runs.{RunView, run_characters}
-use Rattle.codespan_styled.specs.Svg.{first_pen, glyph_text, background_tag_content, next_pen, svg_document, svg_tag_content, text_tag_content, text_tag, texts_from, xml_character}
-use Rattle.codespan_styled.specs.SvgReading.{piece_tokens, pieces_from, svg_tokens, shown_in_svg, shown_svg_text}
+use Rattle.codespan_styled.specs.Svg.{first_pen, glyph_text, background_tag_content, next_pen}
+use Rattle.codespan_styled.specs.Svg.{svg_document, svg_tag_content, text_tag_content, text_tag}
+use Rattle.codespan_styled.specs.Svg.{texts_from, xml_character}
+use Rattle.codespan_styled.specs.SvgReading.{piece_tokens, pieces_from, svg_tokens, shown_in_svg}
+use Rattle.codespan_styled.specs.SvgReading.{shown_svg_text}
 use Rattle.codespan_styled.proofs.HtmlReading.{text_of-append, text_of-bytes}
-use Rattle.codespan_styled.proofs.SvgPieces.{glyph_tokens, tokens_of_glyphs, tokens_of_pieces, two_ifs}
+use Rattle.codespan_styled.proofs.SvgPieces.{glyph_tokens, tokens_of_glyphs, tokens_of_pieces}
+use Rattle.codespan_styled.proofs.SvgPieces.{two_ifs}
 use Rattle.codespan_styled.proofs.SvgElements.{is_inside, text-inside, svg-inside, tag-read}
-use Rattle.codespan_styled.proofs.SvgElements.{character-read, white-space-read}
-use Rattle.codespan_styled.proofs.SvgElements.{white-space-shown}
+use Rattle.codespan_styled.proofs.SvgElements.{character-read, white-space-read, white-space-shown}
 
 -- ---- glyphs
 
@@ -47,9 +50,13 @@ character-glyph : (pen : Pen) (glyph : Glyph) (others : List Glyph) (rest : List
     → is_white_space glyph ≡ false
     → tokens_from InText
     (((if follows pen.before glyph then []
-    else text_tag pen.position (cells_of glyph + joined_cells glyph others) glyph.ink) ++ xml_character glyph.character ++ (if joins_next glyph others then [] else codes "</text>")) ++ rest)
+    else text_tag pen.position (cells_of glyph + joined_cells glyph others) glyph.ink)
+    ++ xml_character glyph.character ++ (if joins_next glyph others then [] else codes "</text>"))
+    ++ rest)
     ≡ ((if follows pen.before glyph then []
-    else Tag (text_tag_content pen.position (cells_of glyph + joined_cells glyph others) glyph.ink) ∷ []) ++ map TextByte (shown_in_svg glyph.character) ++ (if joins_next glyph others then [] else Tag (codes "/text") ∷ []))
+    else Tag (text_tag_content pen.position (cells_of glyph + joined_cells glyph others) glyph.ink)
+    ∷ []) ++ map TextByte (shown_in_svg glyph.character)
+    ++ (if joins_next glyph others then [] else Tag (codes "/text") ∷ []))
     ++ tokens_from InText rest
 character-glyph pen glyph others rest shown_glyph =
     let content =
@@ -79,10 +86,13 @@ glyph-read : (pen : Pen) (glyph : Glyph) (others : List Glyph) (rest : List ℕ)
 glyph-read pen glyph others rest =
     two_ifs (is_white_space glyph) (encode_utf8 glyph.character)
     ((if follows pen.before glyph then []
-    else text_tag pen.position (cells_of glyph + joined_cells glyph others) glyph.ink) ++ xml_character glyph.character ++ (if joins_next glyph others then [] else codes "</text>"))
+    else text_tag pen.position (cells_of glyph + joined_cells glyph others) glyph.ink)
+    ++ xml_character glyph.character ++ (if joins_next glyph others then [] else codes "</text>"))
     (TextByte glyph.character ∷ [])
     ((if follows pen.before glyph then []
-    else Tag (text_tag_content pen.position (cells_of glyph + joined_cells glyph others) glyph.ink) ∷ []) ++ map TextByte (shown_in_svg glyph.character) ++ (if joins_next glyph others then [] else Tag (codes "/text") ∷ []))
+    else Tag (text_tag_content pen.position (cells_of glyph + joined_cells glyph others) glyph.ink)
+    ∷ []) ++ map TextByte (shown_in_svg glyph.character)
+    ++ (if joins_next glyph others then [] else Tag (codes "/text") ∷ []))
     (λ bytes tokens. tokens_from InText (bytes ++ rest) ≡ tokens ++ tokens_from InText rest)
     (white-space-read glyph.character rest) (character-glyph pen glyph others rest)
 

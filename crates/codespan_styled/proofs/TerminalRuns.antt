@@ -1,5 +1,7 @@
 -- How runs of text are read on a terminal: for the clause `safe` of `to_terminal`.
-use Rattle.std.proofs.Common.{◌≡◌, ℕ, ◌+◌, ◌<◌, Bool, true, false, ◌&&◌, List, [], ◌∷◌, ◌++◌, map, codes, decimal, Option, Some, None, refl, sym, ap, subst, ◌∙◌, append_assoc, append-nil, arith}
+use Rattle.std.proofs.Common.{◌≡◌, ℕ, ◌+◌, ◌<◌, Bool, true, false, ◌&&◌, List, [], ◌∷◌, ◌++◌, map}
+use Rattle.std.proofs.Common.{codes, decimal, Option, Some, None, refl, sym, ap, subst, ◌∙◌}
+use Rattle.std.proofs.Common.{append_assoc, append-nil, arith}
 use Rattle.std.specs.Fmt.{digits}
 use Rattle.std.specs.List.{list_all}
 use Rattle.std.specs.Str.{IsAscii, chars}
@@ -10,21 +12,30 @@ use Rattle.std.proofs.lemmas.List.Folds.{list_all-append}
 use Rattle.std.proofs.lemmas.Str.{IsUtf8-string_bytes}
 use Rattle.std.proofs.lemmas.Str.Ascii.{IsAscii-cons, IsAscii-nil}
 use Rattle.codespan_base.specs.declared.term.config.color.Color.{Color}
-use Rattle.codespan_base.specs.declared.term.config.color.Color.TheVariants.{Black, Red, Green, Yellow, Blue, Magenta, Cyan, White}
+use Rattle.codespan_base.specs.declared.term.config.color.Color.TheVariants.{Black, Red, Green}
+use Rattle.codespan_base.specs.declared.term.config.color.Color.TheVariants.{Yellow, Blue, Magenta}
+use Rattle.codespan_base.specs.declared.term.config.color.Color.TheVariants.{Cyan, White}
 use Rattle.codespan_base.specs.declared.term.config.color.ColorSpec.{ColorSpec}
 use Rattle.codespan_base.specs.declared.term.config.styles.Styles.{Styles}
-use Rattle.codespan_base.specs.Ansi.{ansi_bold, ansi_color, ansi_reset, ansi_style, color_number, escape}
-use Rattle.codespan_base.specs.StyleSpellings.{header_color_spec, label_color_spec}
+use Rattle.codespan_base.specs.Ansi.{ansi_bold, ansi_color, ansi_reset, ansi_style, color_number}
+use Rattle.codespan_base.specs.Ansi.{escape}
+use Rattle.codespan_base.specs.StyleSpellings.{header_color_spec, label_color_spec, ansi_spelling}
 use Rattle.codespan_base.specs.declared.term.config.style_mark.StyleMark.{StyleMark}
-use Rattle.codespan_base.specs.declared.term.config.style_mark.StyleMark.TheVariants.{Header, HeaderMessage, LineNumber, NoteBullet, SourceBorder, Label, Reset}
+use Rattle.codespan_base.specs.declared.term.config.style_mark.StyleMark.TheVariants.{Header}
+use Rattle.codespan_base.specs.declared.term.config.style_mark.StyleMark.TheVariants.{HeaderMessage}
+use Rattle.codespan_base.specs.declared.term.config.style_mark.StyleMark.TheVariants.{LineNumber}
+use Rattle.codespan_base.specs.declared.term.config.style_mark.StyleMark.TheVariants.{NoteBullet}
+use Rattle.codespan_base.specs.declared.term.config.style_mark.StyleMark.TheVariants.{SourceBorder}
+use Rattle.codespan_base.specs.declared.term.config.style_mark.StyleMark.TheVariants.{Label, Reset}
 use Rattle.codespan_styled.specs.declared.text.Run.{Run}
 use Rattle.codespan_styled.specs.Runs.{TextsAreUtf8, RunView, is_plain, run_characters, run_view}
-use Rattle.codespan_base.specs.StyleSpellings.{ansi_spelling}
 use Rattle.codespan_styled.specs.Terminal.{columns, is_safe, first_sequences, state_after}
 use Rattle.codespan_styled.specs.Terminal.{run_bytes, runs_bytes, safe_characters, safe_text}
 use Rattle.codespan_styled.specs.Terminal.{visible, terminal_text, ShowsSafe, Text, Parameters}
 use Rattle.codespan_styled.proofs.UnsafeCells.{columns_stay}
-use Rattle.codespan_styled.proofs.TerminalStates.{is_parameter, parameters_after, parameters_show, ReadsText, ReadsText-nil, ReadsText-append, ReadsText-ascii, ReadsText-safe}
+use Rattle.codespan_styled.proofs.TerminalStates.{is_parameter, parameters_after, parameters_show}
+use Rattle.codespan_styled.proofs.TerminalStates.{ReadsText, ReadsText-nil, ReadsText-append}
+use Rattle.codespan_styled.proofs.TerminalStates.{ReadsText-ascii, ReadsText-safe}
 
 -- ---- the sequences of a style
 

@@ -7,8 +7,10 @@ use Rattle.std.specs.Char.{is_ascii_digit}
 use Rattle.std.specs.Str.{IsUtf8, IsAscii, chars}
 use Rattle.std.proofs.Math.Utf8.{scalar, scalars}
 use Rattle.std.proofs.lemmas.Bool.{and_parts, ne_eqb}
-use Rattle.std.proofs.lemmas.Str.{IsUtf8-append, IsUtf8-nil, IsUtf8-from_ascii, chars-append, chars-encodes, chars-IsAscii, chars-nil, scalars-chars}
-use Rattle.codespan_styled.specs.Terminal.{is_safe, next_state, state_after, safe_characters, safe_text, visible, Text, Escape, Parameters, Unknown}
+use Rattle.std.proofs.lemmas.Str.{IsUtf8-append, IsUtf8-nil, IsUtf8-from_ascii, chars-append}
+use Rattle.std.proofs.lemmas.Str.{chars-encodes, chars-IsAscii, chars-nil, scalars-chars}
+use Rattle.codespan_styled.specs.Terminal.{is_safe, next_state, state_after, safe_characters}
+use Rattle.codespan_styled.specs.Terminal.{safe_text, visible, Text, Escape, Parameters, Unknown}
 
 -- ---- characters
 

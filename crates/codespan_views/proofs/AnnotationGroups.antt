@@ -1,18 +1,17 @@
 -- `lines_from` makes of annotations in order the snippet lines of the lines that have annotations,
 -- from the first on: for the clauses of `render_lines` and `render_snippets`.
-use Rattle.std.proofs.lemmas.Grind.{common_steps}
-use Rattle.std.proofs.Common.{◌≡◌, ℕ, zero, suc, ◌+◌, ◌<◌, ◌≤◌, Bool, true, false, cond, ◌==◌}
-use Rattle.std.proofs.Common.{nat_lt, if◌then◌else◌, List, [], ◌∷◌, ◌++◌, take, drop, filter}
-use Rattle.std.proofs.Common.{Option, Some, None, ⊎_elim, refl, sym, ◌∙◌, ap, subst, arith}
-use Rattle.std.specs.List.{prefix_len, range_with_len, AllByRecursion}
-use Rattle.std.proofs.lemmas.Bool.{cases_Bool, eqb-true, eqb-false, eq-eqb, ltb-true, ltb-false}
-use Rattle.std.proofs.lemmas.Bool.{lt-ltb, le-ltb}
+use Rattle.codespan_core.proofs.Std.{common_steps, ◌≡◌, ℕ, zero, suc, ◌+◌, ◌<◌, ◌≤◌, Bool, true}
+use Rattle.codespan_core.proofs.Std.{false, cond, ◌==◌, nat_lt, if◌then◌else◌, List, [], ◌∷◌, ◌++◌}
+use Rattle.codespan_core.proofs.Std.{take, drop, filter, Option, Some, None, ⊎_elim, refl, sym, ◌∙◌}
+use Rattle.codespan_core.proofs.Std.{ap, subst, arith, prefix_len, range_with_len, AllByRecursion}
+use Rattle.codespan_core.proofs.Std.{cases_Bool, eqb-true, eq-eqb, ltb-true, ltb-false, lt-ltb}
+use Rattle.codespan_core.proofs.Std.{le-ltb}
+use Rattle.std.proofs.lemmas.Bool.{eqb-false}
 use Rattle.codespan_picture.specs.Snippets.{has_any}
-use Rattle.codespan_views.specs.Private.Annotations.{Annotation, is_on_line, shows_line}
 use Rattle.codespan_picture.specs.Sequences.{before_line, gap_between, in_sequence}
-use Rattle.codespan_views.specs.Private.SnippetLines.{SnippetLine, Labeled, Filled, Break, Group}
-use Rattle.codespan_views.specs.Private.SnippetLines.{are_shown, group_of, join_group, groups}
-use Rattle.codespan_views.specs.Private.SnippetLines.{lines_between, lines_to, lines_from, lines_of}
+use Rattle.codespan_views.specs.Private.{Annotation, is_on_line, shows_line, SnippetLine, Labeled}
+use Rattle.codespan_views.specs.Private.{Filled, Break, Group, are_shown, group_of, join_group}
+use Rattle.codespan_views.specs.Private.{groups, lines_between, lines_to, lines_from, lines_of}
 use Rattle.codespan_picture.proofs.ListElements.{all-weaker, all-filter, filter-whole}
 use Rattle.codespan_picture.proofs.ListElements.{filter-nothing}
 
@@ -91,7 +90,8 @@ split_at {X} n k (x ∷ xs) h low =
 filter-above : {X : Type 0} (n : X → ℕ) (k l : ℕ) → k < l → (xs : List X)
     → filter (λ x. n x == l) (filter (λ x. nat_lt k (n x)) xs) ≡ filter (λ x. n x == l) xs
 filter-above n k l h [] = refl
-filter-above {X} n k l h (x ∷ xs) = grind (arith, common_steps, ltb-false, eqb-true, nat_lt, filter-above n k l h xs)
+filter-above {X} n k l h (x ∷ xs) = grind
+    (arith, common_steps, ltb-false, eqb-true, nat_lt, filter-above n k l h xs)
 
 -- ---- groups by lines
 
@@ -109,7 +109,8 @@ groups-append : (k : ℕ) (g ys : List Annotation) → AllByRecursion (λ e. e.l
     → AllByRecursion (λ e. k < e.line) ys → groups (g ++ ys) ≡ some_group k g (groups ys)
 groups-append k [] ys h up = refl
 groups-append k (x ∷ []) [] h up = λ i. group_at (h.0 i) (x ∷ []) ∷ []
-groups-append k (x ∷ []) (y ∷ ys) h up = grind (arith, common_steps, not_equal, groups-apart, groups-cons)
+groups-append k (x ∷ []) (y ∷ ys) h up = grind
+    (arith, common_steps, not_equal, groups-apart, groups-cons)
 groups-append k (x ∷ y ∷ g) ys h up =
     let t : (k == x.line) ≡ true = let e : x.line ≡ k = h.0 in eq-eqb k x.line (sym e) in
     let same : join_group x (group_at k (y ∷ g) ∷ groups ys) ≡ group_of x (y ∷ g) ∷ groups ys =
@@ -122,7 +123,8 @@ groups_on-same : (annotations_at other : ℕ → List Annotation) (n a : ℕ)
     → ((l : ℕ) → a ≤ l → annotations_at l ≡ other l)
     → groups_on annotations_at (range_with_len a n) ≡ groups_on other (range_with_len a n)
 groups_on-same annotations_at other zero a h = refl
-groups_on-same annotations_at other (suc n) a h = grind (arith, common_steps, groups_on-same annotations_at other n)
+groups_on-same annotations_at other (suc n) a h = grind
+    (arith, common_steps, groups_on-same annotations_at other n)
 
 -- what is kept for its line is of that line
 pub all-on_line : (a : ℕ) (xs : List Annotation)
@@ -152,7 +154,8 @@ groups-by_line (suc n) a xs h low high =
     (all-weaker (λ e. a < e.line) (λ e. a + 1 ≤ e.line) (λ e q. omega arith) ys
     (all-above_line a xs))
     (all-filter (λ e. e.line < a + 1 + n) (λ e. nat_lt a e.line) xs
-    (all-weaker (λ e. e.line < a + suc n) (λ e. e.line < a + 1 + n) (λ e q. omega arith) xs high)) in
+    (all-weaker (λ e. e.line < a + suc n) (λ e. e.line < a + 1 + n) (λ e q. omega arith) xs high))
+    in
     ap groups cut ∙ groups-append a g ys (all-on_line a xs) (all-above_line a xs)
     ∙ ap (λ (q : List Group). some_group a g q)
     (inner

@@ -1,30 +1,24 @@
 -- The annotations of all labels on one line of one file, for the clauses of `render_snippets` and
 -- `RichDiagnostic::render`.
-use Rattle.std.proofs.lemmas.Grind.{common_steps}
-use Rattle.std.proofs.Common.{◌≡◌, ℕ, ◌+◌, ◌<◌, Bool, true, false, cond, if◌then◌else◌, ◌==◌}
-use Rattle.std.proofs.Common.{nat_lt, ◌&&◌, ◌||◌, List, [], ◌∷◌, ◌++◌, length, map, filter, Option}
-use Rattle.std.proofs.Common.{None, ⊎_elim, refl, sym, ◌∙◌, ap, subst, arith, length-append}
-use Rattle.std.specs.Option.{option_map}
-use Rattle.std.specs.List.{cons_option, list_any, AllByRecursion}
-use Rattle.std.proofs.lemmas.Bool.{cases_Bool, eqb-true, eq-eqb, ltb-false}
-use Rattle.std.proofs.lemmas.Bool.Decides.{nat_tests}
-use Rattle.std.proofs.lemmas.List.Elements.{filter-append}
-use Rattle.std.proofs.lemmas.List.Folds.{list_any-append}
+use Rattle.codespan_core.proofs.Std.{common_steps, ◌≡◌, ℕ, ◌+◌, ◌<◌, Bool, true, false, cond}
+use Rattle.codespan_core.proofs.Std.{if◌then◌else◌, ◌==◌, nat_lt, ◌&&◌, ◌||◌, List, [], ◌∷◌, ◌++◌}
+use Rattle.codespan_core.proofs.Std.{length, map, filter, Option, None, ⊎_elim, refl, sym, ◌∙◌, ap}
+use Rattle.codespan_core.proofs.Std.{subst, arith, length-append, option_map, cons_option, list_any}
+use Rattle.codespan_core.proofs.Std.{AllByRecursion, cases_Bool, eqb-true, eq-eqb, ltb-false}
+use Rattle.codespan_core.proofs.Std.{nat_tests, filter-append, list_any-append}
 use Rattle.std.proofs.Math.Bool.{and-false}
-use Rattle.codespan_core.specs.declared.term.config.Config.{Config}
 use Rattle.codespan_core.specs.FileModel.{FileModel, line_count}
 use Rattle.codespan_core.specs.Labels.{LaneMark, LabelModel, first_line, last_line, is_single}
 use Rattle.codespan_core.specs.Labels.{drawn_label, lane_mark_of, multi_line_labels, multi_label_on}
-use Rattle.codespan_views.specs.Private.Annotations.{Annotation, Single, Multi, is_before}
-use Rattle.codespan_views.specs.Private.Annotations.{is_on_line, is_of_file, annotation_if_any}
-use Rattle.codespan_views.specs.Private.Annotations.{shows_line}
-use Rattle.codespan_views.specs.Private.LabelAnnotations.{line_annotations, annotations_of}
+use Rattle.codespan_core.specs.Lemmas.Lines.{line_of_below}
+use Rattle.codespan_picture.specs.Types.{Config}
 use Rattle.codespan_picture.specs.Lines.{shows}
-use Rattle.codespan_views.specs.Private.FileIndices.{index_of_file}
-use Rattle.codespan_views.specs.Private.IndexedLabels.{annotations_of_next, annotations_after}
 use Rattle.codespan_picture.specs.Snippets.{LabelInFile}
-use Rattle.codespan_views.specs.Private.LabeledFiles.{num_multi_labels_of}
-use Rattle.codespan_views.specs.Private.SnippetLines.{single_labels_in}
+use Rattle.codespan_views.specs.Private.{Annotation, Single, Multi, is_before, is_on_line}
+use Rattle.codespan_views.specs.Private.{is_of_file, annotation_if_any, shows_line}
+use Rattle.codespan_views.specs.Private.{line_annotations, annotations_of, index_of_file}
+use Rattle.codespan_views.specs.Private.{annotations_of_next, annotations_after}
+use Rattle.codespan_views.specs.Private.{num_multi_labels_of, single_labels_in}
 use Rattle.codespan_views.proofs.AnnotationOrder.{lane_mark_annotation, index_below}
 use Rattle.codespan_views.proofs.LinesOfLabels.{is_kind}
 use Rattle.codespan_views.proofs.LabelAnnotations.{all-of_file, all-below, annotations-on_line}
@@ -33,13 +27,13 @@ use Rattle.codespan_views.proofs.LabelAnnotations.{shown-on_line}
 use Rattle.codespan_views.proofs.LabelIndexing.{num_multi_labels_of-more, label_lanes}
 use Rattle.codespan_views.proofs.LaneMarks.{marks_from}
 use Rattle.codespan_picture.proofs.OrderSorts.{has_range}
-use Rattle.codespan_core.specs.Lemmas.Lines.{line_of_below}
 use Rattle.codespan_picture.proofs.ListElements.{all-append, all-weaker, filter-whole}
 use Rattle.codespan_picture.proofs.ListElements.{filter-nothing}
 use Rattle.codespan_picture.proofs.SortedFilters.{Falls}
 use Rattle.codespan_views.proofs.FileLabels.{is_of_range, HasFileIndex}
 
-module _ {Id : Type 0} {same : Id → Id → Bool} {file : Id → FileModel} {ids : List Id} {f : ℕ} {id : Id} (here : HasFileIndex same file ids f id) (config : Config) where
+module _ {Id : Type 0} {same : Id → Id → Bool} {file : Id → FileModel} {ids : List Id} {f : ℕ}
+    {id : Id} (here : HasFileIndex same file ids f id) (config : Config) where
   -- the file
   abbrev own_file : FileModel
   own_file = file id
@@ -55,28 +49,42 @@ module _ {Id : Type 0} {same : Id → Id → Bool} {file : Id → FileModel} {id
   -- ---- lines of the file
 
   -- a label is on lines that the file has
-  ends-below : (x : LabelModel) → (first_line own_file x < line_count own_file) × (last_line own_file x < line_count own_file)
-  ends-below x = (line_of_below own_file.starts x.start here.has_line, line_of_below own_file.starts x.end here.has_line)
+  ends-below : (x : LabelModel) → (first_line own_file x < line_count own_file)
+      × (last_line own_file x < line_count own_file)
+  ends-below x = (
+    line_of_below own_file.starts x.start here.has_line,
+    line_of_below own_file.starts
+        x.end here.has_line,
+  )
 
   -- its annotations of the file are of such lines
-  pub annotations-below : (xs before : List (LabelInFile Id)) → AllByRecursion (λ e. is_of_file f e ≡ true → e.line < line_count own_file) (annotations_after same file config ids before xs)
+  pub annotations-below : (xs before : List (LabelInFile Id))
+      → AllByRecursion (λ e. is_of_file f e ≡ true → e.line < line_count own_file)
+      (annotations_after same file config ids before xs)
   annotations-below [] before = tt
   annotations-below (x ∷ xs) before =
       all-append (λ e. is_of_file f e ≡ true → e.line < line_count own_file)
-      (annotations_of_next same file config ids before x) (annotations_after same file config ids (before ++ x ∷ []) xs)
+      (annotations_of_next same file config ids before x)
+      (annotations_after same file config ids (before ++ x ∷ []) xs)
       (⊎_elim
-      (λ (t : same id x.file_id ≡ true). all-weaker (λ e. e.line < line_count (file x.file_id)) (λ e. is_of_file f e ≡ true → e.line < line_count own_file)
+      (λ (t : same id x.file_id ≡ true). all-weaker (λ e. e.line < line_count (file x.file_id))
+      (λ e. is_of_file f e ≡ true → e.line < line_count own_file)
       (λ e h _. subst (λ m. e.line < line_count m) (here.one_file x.file_id t) h)
       (annotations_of_next same file config ids before x)
-      (all-below config (file x.file_id) (index_of_file same ids x.file_id) (length before) (num_multi_labels_of same file before x.file_id) x.label))
-      (λ (t : same id x.file_id ≡ false). all-weaker (λ e. e.file_index ≡ index_of_file same ids x.file_id) (λ e. is_of_file f e ≡ true → e.line < line_count own_file)
+      (all-below config (file x.file_id) (index_of_file same ids x.file_id) (length before)
+      (num_multi_labels_of same file before x.file_id) x.label))
+      (λ (t : same id x.file_id ≡ false). all-weaker
+      (λ e. e.file_index ≡ index_of_file same ids x.file_id)
+      (λ e. is_of_file f e ≡ true → e.line < line_count own_file)
       (λ e h k. absurd (other x t e h k))
       (annotations_of_next same file config ids before x)
-      (all-of_file config (file x.file_id) (index_of_file same ids x.file_id) (length before) (num_multi_labels_of same file before x.file_id) x.label))
+      (all-of_file config (file x.file_id) (index_of_file same ids x.file_id) (length before)
+      (num_multi_labels_of same file before x.file_id) x.label))
       (cases_Bool (same id x.file_id)))
       (annotations-below xs (before ++ x ∷ []))
     where
-      other : (x : LabelInFile Id) → same id x.file_id ≡ false → (e : Annotation) → e.file_index ≡ index_of_file same ids x.file_id → is_of_file f e ≡ true → ⊥
+      other : (x : LabelInFile Id) → same id x.file_id ≡ false → (e : Annotation)
+          → e.file_index ≡ index_of_file same ids x.file_id → is_of_file f e ≡ true → ⊥
       other x t e h k = let both = sym k ∙ ap (λ i. i == f) h ∙ here.index x.file_id ∙ t in cc
 
   module _ (l : ℕ) where
@@ -86,31 +94,46 @@ module _ {Id : Type 0} {same : Id → Id → Bool} {file : Id → FileModel} {id
 
     -- its annotations on the line
     abbrev own_annotations : List (LabelInFile Id) → LabelModel → List Annotation
-    own_annotations before x = line_annotations config own_file f (length before) (lane_after before) x l
+    own_annotations before x = line_annotations config own_file f (length before)
+        (lane_after before) x l
 
     -- the annotations of a label on the line
     abbrev line_annotations_of : List (LabelInFile Id) → LabelInFile Id → List Annotation
-    line_annotations_of before x = cond (same id x.file_id && nat_lt l (line_count own_file)) (own_annotations before x.label) []
+    line_annotations_of before x = cond (same id x.file_id && nat_lt l (line_count own_file))
+        (own_annotations before x.label) []
 
     -- the annotations of labels after these on the line
-    abbrev pub line_annotations_after : List (LabelInFile Id) → List (LabelInFile Id) → List Annotation
+    abbrev pub line_annotations_after : List (LabelInFile Id) → List (LabelInFile Id)
+        → List Annotation
     line_annotations_after before [] = []
-    line_annotations_after before (x ∷ xs) = line_annotations_of before x ++ line_annotations_after (before ++ x ∷ []) xs
+    line_annotations_after before (x ∷ xs) = line_annotations_of before x ++ line_annotations_after
+        (before ++ x ∷ []) xs
 
     -- a label's annotations of the line of the file
     one-line_annotations : (before : List (LabelInFile Id)) (x : LabelInFile Id)
-        → filter (is_on_line l) (filter (is_of_file f) (annotations_of_next same file config ids before x)) ≡ line_annotations_of before x
+        → filter (is_on_line l)
+        (filter (is_of_file f) (annotations_of_next same file config ids before x))
+        ≡ line_annotations_of before x
     one-line_annotations before x =
         ⊎_elim
         (λ (t : same id x.file_id ≡ true).
-        let at : index_of_file same ids x.file_id ≡ f = eqb-true (index_of_file same ids x.file_id) f (here.index x.file_id ∙ t) in
-        ap (filter (is_on_line l)) (filter-whole (is_of_file f) es (all-weaker (λ e. e.file_index ≡ index_of_file same ids x.file_id) (λ e. is_of_file f e ≡ true) (λ e h. eq-eqb e.file_index f (h ∙ at)) es of))
-        ∙ (λ i. filter (is_on_line l) (annotations_of config (here.one_file x.file_id t i) (at i) (length before) (here.lanes before x.file_id t i) x.label))
+        let at : index_of_file same ids x.file_id ≡ f = eqb-true (index_of_file same ids x.file_id)
+        f (here.index x.file_id ∙ t) in
+        ap (filter (is_on_line l)) (filter-whole (is_of_file f) es
+        (all-weaker (λ e. e.file_index ≡ index_of_file same ids x.file_id)
+        (λ e. is_of_file f e ≡ true) (λ e h. eq-eqb e.file_index f (h ∙ at)) es of))
+        ∙ (λ i. filter (is_on_line l) (annotations_of config (here.one_file x.file_id t i) (at i)
+        (length before) (here.lanes before x.file_id t i) x.label))
         ∙ annotations-on_line config own_file f (length before) (lane_after before) x.label l
-        ∙ sym (ap (λ b. cond (b && nat_lt l (line_count own_file)) (own_annotations before x.label) []) t))
+        ∙ sym (ap (λ b. cond (b && nat_lt l (line_count own_file)) (own_annotations before x.label)
+        []) t))
         (λ (t : same id x.file_id ≡ false).
-        ap (filter (is_on_line l)) (filter-nothing (is_of_file f) es (all-weaker (λ e. e.file_index ≡ index_of_file same ids x.file_id) (λ e. is_of_file f e ≡ false) (λ e h. ap (λ i. i == f) h ∙ here.index x.file_id ∙ t) es of))
-        ∙ sym (ap (λ b. cond (b && nat_lt l (line_count own_file)) (own_annotations before x.label) []) t))
+        ap (filter (is_on_line l)) (filter-nothing (is_of_file f) es
+        (all-weaker (λ e. e.file_index ≡ index_of_file same ids x.file_id)
+        (λ e. is_of_file f e ≡ false) (λ e h. ap (λ i. i == f) h ∙ here.index x.file_id ∙ t) es
+        of))
+        ∙ sym (ap (λ b. cond (b && nat_lt l (line_count own_file)) (own_annotations before x.label)
+        []) t))
         (cases_Bool (same id x.file_id))
       where
         es : List Annotation
@@ -120,9 +143,13 @@ module _ {Id : Type 0} {same : Id → Id → Bool} {file : Id → FileModel} {id
         of = grind (arith, common_steps, all-of_file, nat_tests)
 
     -- all annotations of the line of the file
-    pub all-line_annotations : (xs before : List (LabelInFile Id)) → filter (is_on_line l) (filter (is_of_file f) (annotations_after same file config ids before xs)) ≡ line_annotations_after before xs
+    pub all-line_annotations : (xs before : List (LabelInFile Id))
+        → filter (is_on_line l)
+        (filter (is_of_file f) (annotations_after same file config ids before xs))
+        ≡ line_annotations_after before xs
     all-line_annotations [] before = refl
-    all-line_annotations (x ∷ xs) before = grind (arith, common_steps, filter-append, one-line_annotations, all-line_annotations xs, nat_tests)
+    all-line_annotations (x ∷ xs) before = grind
+        (arith, common_steps, filter-append, one-line_annotations, all-line_annotations xs, nat_tests)
 
     -- ---- labels inside the line
 
@@ -136,72 +163,118 @@ module _ {Id : Type 0} {same : Id → Id → Bool} {file : Id → FileModel} {id
 
     -- the annotation of a label at this index
     abbrev single_label_at : ℕ → LabelModel → Annotation
-    single_label_at k x = record { file_index = f; line = l; kind = Single k (drawn_label own_file x) }
+    single_label_at k x = record {
+      file_index = f;
+      line = l;
+      kind = Single k
+          (drawn_label own_file x);
+    }
 
     -- the annotations of the labels inside the line, where their indices begin here
     abbrev pub single_labels_from : ℕ → List (LabelInFile Id) → List Annotation
     single_labels_from k [] = []
-    single_labels_from k (x ∷ xs) = cond (same id x.file_id && on x.label) (single_label_at k x.label ∷ []) [] ++ single_labels_from (k + 1) xs
+    single_labels_from k (x ∷ xs) = cond (same id x.file_id && on x.label)
+        (single_label_at k x.label ∷ []) [] ++ single_labels_from (k + 1) xs
 
     -- the annotation of one of them
-    one-single : (before : List (LabelInFile Id)) (x : LabelInFile Id) → filter (is_kind 1) (line_annotations_of before x) ≡ cond (same id x.file_id && on x.label) (single_label_at (length before) x.label ∷ []) []
+    one-single : (before : List (LabelInFile Id)) (x : LabelInFile Id)
+        → filter (is_kind 1) (line_annotations_of before x) ≡ cond (same id x.file_id && on x.label)
+        (single_label_at (length before) x.label ∷ []) []
     one-single before x = grind (arith, common_steps, nat_lt, single_labels-on_line, on-outside)
 
     -- the annotations of all of them
-    pub all-single_labels : (xs before : List (LabelInFile Id)) (k : ℕ) → length before ≡ k → filter (is_kind 1) (line_annotations_after before xs) ≡ single_labels_from k xs
+    pub all-single_labels : (xs before : List (LabelInFile Id)) (k : ℕ) → length before ≡ k
+        → filter (is_kind 1) (line_annotations_after before xs) ≡ single_labels_from k xs
     all-single_labels [] before k e = refl
-    all-single_labels (x ∷ xs) before k e = grind (arith, common_steps, length-append, filter-append, one-single, all-single_labels xs, nat_tests)
+    all-single_labels (x ∷ xs) before k e = grind (
+      arith,
+      common_steps,
+      length-append,
+      filter-append,
+      one-single,
+      all-single_labels xs,
+      nat_tests,
+    )
 
     -- the labels of those annotations
-    pub single_labels-labels : (k : ℕ) (xs : List (LabelInFile Id)) → single_labels_in (single_labels_from k xs) ≡ map (drawn_label own_file) (filter on (labels_in xs))
+    pub single_labels-labels : (k : ℕ) (xs : List (LabelInFile Id))
+        → single_labels_in (single_labels_from k xs) ≡ map (drawn_label own_file)
+        (filter on (labels_in xs))
     single_labels-labels k [] = refl
-    single_labels-labels k (x ∷ xs) = by_tests (same id x.file_id) (on x.label) refl (single_labels-labels (k + 1) xs)
+    single_labels-labels k (x ∷ xs) = by_tests (same id x.file_id) (on x.label) refl
+        (single_labels-labels (k + 1) xs)
       where
-        by_tests : (s t : Bool) → on x.label ≡ t → single_labels_in (single_labels_from (k + 1) xs) ≡ map (drawn_label own_file) (filter on (labels_in xs))
-            → single_labels_in (cond (s && on x.label) (single_label_at k x.label ∷ []) [] ++ single_labels_from (k + 1) xs)
-            ≡ map (drawn_label own_file) (filter on (map (λ (y : LabelInFile Id). y.label) (cond s (x ∷ own xs) (own xs))))
+        by_tests : (s t : Bool) → on x.label ≡ t → single_labels_in (single_labels_from (k + 1) xs)
+            ≡ map (drawn_label own_file) (filter on (labels_in xs))
+            → single_labels_in (cond (s && on x.label) (single_label_at k x.label ∷ []) []
+            ++ single_labels_from (k + 1) xs)
+            ≡ map (drawn_label own_file)
+            (filter on (map (λ (y : LabelInFile Id). y.label) (cond s (x ∷ own xs) (own xs))))
         by_tests false t h rest = rest
         by_tests true t h rest = by_test (on x.label)
           where
-            by_test : (b : Bool) → single_labels_in (cond b (single_label_at k x.label ∷ []) [] ++ single_labels_from (k + 1) xs)
-                ≡ map (drawn_label own_file) (cond b (x.label ∷ filter on (labels_in xs)) (filter on (labels_in xs)))
+            by_test : (b : Bool) → single_labels_in
+                (cond b (single_label_at k x.label ∷ []) [] ++ single_labels_from (k + 1) xs)
+                ≡ map (drawn_label own_file) (cond b (x.label ∷ filter on (labels_in xs))
+                (filter on (labels_in xs)))
             by_test b = grind (arith, common_steps)
 
     -- of the labels of one range the later ones come first
-    single_labels-below : (start end k j : ℕ) (a : LabelModel) → k < j → has_range start end (drawn_label own_file a) ≡ true → (xs : List (LabelInFile Id))
-        → AllByRecursion (λ e. is_before e (single_label_at k a) ≡ true) (filter (is_of_range start end) (single_labels_from j xs))
+    single_labels-below : (start end k j : ℕ) (a : LabelModel) → k < j
+        → has_range start end (drawn_label own_file a) ≡ true → (xs : List (LabelInFile Id))
+        → AllByRecursion (λ e. is_before e (single_label_at k a) ≡ true)
+        (filter (is_of_range start end) (single_labels_from j xs))
     single_labels-below start end k j a h t [] = tt
-    single_labels-below start end k j a h t (x ∷ xs) = by_test (same id x.file_id && on x.label) (single_labels-below start end k (j + 1) a (omega arith) t xs)
+    single_labels-below start end k j a h t (x ∷ xs) = by_test (same id x.file_id && on x.label)
+        (single_labels-below start end k (j + 1) a (omega arith) t xs)
       where
         IsLower : Annotation → Type 0
         IsLower e = is_before e (single_label_at k a) ≡ true
 
-        by_range : (b : Bool) → has_range start end (drawn_label own_file x.label) ≡ b → AllByRecursion IsLower (filter (is_of_range start end) (single_labels_from (j + 1) xs))
-            → AllByRecursion IsLower (cond b (single_label_at j x.label ∷ filter (is_of_range start end) (single_labels_from (j + 1) xs)) (filter (is_of_range start end) (single_labels_from (j + 1) xs)))
+        by_range : (b : Bool) → has_range start end (drawn_label own_file x.label) ≡ b
+            → AllByRecursion IsLower (filter (is_of_range start end) (single_labels_from (j + 1) xs))
+            → AllByRecursion IsLower
+            (cond b (single_label_at j x.label ∷ filter (is_of_range start end)
+            (single_labels_from (j + 1) xs))
+            (filter (is_of_range start end) (single_labels_from (j + 1) xs)))
         by_range b u rest = grind (arith, common_steps, nat_tests, index_below)
 
-        by_test : (b : Bool) → AllByRecursion IsLower (filter (is_of_range start end) (single_labels_from (j + 1) xs))
-            → AllByRecursion IsLower (filter (is_of_range start end) (cond b (single_label_at j x.label ∷ []) [] ++ single_labels_from (j + 1) xs))
+        by_test : (b : Bool) → AllByRecursion IsLower
+            (filter (is_of_range start end) (single_labels_from (j + 1) xs))
+            → AllByRecursion IsLower (filter (is_of_range start end)
+            (cond b (single_label_at j x.label ∷ []) [] ++ single_labels_from (j + 1) xs))
         by_test b rest = grind (arith, common_steps, by_range, has_range)
 
     -- the annotations of the labels of one range are in descending order
-    pub single_labels-fall : (start end k : ℕ) (xs : List (LabelInFile Id)) → Falls is_before (filter (is_of_range start end) (single_labels_from k xs))
+    pub single_labels-fall : (start end k : ℕ) (xs : List (LabelInFile Id))
+        → Falls is_before (filter (is_of_range start end) (single_labels_from k xs))
     single_labels-fall start end k [] = tt
-    single_labels-fall start end k (x ∷ xs) = by_test (same id x.file_id && on x.label) (single_labels-fall start end (k + 1) xs)
+    single_labels-fall start end k (x ∷ xs) = by_test (same id x.file_id && on x.label)
+        (single_labels-fall start end (k + 1) xs)
       where
-        by_range : (b : Bool) → has_range start end (drawn_label own_file x.label) ≡ b → Falls is_before (filter (is_of_range start end) (single_labels_from (k + 1) xs))
-            → Falls is_before (cond b (single_label_at k x.label ∷ filter (is_of_range start end) (single_labels_from (k + 1) xs)) (filter (is_of_range start end) (single_labels_from (k + 1) xs)))
-        by_range true u rest = (single_labels-below start end k (k + 1) x.label (omega arith) u xs, rest)
+        by_range : (b : Bool) → has_range start end (drawn_label own_file x.label) ≡ b
+            → Falls is_before (filter (is_of_range start end) (single_labels_from (k + 1) xs))
+            → Falls is_before
+            (cond b (single_label_at k x.label ∷ filter (is_of_range start end)
+            (single_labels_from (k + 1) xs))
+            (filter (is_of_range start end) (single_labels_from (k + 1) xs)))
+        by_range true u rest = (
+          single_labels-below start end k (k + 1) x.label (omega arith) u xs,
+          rest,
+        )
         by_range false u rest = rest
 
-        by_test : (b : Bool) → Falls is_before (filter (is_of_range start end) (single_labels_from (k + 1) xs))
-            → Falls is_before (filter (is_of_range start end) (cond b (single_label_at k x.label ∷ []) [] ++ single_labels_from (k + 1) xs))
+        by_test : (b : Bool) → Falls is_before
+            (filter (is_of_range start end) (single_labels_from (k + 1) xs))
+            → Falls is_before (filter (is_of_range start end)
+            (cond b (single_label_at k x.label ∷ []) [] ++ single_labels_from (k + 1) xs))
         by_test b rest = grind (arith, common_steps, by_range, has_range)
 
     -- ---- lane marks
 
     -- the label has no lane mark on a line past the last
-    multi_label-outside : (x : LabelModel) → nat_lt l (line_count own_file) ≡ false → multi_label_on own_file l x ≡ None
+    multi_label-outside : (x : LabelModel) → nat_lt l (line_count own_file) ≡ false
+        → multi_label_on own_file l x ≡ None
     multi_label-outside x h = grind (arith, common_steps, ends-below, ltb-false, nat_tests, nat_lt)
 
     -- the lane mark of a label in a lane, where it has one
@@ -210,46 +283,74 @@ module _ {Id : Type 0} {same : Id → Id → Bool} {file : Id → FileModel} {id
 
     -- the lane mark of a label that comes after these
     one-lane_mark : (before : List (LabelInFile Id)) (x : LabelInFile Id)
-        → filter (is_kind 2) (line_annotations_of before x) ≡ cond (same id x.file_id) (multi_annotations_if (is_single own_file x.label) (lane_mark_of (num_multi_labels_of same file before id) x.label (multi_label_on own_file l x.label))) []
-    one-lane_mark before x = grind (arith, common_steps, nat_lt, lane_marks-on_line, multi_label-outside)
+        → filter (is_kind 2) (line_annotations_of before x) ≡ cond (same id x.file_id)
+        (multi_annotations_if (is_single own_file x.label)
+        (lane_mark_of (num_multi_labels_of same file before id) x.label
+        (multi_label_on own_file l x.label))) []
+    one-lane_mark before x = grind
+        (arith, common_steps, nat_lt, lane_marks-on_line, multi_label-outside)
 
     -- the lane marks of labels that come after these, in their lanes
-    pub all-lane_marks : (xs before : List (LabelInFile Id)) (n : ℕ) → num_multi_labels_of same file before id ≡ n
-        → filter (is_kind 2) (line_annotations_after before xs) ≡ map (lane_mark_annotation f l) (marks_from own_file l n (multi_line_labels own_file (labels_in xs)))
+    pub all-lane_marks : (xs before : List (LabelInFile Id)) (n : ℕ)
+        → num_multi_labels_of same file before id ≡ n
+        → filter (is_kind 2) (line_annotations_after before xs) ≡ map (lane_mark_annotation f l)
+        (marks_from own_file l n (multi_line_labels own_file (labels_in xs)))
     all-lane_marks [] before n e = refl
     all-lane_marks (x ∷ xs) before n e =
-        filter-append (is_kind 2) (line_annotations_of before x) (line_annotations_after (before ++ x ∷ []) xs)
-        ∙ (λ i. (one-lane_mark before x ∙ ap (λ k. cond (same id x.file_id) (multi_annotations_if (is_single own_file x.label) (lane_mark_of k x.label (multi_label_on own_file l x.label))) []) e) i
-        ++ all-lane_marks xs (before ++ x ∷ []) (n + (if same id x.file_id then label_lanes own_file x.label else 0)) (num_multi_labels_of-more same file before x id ∙ ap (λ k. k + (if same id x.file_id then label_lanes own_file x.label else 0)) e) i)
+        filter-append (is_kind 2) (line_annotations_of before x)
+        (line_annotations_after (before ++ x ∷ []) xs)
+        ∙ (λ i. (one-lane_mark before x ∙ ap
+        (λ k. cond (same id x.file_id)
+        (multi_annotations_if (is_single own_file x.label)
+        (lane_mark_of k x.label (multi_label_on own_file l x.label))) []) e) i
+        ++ all-lane_marks xs (before ++ x ∷ [])
+        (n + (if same id x.file_id then label_lanes own_file x.label else 0))
+        (num_multi_labels_of-more same file before x id ∙ ap
+        (λ k. k + (if same id x.file_id then label_lanes own_file x.label else 0)) e) i)
         ∙ by_tests (same id x.file_id) (is_single own_file x.label) refl
       where
         later : ℕ → List Annotation
-        later k = map (lane_mark_annotation f l) (marks_from own_file l k (multi_line_labels own_file (labels_in xs)))
+        later k = map (lane_mark_annotation f l)
+            (marks_from own_file l k (multi_line_labels own_file (labels_in xs)))
 
-        by_lane_mark : (o : Option LaneMark) → multi_annotations_if false o ++ later (n + 1) ≡ map (lane_mark_annotation f l) (cons_option o (marks_from own_file l (n + 1) (multi_line_labels own_file (labels_in xs))))
+        by_lane_mark : (o : Option LaneMark) → multi_annotations_if false o ++ later (n + 1)
+            ≡ map (lane_mark_annotation f l)
+            (cons_option o (marks_from own_file l (n + 1)
+            (multi_line_labels own_file (labels_in xs))))
         by_lane_mark o = grind (arith, common_steps)
 
         by_tests : (s t : Bool) → is_single own_file x.label ≡ t
-            → cond s (multi_annotations_if t (lane_mark_of n x.label (multi_label_on own_file l x.label))) [] ++ later (n + (if s then (if t then 0 else 1) else 0))
-            ≡ map (lane_mark_annotation f l) (marks_from own_file l n (multi_line_labels own_file (map (λ (y : LabelInFile Id). y.label) (cond s (x ∷ own xs) (own xs)))))
+            → cond s (multi_annotations_if t
+            (lane_mark_of n x.label (multi_label_on own_file l x.label))) []
+            ++ later (n + (if s then (if t then 0 else 1) else 0))
+            ≡ map (lane_mark_annotation f l)
+            (marks_from own_file l n (multi_line_labels own_file
+            (map (λ (y : LabelInFile Id). y.label) (cond s (x ∷ own xs) (own xs)))))
         by_tests s t h = grind (arith, common_steps, by_lane_mark)
 
     -- ---- lines that are shown
 
     -- an annotation shows the lines that the file has and that some label shows
-    pub any-line_annotations : (xs before : List (LabelInFile Id)) → list_any shows_line (line_annotations_after before xs)
-        ≡ (nat_lt l (line_count own_file) && list_any (λ x. shows config (first_line own_file x) (last_line own_file x) l) (labels_in xs))
+    pub any-line_annotations : (xs before : List (LabelInFile Id))
+        → list_any shows_line (line_annotations_after before xs)
+        ≡ (nat_lt l (line_count own_file) && list_any
+        (λ x. shows config (first_line own_file x) (last_line own_file x) l) (labels_in xs))
     any-line_annotations [] before = sym (and-false (nat_lt l (line_count own_file)))
     any-line_annotations (x ∷ xs) before =
-        list_any-append shows_line (line_annotations_of before x) (line_annotations_after (before ++ x ∷ []) xs)
-        ∙ ap (λ b. list_any shows_line (line_annotations_of before x) || b) (any-line_annotations xs (before ++ x ∷ []))
+        list_any-append shows_line (line_annotations_of before x)
+        (line_annotations_after (before ++ x ∷ []) xs)
+        ∙ ap (λ b. list_any shows_line (line_annotations_of before x) || b)
+        (any-line_annotations xs (before ++ x ∷ []))
         ∙ by_tests (same id x.file_id) (nat_lt l (line_count own_file))
       where
         shows_it : LabelModel → Bool
         shows_it y = shows config (first_line own_file y) (last_line own_file y) l
 
-        by_tests : (s t : Bool) → (list_any shows_line (cond (s && t) (own_annotations before x.label) []) || (t && list_any shows_it (labels_in xs)))
-            ≡ (t && list_any shows_it (map (λ (y : LabelInFile Id). y.label) (cond s (x ∷ own xs) (own xs))))
+        by_tests : (s t : Bool)
+            → (list_any shows_line (cond (s && t) (own_annotations before x.label) [])
+            || (t && list_any shows_it (labels_in xs)))
+            ≡ (t && list_any shows_it (map (λ (y : LabelInFile Id). y.label)
+            (cond s (x ∷ own xs) (own xs))))
         by_tests false t = refl
         by_tests true false = refl
         by_tests true true = grind (arith, common_steps, shows_it, shown-on_line, nat_tests)

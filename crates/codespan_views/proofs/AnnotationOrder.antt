@@ -1,21 +1,16 @@
 -- The order of annotations, for the clauses `sorted` of `put_in_order` and `lane_marks_end`, and
 -- that of `are_in_order`.
-use Rattle.std.proofs.Common.{◌≡◌, ℕ, ◌+◌, ◌-◌, ◌<◌, ◌≤◌, ◌==◌, Bool, cond, length, get_or, subst}
-use Rattle.std.proofs.Common.{true, false, List, ⊎_elim, refl, sym, ◌∙◌, ap, arith, true≢false}
+use Rattle.codespan_core.proofs.Std.{◌≡◌, ℕ, ◌+◌, ◌-◌, ◌<◌, ◌≤◌, ◌==◌, Bool, cond, length, get_or}
+use Rattle.codespan_core.proofs.Std.{subst, true, false, List, ⊎_elim, refl, sym, ◌∙◌, ap, arith}
+use Rattle.codespan_core.proofs.Std.{true≢false, IsStrictWeakOrder, is_lt, nat_cmp, ordering_then}
+use Rattle.codespan_core.proofs.Std.{cases_lt, cases_eq, eq-eqb, lt-ltb, le-ltb, nat_tests}
+use Rattle.codespan_core.proofs.Std.{get_or_default, ranks_by, IsSortedWithin}
 use Rattle.std.proofs.Common.{Ordering}
-use Rattle.std.specs.Cmp.{IsStrictWeakOrder}
-use Rattle.std.specs.Ordering.{is_lt, nat_cmp, ordering_then}
 use Rattle.std.specs.declared.cmp.Ordering.TheVariants.{Less, Equal, Greater}
-use Rattle.std.proofs.lemmas.Bool.{cases_lt, cases_eq, eq-eqb, lt-ltb, le-ltb}
-use Rattle.std.proofs.lemmas.Bool.Decides.{nat_tests}
 use Rattle.std.proofs.lemmas.Cmp.{nat_cmp_total, on_total, then_total, back_total}
-use Rattle.std.proofs.lemmas.List.{get_or_default}
-use Rattle.std.proofs.lemmas.List.Sorted.{ranks_by}
-use Rattle.std.specs.List.Sorted.{IsSortedWithin}
 use Rattle.codespan_core.specs.Labels.{LaneMark, LabelModel, range_precedes}
-use Rattle.codespan_views.specs.Private.Annotations.{Annotation, Single, Multi, rank_of, first_of}
-use Rattle.codespan_views.specs.Private.Annotations.{second_of, index_in_list, IsLaneMarkOn}
-use Rattle.codespan_views.specs.Private.Annotations.{is_before}
+use Rattle.codespan_views.specs.Private.{Annotation, Single, Multi, rank_of, first_of, second_of}
+use Rattle.codespan_views.specs.Private.{index_in_list, IsLaneMarkOn, is_before}
 
 -- the order of annotations is a strict weak order
 pub below_order : IsStrictWeakOrder is_before
@@ -56,15 +51,19 @@ pub file_rises : (x y : Annotation) → is_before y x ≡ false → x.file_index
 file_rises x y h = not_less y.file_index x.file_index _ h
 
 -- nor do the lines of a file
-pub line_rises : (x y : Annotation) → x.file_index ≡ y.file_index → is_before y x ≡ false → x.line ≤ y.line
-line_rises x y e h = not_less y.line x.line _ (sym (then_same y.file_index x.file_index _ (sym e)) ∙ h)
+pub line_rises : (x y : Annotation) → x.file_index ≡ y.file_index → is_before y x ≡ false
+    → x.line ≤ y.line
+line_rises x y e h = not_less y.line x.line _ (sym (then_same y.file_index x.file_index _ (sym e))
+    ∙ h)
 
 -- nor do the ranks of a line's annotations
-pub kind_rises : (x y : Annotation) → x.file_index ≡ y.file_index → x.line ≡ y.line → is_before y x ≡ false
+pub kind_rises : (x y : Annotation) → x.file_index ≡ y.file_index → x.line ≡ y.line
+    → is_before y x ≡ false
     → rank_of x.kind ≤ rank_of y.kind
 kind_rises x y e f h =
     not_less (rank_of y.kind) (rank_of x.kind) _
-    (sym (then_same y.line x.line _ (sym f)) ∙ sym (then_same y.file_index x.file_index _ (sym e)) ∙ h)
+    (sym (then_same y.line x.line _ (sym f)) ∙ sym (then_same y.file_index x.file_index _ (sym e))
+    ∙ h)
 
 -- nor do the ranges of a line's single-line labels
 pub range_rises : (x y : Annotation) {p q : ℕ} {a b : LabelModel} → x.kind ≡ Single p a
@@ -77,7 +76,8 @@ range_rises x y {a = a} {b = b} xs ys e f h =
     let u : second_of x.kind ≡ a.end = ap second_of xs in
     let v : second_of y.kind ≡ b.end = ap second_of ys in
     let rest = sym (then_same (rank_of y.kind) (rank_of x.kind) _ k)
-    ∙ sym (then_same y.line x.line _ (sym f)) ∙ sym (then_same y.file_index x.file_index _ (sym e)) ∙ h in
+    ∙ sym (then_same y.line x.line _ (sym f)) ∙ sym (then_same y.file_index x.file_index _ (sym e))
+    ∙ h in
     let low : first_of x.kind ≤ first_of y.kind =
     not_less (first_of y.kind) (first_of x.kind) _ rest in
     ⊎_elim
@@ -131,7 +131,8 @@ lane_rises m n h = rw (le-ltb m n h) (by_test (m == n))
 pub mark_rises : (f l n m : ℕ) (x y : Annotation) → IsLaneMarkOn f l n x → IsLaneMarkOn f l m y
     → n ≤ m → is_before y x ≡ false
 mark_rises f l n m x y a b h =
-    then_same y.file_index x.file_index _ (b.0 ∙ sym a.0) ∙ then_same y.line x.line _ (b.1 ∙ sym a.1)
+    then_same y.file_index x.file_index _ (b.0 ∙ sym a.0) ∙ then_same y.line x.line _
+    (b.1 ∙ sym a.1)
     ∙ then_same (rank_of y.kind) (rank_of x.kind) _ (b.2 ∙ sym a.2)
     ∙ (λ i. is_lt
     (ordering_then (nat_cmp (b.3 i) (a.3 i))

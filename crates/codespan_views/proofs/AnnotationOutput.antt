@@ -1,38 +1,28 @@
 -- From all annotations of a diagnostic in order `lines_of` makes, for each file, the rows of its
 -- snippet: for the clauses of `render_snippets` and `RichDiagnostic::render`.
-use Rattle.std.proofs.lemmas.Grind.{common_steps}
-use Rattle.std.proofs.Common.{rules, arith, ◌≡◌, ℕ, ◌<◌, Bool, true, ◌==◌, ◌&&◌, List, [], map}
-use Rattle.std.proofs.Common.{filter, reverse, None, refl, sym, ◌∙◌, ap, subst}
-use Rattle.std.specs.List.{list_any, range_with_len, AllByRecursion}
-use Rattle.std.proofs.lemmas.Bool.{eqb-true}
-use Rattle.std.proofs.lemmas.List.Elements.{recursion_from_All, All-from_recursion}
-use Rattle.std.proofs.lemmas.List.Sorted.{All-permutation, list_any-IsPermutation}
-use Rattle.codespan_core.specs.declared.term.config.Config.{Config}
+use Rattle.codespan_core.proofs.Std.{common_steps, rules, arith, ◌≡◌, ℕ, ◌<◌, Bool, true, ◌==◌}
+use Rattle.codespan_core.proofs.Std.{◌&&◌, List, [], map, filter, reverse, None, refl, sym, ◌∙◌, ap}
+use Rattle.codespan_core.proofs.Std.{subst, list_any, range_with_len, AllByRecursion, eqb-true}
+use Rattle.codespan_core.proofs.Std.{recursion_from_All, All-from_recursion, All-permutation}
+use Rattle.std.proofs.lemmas.List.Sorted.{list_any-IsPermutation}
 use Rattle.codespan_core.specs.FileModel.{FileDatabase, FileModel, line_count}
 use Rattle.codespan_core.specs.Labels.{LaneMark, LabelModel, is_single, first_line, drawn_label}
 use Rattle.codespan_core.specs.Labels.{lane_marks_on, single_labels, sorted}
+use Rattle.codespan_picture.specs.Types.{Config}
 use Rattle.codespan_picture.specs.Arguments.{ascend_from, starts_in_order}
-use Rattle.codespan_views.specs.declared.collected.Collected.{Collected}
-use Rattle.codespan_views.specs.Private.Annotations.{Annotation, is_before, is_on_line, is_of_file}
-use Rattle.codespan_views.specs.Private.Annotations.{shows_line}
-use Rattle.codespan_views.specs.Private.AnnotationViews.{annotation_view}
-use Rattle.codespan_views.specs.Private.Collections.{IsCollected}
-use Rattle.codespan_picture.specs.Lines as lines
 use Rattle.codespan_picture.specs.Lines.{drawn_lines}
 use Rattle.codespan_picture.specs.Lookups.{filled_lines}
 use Rattle.codespan_picture.specs.Sequences.{break_between, in_sequence}
-use Rattle.codespan_views.specs.Private.FileIndices.{IsIdAt}
-use Rattle.codespan_views.specs.Private.IndexedLabels.{all_annotations}
 use Rattle.codespan_picture.specs.Snippets.{LabelInFile, LabeledFileModel, labeled_file_model}
 use Rattle.codespan_picture.specs.Snippets.{num_multi_labels, line_at, line_rows, break_rows}
 use Rattle.codespan_picture.specs.Snippets.{rows_of_drawn, file_ids}
-use Rattle.codespan_views.specs.Private.SnippetLines.{are_shown, lane_marks_in, lines_of}
-use Rattle.codespan_views.specs.Private.SnippetLines.{single_labels_in, line_of_group}
-use Rattle.codespan_views.specs.Private.SnippetLines.{rows_of_lines, filled_lines_of}
-use Rattle.codespan_views.specs.Private.SnippetLines.{drawn_lines_of, are_lane_marks_in_order}
-use Rattle.codespan_views.specs.Private.SnippetLines.{is_line_in_order}
+use Rattle.codespan_views.specs.Private.{Collected, Annotation, is_before, is_on_line, is_of_file}
+use Rattle.codespan_views.specs.Private.{shows_line, annotation_view, IsCollected, IsIdAt}
+use Rattle.codespan_views.specs.Private.{all_annotations, are_shown, lane_marks_in, lines_of}
+use Rattle.codespan_views.specs.Private.{single_labels_in, line_of_group, rows_of_lines}
+use Rattle.codespan_views.specs.Private.{filled_lines_of, drawn_lines_of, are_lane_marks_in_order}
+use Rattle.codespan_views.specs.Private.{is_line_in_order}
 use Rattle.codespan_views.proofs.AnnotationGroups.{lines_after, snippet_lines-by_line, all-on_line}
-use Rattle.codespan_views.proofs.AnnotationLines as annotation_lines
 use Rattle.codespan_views.proofs.FileLabels.{HasFileIndex, is_of_range}
 use Rattle.codespan_views.proofs.AnnotationOrder.{below_order, lane_mark_annotation}
 use Rattle.codespan_views.proofs.SingleLabelOrder.{IsOn, single_labels-ascend}
@@ -54,6 +44,8 @@ use Rattle.codespan_views.proofs.SnippetLineRows.{snippet_lines-lines, snippet_l
 use Rattle.codespan_views.proofs.GroupAnnotations.{single_labels-of_range, range-rank}
 use Rattle.codespan_views.proofs.GroupAnnotations.{lane_marks-rank, lane_marks-of_annotations}
 use Rattle.codespan_views.proofs.GroupAnnotations.{single_labels-reverse, first-shows, lines-rise}
+use Rattle.codespan_picture.specs.Lines as lines
+use Rattle.codespan_views.proofs.AnnotationLines as annotation_lines
 
 -- ---- the annotations of a file
 
@@ -103,12 +95,15 @@ module _ {Id : Type 0} {database : FileDatabase Id} (lawful : AreFiles database)
   -- they are of lines that the file has
   own-below : AllByRecursion (λ e. e.line < line_count (file id)) own
   own-below =
-      let IsInside : (e : Annotation) → Type 0 = λ e. is_of_file f e ≡ true → e.line < line_count (file id) in
-      let all_inside : AllByRecursion IsInside all = annotation_lines.annotations-below here config xs [] in
+      let IsInside : (e : Annotation) → Type 0 = λ e. is_of_file f e ≡ true
+      → e.line < line_count (file id) in
+      let all_inside : AllByRecursion IsInside all = annotation_lines.annotations-below here config
+      xs [] in
       let whole : AllByRecursion IsInside annotations = recursion_from_All IsInside annotations
       (All-permutation IsInside all annotations known.permutation
       (All-from_recursion IsInside all all_inside)) in
-      all-weaker (λ e. (is_of_file f e ≡ true) × IsInside e) (λ e. e.line < line_count (file id)) (λ e h. h.1 h.0) own
+      all-weaker (λ e. (is_of_file f e ≡ true) × IsInside e) (λ e. e.line < line_count (file id))
+      (λ e h. h.1 h.0) own
       (all-both (λ e. is_of_file f e ≡ true) IsInside own (all-pass (is_of_file f) annotations)
       (all-filter IsInside (is_of_file f) annotations whole))
 
@@ -146,7 +141,8 @@ module _ {Id : Type 0} {database : FileDatabase Id} (lawful : AreFiles database)
   -- ---- the labels of a line
 
   -- the labels inside the line
-  single_labels-are : (l : ℕ) → single_labels_in (own_on_line l) ≡ single_labels (file id) s.labels l
+  single_labels-are : (l : ℕ) → single_labels_in (own_on_line l) ≡ single_labels (file id) s.labels
+      l
   single_labels-are l =
       ascending-same (single_labels_in (own_on_line l)) (sorted reversed)
       (single_labels-ascend f l (own_on_line l) (own_on_line-all l) (own_on_line-rises l))
@@ -154,7 +150,8 @@ module _ {Id : Type 0} {database : FileDatabase Id} (lawful : AreFiles database)
       (λ start end. ranges start end ∙ sym (sorted-keeps start end reversed))
     where
       of_line_labels : List LabelModel
-      of_line_labels = map (drawn_label (file id)) (filter (λ x. is_single (file id) x && (first_line (file id) x == l)) s.labels)
+      of_line_labels = map (drawn_label (file id))
+          (filter (λ x. is_single (file id) x && (first_line (file id) x == l)) s.labels)
 
       reversed : List LabelModel
       reversed = reverse of_line_labels
@@ -165,13 +162,16 @@ module _ {Id : Type 0} {database : FileDatabase Id} (lawful : AreFiles database)
       all_in_range : (start end : ℕ)
           → filter (picks l (is_of_range start end)) all ≡ filter (is_of_range start end) from
       all_in_range start end =
-          sym (of_picked l (is_of_range start end) all) ∙ ap (filter (is_of_range start end)) (line_annotations-are l)
+          sym (of_picked l (is_of_range start end) all) ∙ ap (filter (is_of_range start end))
+          (line_annotations-are l)
           ∙ sym (range-rank start end (line_annotations l))
-          ∙ ap (filter (is_of_range start end)) (annotation_lines.all-single_labels here config l xs [] 0 refl)
+          ∙ ap (filter (is_of_range start end))
+          (annotation_lines.all-single_labels here config l xs [] 0 refl)
 
       falls : (start end : ℕ) → Falls is_before (filter (picks l (is_of_range start end)) all)
       falls start end =
-          subst (Falls is_before) (sym (all_in_range start end)) (annotation_lines.single_labels-fall here config l start end 0 xs)
+          subst (Falls is_before) (sym (all_in_range start end))
+          (annotation_lines.single_labels-fall here config l start end 0 xs)
 
       ranges : (start end : ℕ)
           → filter (has_range start end) (single_labels_in (own_on_line l)) ≡ filter
@@ -184,7 +184,8 @@ module _ {Id : Type 0} {database : FileDatabase Id} (lawful : AreFiles database)
           ∙ ap (λ (r : List Annotation). reverse r) (all_in_range start end))
           ∙ single_labels-reverse (filter (is_of_range start end) from)
           ∙ ap (λ (r : List LabelModel). reverse r) (sym (single_labels-of_range start end from)
-          ∙ ap (filter (has_range start end)) (annotation_lines.single_labels-labels here config l 0 xs))
+          ∙ ap (filter (has_range start end))
+          (annotation_lines.single_labels-labels here config l 0 xs))
           ∙ sym (filter-reverse (has_range start end) of_line_labels)
 
   -- ---- the lane marks of a line
@@ -205,7 +206,8 @@ module _ {Id : Type 0} {database : FileDatabase Id} (lawful : AreFiles database)
   lane_marks-are l =
       lane_marks-rank (own_on_line l)
       ∙ ap lane_marks_in (of_picked l (is_kind 2) annotations
-      ∙ filter-sorted_climbs is_before below_order all annotations known.permutation known.sorted (picks l (is_kind 2))
+      ∙ filter-sorted_climbs is_before below_order all annotations known.permutation known.sorted
+      (picks l (is_kind 2))
       (subst (Climbs is_before) (sym (lane_marks-of_all l))
       (ascend-climbs f l (num_multi_labels s) 0 (lane_marks l) (lane_marks-ascend s l)))
       ∙ lane_marks-of_all l)
@@ -238,8 +240,10 @@ module _ {Id : Type 0} {database : FileDatabase Id} (lawful : AreFiles database)
   -- the snippet lines are those of the shown lines
   snippet_lines-are : lines_of own ≡ lines_after own_on_line None shown
   snippet_lines-are =
-      snippet_lines-by_line (line_count (file id)) own (lines-rise f own own-file own-rises) own-below
-      ∙ (λ i. lines_after own_on_line None (filter (λ l. shown-is l i) (range_with_len 0 (line_count (file id)))))
+      snippet_lines-by_line (line_count (file id)) own (lines-rise f own own-file own-rises)
+      own-below
+      ∙ (λ i. lines_after own_on_line None
+      (filter (λ l. shown-is l i) (range_with_len 0 (line_count (file id)))))
 
   -- ---- the snippet
 
@@ -248,7 +252,8 @@ module _ {Id : Type 0} {database : FileDatabase Id} (lawful : AreFiles database)
       (drawn_lines config s.file s.labels)
   snippet-rows =
       ap (rows_of_lines (file id) (num_multi_labels s)) snippet_lines-are
-      ∙ snippet_lines-rows (file id) (num_multi_labels s) own_on_line is_shown (line_count (file id)) (none_past config s)
+      ∙ snippet_lines-rows (file id) (num_multi_labels s) own_on_line is_shown
+      (line_count (file id)) (none_past config s)
       ∙ (λ i. in_sequence (λ l. l) (break_between (break_rows (λ l. line-is l i)))
       (line_rows (λ l. line-is l i)) None (drawn_lines config s.file s.labels))
 
@@ -262,15 +267,25 @@ module _ {Id : Type 0} {database : FileDatabase Id} (lawful : AreFiles database)
 
   -- a line's labels are in the order of their starts
   starts-ascend : (l : ℕ) → starts_in_order (single_labels_in (own_on_line l)) ≡ true
-  starts-ascend l = grind (arith, common_steps, ascends-starts, single_labels-ascend, own_on_line-all, own_on_line-rises)
+  starts-ascend l = grind (
+    arith,
+    common_steps,
+    ascends-starts,
+    single_labels-ascend,
+    own_on_line-all,
+    own_on_line-rises,
+  )
 
   -- its lane marks ascend in the lanes of the file
   lane_marks-fit : (l : ℕ) → are_lane_marks_in_order (num_multi_labels s) (own_on_line l) ≡ true
-  lane_marks-fit l = ap (ascend_from (num_multi_labels s) 0) (lane_marks-are l) ∙ lane_marks-ascend s l
+  lane_marks-fit l = ap (ascend_from (num_multi_labels s) 0) (lane_marks-are l)
+      ∙ lane_marks-ascend s l
 
   -- so do those of each snippet line
   pub snippet-fits : AllByRecursion
       (λ snippet_line. is_line_in_order (num_multi_labels s) snippet_line ≡ true) (lines_of own)
   snippet-fits =
-      subst (AllByRecursion (λ snippet_line. is_line_in_order (num_multi_labels s) snippet_line ≡ true)) (sym snippet_lines-are)
-      (snippet_lines-fit (num_multi_labels s) own_on_line (λ l i. starts-ascend l i && lane_marks-fit l i) lane_marks-fit None shown)
+      subst (AllByRecursion (λ snippet_line. is_line_in_order (num_multi_labels s) snippet_line
+      ≡ true)) (sym snippet_lines-are)
+      (snippet_lines-fit (num_multi_labels s) own_on_line
+      (λ l i. starts-ascend l i && lane_marks-fit l i) lane_marks-fit None shown)

@@ -1,45 +1,31 @@
 -- The files that were collected: the rows, the lookups and the numbers of the snippet lines that
 -- their annotations make are those of their labels. For the clauses of `RichDiagnostic::render` and
 -- `render_snippets`.
-use Rattle.std.proofs.lemmas.Grind.{common_steps}
-use Rattle.std.proofs.Common.{◌≡◌, ℕ, Bool, List, [], ◌∷◌, ◌++◌, map, max, None}
-use Rattle.std.proofs.Common.{get_or, drop, refl, sym, subst, ap, ◌∙◌, arith}
-use Rattle.std.specs.Prelude.{flat_map, fold}
-use Rattle.std.specs.List.{AllByRecursion, AllZip}
-use Rattle.std.proofs.lemmas.List.Folds.{flat_map-map}
-use Rattle.codespan_core.specs.declared.term.config.Config.{Config}
-use Rattle.codespan_core.specs.declared.term.config.Layout.{Layout}
-use Rattle.codespan_core.specs.declared.term.config.Layout.TheVariants.{Classic, Unbroken}
+use Rattle.codespan_core.proofs.Std.{common_steps, ◌≡◌, ℕ, Bool, List, [], ◌∷◌, ◌++◌, map, max}
+use Rattle.codespan_core.proofs.Std.{None, get_or, drop, refl, sym, subst, ap, ◌∙◌, arith, flat_map}
+use Rattle.codespan_core.proofs.Std.{fold, AllByRecursion, AllZip, flat_map-map}
 use Rattle.codespan_core.specs.FileModel.{FileDatabase, FileModel}
 use Rattle.codespan_core.specs.FileModel.Lookup.{LocationAt, Name}
+use Rattle.codespan_picture.specs.Types.{Config, Layout, Classic, Unbroken}
 use Rattle.codespan_picture.specs.Arguments.{locus_view}
 use Rattle.codespan_picture.specs.Lines.{drawn_lines}
-use Rattle.codespan_picture.specs.Lookups.{filled_lines, first_error}
-use Rattle.codespan_picture.specs.Lookups.{lookups_of_file, numbers_for_padding}
+use Rattle.codespan_picture.specs.Lookups.{filled_lines, first_error, lookups_of_file}
+use Rattle.codespan_picture.specs.Lookups.{numbers_for_padding}
 use Rattle.codespan_picture.specs.Padding.{digits_of, numbered_lines, padding_of}
 use Rattle.codespan_picture.specs.Snippets.{LabelInFile, LabeledFileModel, file_ids}
 use Rattle.codespan_picture.specs.Snippets.{labeled_file_model, labeled_file_models}
 use Rattle.codespan_picture.specs.Snippets.{num_multi_labels, rows_of_drawn}
-use Rattle.codespan_views.specs.declared.collected.Collected.{Collected}
-use Rattle.codespan_views.specs.declared.labeled_files.LabeledFile.{LabeledFile as RustFile}
-use Rattle.codespan_views.specs.Private.Annotations.{Annotation}
-use Rattle.codespan_views.specs.Private.AnnotationViews.{annotation_view}
-use Rattle.codespan_views.specs.Private.Collections.{HasSpannedPadding, IsCollected}
-use Rattle.codespan_views.specs.Private.EarlyLookups.{IsLookedUp, KeepsLabels, digits_of_files}
-use Rattle.codespan_views.specs.Private.EarlyLookups.{early_failure, early_number_lookups}
-use Rattle.codespan_views.specs.Private.EarlyLookups.{known_numbers, known_numbers_of_files}
-use Rattle.codespan_views.specs.Private.EarlyLookups.{known_numbers_of_labels, lines_at}
-use Rattle.codespan_views.specs.Private.EarlyLookups.{padding_by_layout, of_files}
-use Rattle.codespan_views.specs.Private.EarlyLookups.{digit_counts_of, numbers_of}
-use Rattle.codespan_views.specs.Private.FilledLines.{number_lookups}
-use Rattle.codespan_views.specs.Private.FileIndices.{IsIdAt}
-use Rattle.codespan_views.specs.Private.LabeledFiles.{AreLabeledFiles, loci_view}
-use Rattle.codespan_views.specs.Private.LabeledFiles.{with_labels, without_locus}
-use Rattle.codespan_views.specs.Private.Loci.{HasLocus, locus_lookups_of_files}
-use Rattle.codespan_views.specs.Private.LocusBytes.{locus_byte}
-use Rattle.codespan_views.specs.Private.SnippetLines.{AreInOrder, SnippetLine, drawn_lines_of}
-use Rattle.codespan_views.specs.Private.SnippetLines.{filled_lines_of, rows_of_lines}
-use Rattle.codespan_views.specs.Private.Utf8Loci.{IsLocusOfFile, IsUtf8Locus}
+use Rattle.codespan_views.specs.Private.{Collected, RustFile, Annotation, annotation_view}
+use Rattle.codespan_views.specs.Private.{HasSpannedPadding, IsCollected, IsLookedUpEarly}
+use Rattle.codespan_views.specs.Private.{KeepsLabels, digits_of_files, early_failure}
+use Rattle.codespan_views.specs.Private.{early_number_lookups, known_numbers}
+use Rattle.codespan_views.specs.Private.{known_numbers_of_files, known_numbers_of_labels, lines_at}
+use Rattle.codespan_views.specs.Private.{padding_by_layout, of_files, digit_counts_of, numbers_of}
+use Rattle.codespan_views.specs.Private.{number_lookups, IsIdAt, AreLabeledFiles, loci_view}
+use Rattle.codespan_views.specs.Private.{with_labels, without_locus, HasLocus}
+use Rattle.codespan_views.specs.Private.{locus_lookups_of_files, locus_byte, AreInOrder}
+use Rattle.codespan_views.specs.Private.{SnippetLine, drawn_lines_of, filled_lines_of}
+use Rattle.codespan_views.specs.Private.{rows_of_lines, IsLocusOfFile, IsUtf8Locus}
 use Rattle.codespan_views.proofs.AnnotationOutput.{snippet-fills, snippet-fits, snippet-lines}
 use Rattle.codespan_views.proofs.AnnotationOutput.{snippet-rows}
 use Rattle.codespan_views.proofs.EarlyErrors.{later_failure, locus_lookups_of_labels}
@@ -229,7 +215,7 @@ module _ {Id : Type 0} {database : FileDatabase Id} (lawful : AreFiles database)
       → AllByRecursion (HasLocus file) new.files.items
       → KeepsLabels collected.files.items new.files.items
       → new.annotations ≡ collected.annotations
-      → IsLookedUp database config xs numbers new
+      → IsLookedUpEarly database config xs numbers new
   looked-up {new} spanned numbers_found padding_found loci kept same_annotations =
       let labeled : AreLabeledFiles same file xs (file_ids same xs) new.files.items =
       record { are = kept ∙ all.files.are } in

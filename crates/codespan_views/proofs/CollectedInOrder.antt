@@ -1,18 +1,14 @@
 -- What was collected, put in order, for the clause `collected` of `collect`.
-use Rattle.std.proofs.Common.{List, map, Vec, Global, sym, ap, subst, ◌∙◌}
-use Rattle.std.specs.List.{AllByRecursion}
-use Rattle.std.specs.List.Sorted.{IsPermutation, IsSortedBy}
-use Rattle.std.proofs.lemmas.List.Elements.{All-from_recursion, recursion_from_All}
-use Rattle.std.proofs.lemmas.List.Sorted.{All-permutation, IsPermutation-map}
-use Rattle.codespan_core.specs.declared.term.config.Config.{Config}
+use Rattle.codespan_core.proofs.Std.{List, map, sym, ap, subst, ◌∙◌, AllByRecursion, IsPermutation}
+use Rattle.codespan_core.proofs.Std.{IsSortedBy, All-from_recursion, recursion_from_All}
+use Rattle.codespan_core.proofs.Std.{All-permutation, IsPermutation-map}
+use Rattle.std.proofs.Common.{Vec, Global}
 use Rattle.codespan_core.specs.FileModel.{FileDatabase}
+use Rattle.codespan_picture.specs.Types.{Config}
 use Rattle.codespan_picture.specs.Snippets.{LabelInFile, file_ids}
 use Rattle.codespan_picture.specs.declared.padding.PaddingWidth.{PaddingWidth}
-use Rattle.codespan_views.specs.declared.annotation.Annotation.{Annotation as RustAnnotation}
-use Rattle.codespan_views.specs.declared.labeled_files.LabeledFile.{LabeledFile as RustFile}
-use Rattle.codespan_views.specs.Private.Annotations.{Annotation, is_before}
-use Rattle.codespan_views.specs.Private.AnnotationViews.{IsOfFiles, annotation_view}
-use Rattle.codespan_views.specs.Private.Collections.{IsCollected}
+use Rattle.codespan_views.specs.Private.{RustAnnotation, RustFile, Annotation, is_before, IsOfFiles}
+use Rattle.codespan_views.specs.Private.{annotation_view, IsCollected}
 use Rattle.codespan_views.proofs.FilesInOrder.{ids-of_labels}
 use Rattle.codespan_views.proofs.LabelsCollected.{AreCollected}
 
@@ -36,7 +32,8 @@ collected-in_order {database = database} {xs = xs} files {annotations} in_order 
           (ap (map annotation_view) g.added.whole ∙ g.added.are)
           (IsPermutation-map annotation_view annotations in_order.items perm);
       lines =
-          subst (λ ids. AllByRecursion (IsOfFiles database.file ids) in_order.items) (sym (ids-of_labels g.labeled))
+          subst (λ ids. AllByRecursion (IsOfFiles database.file ids) in_order.items)
+          (sym (ids-of_labels g.labeled))
           (recursion_from_All P in_order.items
           (All-permutation P annotations in_order.items perm
           (All-from_recursion P annotations

@@ -1,15 +1,13 @@
 -- What is collected of one line of a label, by the lines on which the label starts and ends, for
 -- the clauses `added`, `padding` and `succeeded` of `collect_line`.
-use Rattle.std.proofs.lemmas.Grind.{common_steps}
-use Rattle.std.proofs.Common.{◌≡◌, ℕ, true, None, arith}
-use Rattle.std.proofs.lemmas.Bool.{and_from, le-leb, or_left, or_right}
+use Rattle.codespan_core.proofs.Std.{common_steps, ◌≡◌, ℕ, true, None, arith, le-leb}
+use Rattle.std.proofs.lemmas.Bool.{and_from, or_left, or_right}
 use Rattle.codespan_core.specs.Labels.{first_line, last_line}
 use Rattle.codespan_picture.specs.Lookups.{is_around, is_looked_up, line_lookups}
 use Rattle.codespan_picture.specs.Padding.{spans}
 use Rattle.codespan_picture.specs.Types.{Config}
-use Rattle.codespan_views.specs.Private.LabelsToCollect.{LabelToCollect, failure_if_looked_up}
-use Rattle.codespan_views.specs.Private.FileLookups.{failure_in}
-use Rattle.codespan_views.specs.Private.LabelSpans.{IsFarInside, spans_line}
+use Rattle.codespan_views.specs.Private.{LabelToCollect, failure_if_looked_up, failure_in}
+use Rattle.codespan_views.specs.Private.{IsFarInside, spans_line}
 
 -- a line far from both ends is between them
 pub far-spans : (config : Config) (s e l : ℕ) → IsFarInside config s e l → spans_line s e l ≡ true

@@ -1,46 +1,44 @@
 -- Annotations that are added, one after another, for the clause `added` of `push_line`.
-use Rattle.std.proofs.lemmas.Grind.{common_steps}
-use Rattle.std.proofs.Common.{◌≡◌, ℕ, Bool, true, List, [], ◌++◌, Option, Some, None, refl}
-use Rattle.std.proofs.Common.{sym, ◌∙◌, arith, Bor, ◌&&◌}
-use Rattle.std.specs.Prelude.{if◌then◌else◌}
-use borrow.Author.Tests.{eqb-true}
-use Rattle.std.proofs.lemmas.List.{append-nil, append_assoc, map-append}
+use Rattle.codespan_core.proofs.Std.{common_steps, ◌≡◌, ℕ, Bool, true, List, [], ◌++◌, Option, Some}
+use Rattle.codespan_core.proofs.Std.{None, refl, sym, ◌∙◌, arith, Bor, ◌&&◌, if◌then◌else◌}
+use Rattle.codespan_core.proofs.Std.{append-nil, append_assoc, map-append, nat_tests}
 use Rattle.codespan_core.specs.Labels.{LabelModel, first_line, last_line}
-use Rattle.codespan_views.specs.declared.annotation.Annotation.{Annotation as RustAnnotation}
-use Rattle.codespan_views.specs.declared.annotation.LineInfo.{LineInfo}
-use Rattle.codespan_views.specs.Private.LabelsToCollect.{LabelToCollect}
-use Rattle.codespan_views.specs.Private.Annotations.{Annotation, AnnotationKind, Single}
-use Rattle.codespan_views.specs.Private.Annotations.{annotation_if_any}
-use Rattle.codespan_views.specs.Private.LabelAnnotations.{line_annotations, kind_on}
-use Rattle.codespan_views.specs.Private.LabelAnnotations.{multi_kind_by_ends, kind_by_ends}
-use Rattle.codespan_views.specs.Private.AnnotationViews.{AppendsAnnotations, IsLineOf, kind_view}
-use Rattle.codespan_views.specs.Private.LabelSpans.{IsFarInside}
-use Rattle.codespan_views.specs.declared.annotation.AnnotationKind.TheVariants as rust
-use Rattle.codespan_views.specs.declared.annotation.MultiLabelKind.TheVariants as label_kind
 use Rattle.codespan_picture.specs.Types.{Config, Label}
 use Rattle.codespan_picture.specs.OutputStreams.{label_of}
-use Rattle.std.proofs.lemmas.Bool.Decides.{nat_tests}
+use Rattle.codespan_views.specs.Private.{RustAnnotation, LabelToCollect, Annotation, AnnotationKind}
+use Rattle.codespan_views.specs.Private.{Single, annotation_if_any, line_annotations, kind_on}
+use Rattle.codespan_views.specs.Private.{multi_kind_by_ends, kind_by_ends, AppendsAnnotations}
+use Rattle.codespan_views.specs.Private.{IsLineOf, kind_view, IsFarInside}
+use Rattle.codespan_views.specs.declared.annotation.LineInfo.{LineInfo}
+use borrow.Author.Tests.{eqb-true}
 use Rattle.codespan_picture.proofs.ListElements.{all-append, all-weaker}
+use Rattle.codespan_views.specs.declared.annotation.AnnotationKind.TheVariants as rust
+use Rattle.codespan_views.specs.declared.annotation.MultiLabelKind.TheVariants as label_kind
 
 module _ {Id : Type 0} {P : RustAnnotation Id → Type 0} where
   -- nothing was added
   pub AppendsAnnotations-none : {xs : List (RustAnnotation Id)} → AppendsAnnotations P xs xs []
-  AppendsAnnotations-none {xs} = record { more = []; whole = sym (append-nil xs); are = refl; each = tt }
+  AppendsAnnotations-none {xs} = record
+      { more = []; whole = sym (append-nil xs); are = refl; each = tt }
 
   -- some annotations were added, and then others
-  pub AppendsAnnotations-both : {xs ys zs : List (RustAnnotation Id)} {es fs : List Annotation} → AppendsAnnotations P xs ys es
+  pub AppendsAnnotations-both : {xs ys zs : List (RustAnnotation Id)} {es fs : List Annotation}
+      → AppendsAnnotations P xs ys es
       → AppendsAnnotations P ys zs fs → AppendsAnnotations P xs zs (es ++ fs)
-  AppendsAnnotations-both {xs} {es = es} a b = grind (arith, common_steps, append_assoc, map-append, all-append)
+  AppendsAnnotations-both {xs} {es = es} a b = grind
+      (arith, common_steps, append_assoc, map-append, all-append)
 
   -- the same annotations in other words
   pub AppendsAnnotations-as : {xs ys : List (RustAnnotation Id)} {es fs : List Annotation} → fs ≡ es
       → AppendsAnnotations P xs ys es → AppendsAnnotations P xs ys fs
-  AppendsAnnotations-as same a = record { more = a.more; whole = a.whole; are = a.are ∙ sym same; each = a.each }
+  AppendsAnnotations-as same a = record
+      { more = a.more; whole = a.whole; are = a.are ∙ sym same; each = a.each }
 
 -- what holds of what was added is weaker
 pub AppendsAnnotations-weaker : {Id : Type 0} {P Q : RustAnnotation Id → Type 0}
     {xs ys : List (RustAnnotation Id)} {es : List Annotation}
-    → ((e : RustAnnotation Id) → P e → Q e) → AppendsAnnotations P xs ys es → AppendsAnnotations Q xs ys es
+    → ((e : RustAnnotation Id) → P e → Q e) → AppendsAnnotations P xs ys es
+    → AppendsAnnotations Q xs ys es
 AppendsAnnotations-weaker {P = P} {Q = Q} weaker a = grind (arith, common_steps, all-weaker)
 
 module _ {Id : Type 0} (x : LabelToCollect Id) where
@@ -54,7 +52,8 @@ module _ {Id : Type 0} (x : LabelToCollect Id) where
   -- the annotations of a label on a line of its file, by the indices of its lines
   kind_on-is : (line : LineInfo) → IsLineOf x.file line
       → kind_on x.config x.file x.file_index x.index x.lane x.label line.index
-      ≡ kind_by_ends x.config x.index (first_line x.file x.label) (last_line x.file x.label) line.index
+      ≡ kind_by_ends x.config x.index (first_line x.file x.label) (last_line x.file x.label)
+      line.index
       line.start x.label
   kind_on-is line is = grind (arith, common_steps, by_kind, eqb-true)
 
@@ -64,9 +63,11 @@ module _ {Id : Type 0} (x : LabelToCollect Id) where
       → first_line x.file x.label ≡ first → last_line x.file x.label ≡ last → IsLineOf x.file line
       → kind ≡ kind_by_ends x.config x.index first last line.index line.start x.label
       → lane_mark ≡ multi_kind_by_ends x.lane first last line.index line.start x.label
-      → line_annotations x.config x.file x.file_index x.index x.lane x.label line.index ≡ annotation_if_any
+      → line_annotations x.config x.file x.file_index x.index x.lane x.label line.index
+      ≡ annotation_if_any
       x.file_index line.index kind ++ annotation_if_any x.file_index line.index lane_mark
-  annotation_if_any-line {line} is_first is_last is kind_is multi_is = grind (arith, common_steps, by_kind, kind_on-is)
+  annotation_if_any-line {line} is_first is_last is kind_is multi_is = grind
+      (arith, common_steps, by_kind, kind_on-is)
 
 -- a label does not make a line shown that is far from its ends
 pub far-kind : (config : Config) (index s e l start : ℕ) (x : LabelModel)
@@ -74,7 +75,8 @@ pub far-kind : (config : Config) (index s e l start : ℕ) (x : LabelModel)
 far-kind config index s e l start x far = grind (arith, nat_tests)
 
 -- its lane mark on such a line
-pub far-multi_label : {Id : Type 0} (config : Config) (lane s e l start : ℕ) (label : Bor (Label Id))
+pub far-multi_label : {Id : Type 0} (config : Config) (lane s e l start : ℕ)
+    (label : Bor (Label Id))
     → IsFarInside config s e l
     → Some (kind_view start (rust.Multi label_kind.Left lane label)) ≡ multi_kind_by_ends lane s e l
     start (label_of label.now).label

@@ -1,15 +1,13 @@
 -- What fails the lookups before the header: those of the labels, and then those of filled lines and
 -- of loci. For the clause `renders` of `RichDiagnostic::render`.
-use Rattle.std.proofs.Common.{arith}
-use Rattle.std.proofs.lemmas.Grind.{common_steps}
-use Rattle.std.proofs.Common.{◌≡◌, List, ◌++◌, Option, Some, None, ◌∙◌, ap, append_assoc, flat_map}
-use Rattle.codespan_core.specs.declared.files.Error.{Error}
-use Rattle.codespan_core.specs.declared.term.config.Config.{Config}
+use Rattle.codespan_core.proofs.Std.{arith, common_steps, ◌≡◌, List, ◌++◌, Option, Some, None, ◌∙◌}
+use Rattle.codespan_core.proofs.Std.{ap, append_assoc, flat_map}
 use Rattle.codespan_core.specs.FileModel.{FileDatabase, Lookup, or_failure}
-use Rattle.codespan_picture.specs.Lookups.{early_lookups, first_error}
-use Rattle.codespan_picture.specs.Lookups.{locus_lookups, lookups_of_file, numbers_for_padding}
+use Rattle.codespan_picture.specs.Types.{Error, Config}
+use Rattle.codespan_picture.specs.Lookups.{early_lookups, first_error, locus_lookups}
+use Rattle.codespan_picture.specs.Lookups.{lookups_of_file, numbers_for_padding}
 use Rattle.codespan_picture.specs.Snippets.{LabelInFile, file_ids}
-use Rattle.codespan_views.specs.Private.LabelsToCollect.{labels_failure}
+use Rattle.codespan_views.specs.Private.{labels_failure}
 use Rattle.codespan_views.proofs.FirstErrors.{first_error-append}
 
 module _ {Id : Type 0} (database : FileDatabase Id) (config : Config)

@@ -1,10 +1,10 @@
 -- Where one of the lookups fails, the first one that does is known: for the clause `renders` of
 -- `RichDiagnostic::render`.
-use Rattle.std.proofs.Common.{◌≡◌, List, None}
+use Rattle.codespan_core.proofs.Std.{◌≡◌, List, None}
 use Rattle.codespan_core.specs.FileModel.{FileDatabase, Lookup}
 use Rattle.codespan_picture.specs.Lookups.{first_error}
+use Rattle.codespan_views.specs.{SomeFails}
 use Rattle.codespan_views.proofs.FirstErrors.{all_succeed}
-use Rattle.codespan_views.specs.EmitErrors.{SomeFails}
 
 -- where one of these lookups fails, there is a first one
 pub some_fails : {Id : Type 0} (files : FileDatabase Id) (ls : List (Id × Lookup))

@@ -1,13 +1,7 @@
 -- Emitting an output as text, for the clauses of `emit_into_string` and `emit_to_io_write`.
-use Rattle.std.proofs.Common.{◌≡◌, ℕ, true, List, [], ◌∷◌, Option, Some, Ok, Err, Result, ⊎_elim}
-use Rattle.std.proofs.Common.{inl, inr, refl, sym, subst, ap, ◌∙◌}
+use Rattle.codespan_core.proofs.Std.{◌≡◌, ℕ, true, List, [], ◌∷◌, Option, Some, Ok, Err, Result}
+use Rattle.codespan_core.proofs.Std.{⊎_elim, inl, inr, refl, sym, subst, ap, ◌∙◌, IsUtf8}
 use Rattle.std.specs.Borrow.{GName}
-use Rattle.codespan_core.specs.declared.term.config.DisplayStyle.{DisplayStyle}
-use Rattle.codespan_core.specs.declared.term.config.DisplayStyle.TheVariants.{Rich, Medium, Short}
-use Rattle.codespan_core.specs.declared.term.config.Config.{Config}
-use Rattle.codespan_core.specs.declared.diagnostic.Diagnostic.{Diagnostic}
-use Rattle.codespan_core.specs.declared.files.Error.{Error}
-use Rattle.std.specs.Str.{IsUtf8}
 use Rattle.codespan_core.specs.FileModel.{FileDatabase}
 use Rattle.codespan_core.specs.LawfulFiles.{IsLawful}
 use Rattle.codespan_core.specs.Streams.{Stream, Spelling, spelled, text_of, plain_spelling}
@@ -16,12 +10,12 @@ use Rattle.codespan_core.specs.WriterLaw.{PrefixWritten, PrefixAppended}
 use Rattle.codespan_core.specs.declared.term.config.plain_ref.PlainWriterRef.{PlainWriterRef}
 use Rattle.codespan_core.specs.Writers.{fresh_plain_ref_sink, fresh_sink, plain_reference}
 use Rattle.codespan_core.specs.Writers.{plain_ref_sink, borrowed_writer}
+use Rattle.codespan_picture.specs.Types.{DisplayStyle, Rich, Medium, Short, Config, Diagnostic}
+use Rattle.codespan_picture.specs.Types.{Error}
 use Rattle.codespan_picture.specs.Rows.{Locus}
 use Rattle.codespan_picture.specs.Utf8Laws.{CharsAreScalars}
+use Rattle.codespan_views.specs.{FailsAtLabel, WrittenBefore, IsRendered, WritesStyled, WritesText}
 use Rattle.codespan_picture.proofs.PictureTexts.{text-output}
-use Rattle.codespan_views.specs.EmitErrors.{FailsAtLabel, WrittenBefore}
-use Rattle.codespan_views.specs.Output.{IsRendered}
-use Rattle.codespan_views.specs.WriteCalls.{WritesStyled, WritesText}
 
 -- a plain writer that was empty and received a stream has its text
 written_text : {old new : Sink} {bytes : List ℕ} (s : Stream)

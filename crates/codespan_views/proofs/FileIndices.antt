@@ -1,15 +1,11 @@
 -- The index of a label's file among those of a diagnostic, for the clause of `find_file`.
-use Rattle.std.proofs.lemmas.Grind.{common_steps}
-use Rattle.std.proofs.Common.{◌≡◌, ℕ, zero, suc, ◌+◌, ◌<◌, Bool, true, false, not, ◌==◌, ◌++◌}
-use Rattle.std.proofs.Common.{cond, List, [], ◌∷◌, length, get_or, filter, refl, sym, ◌∙◌, ap}
-use Rattle.std.proofs.Common.{subst, arith, true≢false}
-use Rattle.std.specs.Cmp.{IsEquivalence}
-use Rattle.std.specs.List.{AllByRecursion}
-use Rattle.std.proofs.lemmas.Bool.{eqb-true, eq-eqb, ne_eqb}
+use Rattle.codespan_core.proofs.Std.{common_steps, ◌≡◌, ℕ, zero, suc, ◌+◌, ◌<◌, Bool, true, false}
+use Rattle.codespan_core.proofs.Std.{not, ◌==◌, ◌++◌, cond, List, [], ◌∷◌, length, get_or, filter}
+use Rattle.codespan_core.proofs.Std.{refl, sym, ◌∙◌, ap, subst, arith, true≢false, IsEquivalence}
+use Rattle.codespan_core.proofs.Std.{AllByRecursion, eqb-true, eq-eqb, ne_eqb}
 use Rattle.codespan_core.specs.Labels.{first_seen}
 use Rattle.codespan_picture.specs.Snippets.{LabelInFile, file_ids}
-use Rattle.codespan_views.specs.Private.LabeledFiles.{with_file}
-use Rattle.codespan_views.specs.Private.FileIndices.{AreDistinct, IsIdAt, index_of_file}
+use Rattle.codespan_views.specs.Private.{with_file, AreDistinct, IsIdAt, index_of_file}
 use Rattle.codespan_views.proofs.FileOrder.{has, or_parts}
 use Rattle.codespan_picture.proofs.ListElements.{all-weaker, all-filter, all-pass}
 
@@ -30,7 +26,8 @@ module _ {Id : Type 0} (same : Id → Id → Bool) (o : IsEquivalence same) wher
   -- the ids in the order of their first appearance differ
   pub first_seen-differ : (js : List Id) → Differ (first_seen same js)
   first_seen-differ [] = tt
-  first_seen-differ (j ∷ js) = grind (arith, common_steps, all-weaker, not_so, all-pass, differ-filter, first_seen-differ js)
+  first_seen-differ (j ∷ js) = grind
+      (arith, common_steps, all-weaker, not_so, all-pass, differ-filter, first_seen-differ js)
 
   -- an id has the index of the first one
   pub index-here : (j : Id) (js : List Id) (i : Id) → same j i ≡ true
@@ -57,11 +54,14 @@ module _ {Id : Type 0} (same : Id → Id → Bool) (o : IsEquivalence same) wher
   index-is : (ids : List Id) (f : ℕ) (id : Id) → Differ ids → IsIdAt ids f id → (i : Id)
       → (index_of_file same ids i == f) ≡ same id i
   index-is [] f id d a i = absurd a
-  index-is (j ∷ js) zero id d a i = grind (arith, common_steps, eq-eqb, index-here, ne_eqb, index-later)
-  index-is (j ∷ js) (suc f) id d a i = grind (arith, common_steps, at-all, ne_eqb, index-here, both-later, index-later, index-is js f id)
+  index-is (j ∷ js) zero id d a i = grind
+      (arith, common_steps, eq-eqb, index-here, ne_eqb, index-later)
+  index-is (j ∷ js) (suc f) id d a i = grind
+      (arith, common_steps, at-all, ne_eqb, index-here, both-later, index-later, index-is js f id)
 
   -- the id at an index of a diagnostic's files is equal to those of the labels there
-  pub index_of_file-at : (xs : List (LabelInFile Id)) (f : ℕ) (id : Id) → IsIdAt (file_ids same xs) f id
+  pub index_of_file-at : (xs : List (LabelInFile Id)) (f : ℕ) (id : Id)
+      → IsIdAt (file_ids same xs) f id
       → (i : Id) → (index_of_file same (file_ids same xs) i == f) ≡ same id i
   index_of_file-at xs f id a i = grind (arith, common_steps, index-is, first_seen-differ)
 
@@ -112,7 +112,8 @@ module _ {Id : Type 0} (same : Id → Id → Bool) (o : IsEquivalence same) wher
   index-unchanged : (ids : List Id) (j i : Id) → has same o ids i ≡ true
       → index_of_file same (ids ++ j ∷ []) i ≡ index_of_file same ids i
   index-unchanged [] j i there = absurd (true≢false (sym there))
-  index-unchanged (k ∷ ks) j i there = grind (arith, common_steps, index-here, index-later, index-unchanged ks j i)
+  index-unchanged (k ∷ ks) j i there = grind
+      (arith, common_steps, index-here, index-later, index-unchanged ks j i)
 
   -- nor does one that comes after them where it is none of them
   pub index-stays : (ids : List Id) (j i : Id) → has same o ids i ≡ true

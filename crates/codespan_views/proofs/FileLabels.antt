@@ -1,13 +1,11 @@
 -- The labels of one range, and a file among those of a diagnostic, for the clauses of
 -- `render_snippets` and `RichDiagnostic::render`.
-use Rattle.std.proofs.Common.{◌≡◌, ℕ, ◌<◌, Bool, true, false, ◌==◌, List, Option, Some, None}
+use Rattle.codespan_core.proofs.Std.{◌≡◌, ℕ, ◌<◌, Bool, true, false, ◌==◌, List, Option, Some, None}
 use Rattle.codespan_core.specs.FileModel.{FileModel, line_count}
 use Rattle.codespan_core.specs.Labels.{LabelModel}
-use Rattle.codespan_views.specs.Private.Annotations.{Annotation}
-use Rattle.codespan_views.specs.Private.FileIndices.{index_of_file}
 use Rattle.codespan_picture.specs.Snippets.{LabelInFile}
-use Rattle.codespan_views.specs.Private.LabeledFiles.{num_multi_labels_of}
-use Rattle.codespan_views.specs.Private.SnippetLines.{single_label_of}
+use Rattle.codespan_views.specs.Private.{Annotation, index_of_file, num_multi_labels_of}
+use Rattle.codespan_views.specs.Private.{single_label_of}
 use Rattle.codespan_picture.proofs.OrderSorts.{has_range}
 
 -- ---- ranges

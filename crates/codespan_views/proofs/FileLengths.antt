@@ -1,19 +1,11 @@
 -- The annotations of one file, in order, for the clauses `value` and `requires` of `count_in_file`.
-use Rattle.std.proofs.lemmas.Grind.{common_steps}
-use Rattle.std.proofs.Common.{◌≡◌, ℕ, suc, ◌+◌, ◌-◌, ◌<◌, ◌≤◌, Bool, true, false, cond, List, []}
-use Rattle.std.proofs.Common.{◌∷◌, length, take, drop, map, get_or, refl, sym, ap, subst, ◌∙◌}
-use Rattle.std.proofs.Common.{arith, length-drop}
-use Rattle.std.specs.Cmp.{IsStrictWeakOrder}
-use Rattle.std.specs.List.{prefix_len}
-use Rattle.std.specs.List.Sorted.{IsSortedBy}
+use Rattle.codespan_core.proofs.Std.{common_steps, ◌≡◌, ℕ, suc, ◌+◌, ◌-◌, ◌<◌, ◌≤◌, Bool, true}
+use Rattle.codespan_core.proofs.Std.{false, cond, List, [], ◌∷◌, length, take, drop, map, get_or}
+use Rattle.codespan_core.proofs.Std.{refl, sym, ap, subst, ◌∙◌, arith, length-drop}
+use Rattle.codespan_core.proofs.Std.{IsStrictWeakOrder, prefix_len, IsSortedBy, take-length, eq-eqb}
+use Rattle.codespan_core.proofs.Std.{get_or_default, get_or-drop, length-map, sorted_far}
 use Rattle.std.proofs.Math.ListN.{get_or-map}
-use Rattle.std.proofs.Math.Seq.{take-length}
-use Rattle.std.proofs.lemmas.Bool.{eq-eqb}
-use Rattle.std.proofs.lemmas.List.{get_or_default, get_or-drop, length-map}
-use Rattle.std.proofs.lemmas.List.Sorted.{sorted_far}
-use Rattle.codespan_views.specs.declared.annotation.Annotation.{Annotation as RustAnnotation}
-use Rattle.codespan_views.specs.Private.Annotations.{is_before, is_of_file}
-use Rattle.codespan_views.specs.Private.AnnotationViews.{annotation_view}
+use Rattle.codespan_views.specs.Private.{RustAnnotation, is_before, is_of_file, annotation_view}
 use Rattle.codespan_views.proofs.AnnotationOrder.{below_order, file_rises}
 
 -- where all pass, all are in front
@@ -50,12 +42,15 @@ module _ {Id : Type 0} where
   file-between f xs first last is_first is_last some start end up =
       prefix_len-all (λ e. is_of_file f (annotation_view e)) xs (λ k d inside.
       let x = get_or xs k d in
-      let low : first.file_index ≤ x.file_index = file_rises (annotation_view first) (annotation_view x)
+      let low : first.file_index ≤ x.file_index = file_rises (annotation_view first)
+      (annotation_view x)
       (subst (λ z. below x z ≡ false) (sym (is_first ∙ get_or_default xs 0 first d some))
       (sorted_far below order xs up 0 k d (omega arith) inside)) in
-      let high : x.file_index ≤ last.file_index = file_rises (annotation_view x) (annotation_view last)
+      let high : x.file_index ≤ last.file_index = file_rises (annotation_view x)
+      (annotation_view last)
       (subst (λ z. below z x ≡ false)
-      (sym (is_last ∙ get_or_default xs (length xs - 1) last d (omega arith))) (sorted_far below order xs up k (length xs - 1) d (omega arith) (omega arith))) in
+      (sym (is_last ∙ get_or_default xs (length xs - 1) last d (omega arith)))
+      (sorted_far below order xs up k (length xs - 1) d (omega arith) (omega arith))) in
       eq-eqb x.file_index f (omega (arith, low, high, start, end)))
 
   -- the annotations from one on are in order

@@ -1,16 +1,13 @@
 -- Files in the order of their first label, for the clauses `ids`, `starts` and `lanes` of
 -- `get_or_insert_file`.
-use Rattle.std.proofs.lemmas.Grind.{common_steps}
-use Rattle.std.proofs.Common.{◌≡◌, ℕ, zero, suc, ◌<◌, length, get_or, arith, Bool, true, false, not}
-use Rattle.std.proofs.Common.{◌||◌, List, [], ◌∷◌, ◌++◌, refl, sym, ap, ◌∙◌, true≢false}
-use Rattle.std.specs.Prelude.{filter, map, if◌then◌else◌}
-use Rattle.std.specs.Cmp.{IsEquivalence}
-use Rattle.std.specs.List.{AllByRecursion, list_any}
-use Rattle.std.proofs.lemmas.List.{append-nil, get_or-map, length-map, map-append}
-use Rattle.std.proofs.lemmas.List.Elements.{filter-append}
+use Rattle.codespan_core.proofs.Std.{common_steps, ◌≡◌, ℕ, zero, suc, ◌<◌, length, get_or, arith}
+use Rattle.codespan_core.proofs.Std.{Bool, true, false, not, ◌||◌, List, [], ◌∷◌, ◌++◌, refl, sym}
+use Rattle.codespan_core.proofs.Std.{ap, ◌∙◌, true≢false, filter, map, if◌then◌else◌, IsEquivalence}
+use Rattle.codespan_core.proofs.Std.{AllByRecursion, list_any, append-nil, get_or-map, length-map}
+use Rattle.codespan_core.proofs.Std.{map-append, filter-append}
 use Rattle.codespan_core.specs.Labels.{first_seen}
 use Rattle.codespan_picture.specs.Snippets.{LabelInFile, file_ids}
-use Rattle.codespan_views.specs.Private.LabeledFiles.{with_file}
+use Rattle.codespan_views.specs.Private.{with_file}
 
 -- neither of two is true
 pub or_parts : (b c : Bool) → (b || c) ≡ false → (b ≡ false) × (c ≡ false)
@@ -60,7 +57,8 @@ module _ {Id : Type 0} (same : Id → Id → Bool) (o : IsEquivalence same) wher
           (if c then seen else seen ++ i ∷ [])
           ≡ (if b || d then j ∷ filter keeps seen else j ∷ filter keeps seen ++ i ∷ [])
       by true true d out within unchanged = refl
-      by true false d out within unchanged = grind (arith, common_steps, filter-append, keeps, seen, append-nil)
+      by true false d out within unchanged = grind
+          (arith, common_steps, filter-append, keeps, seen, append-nil)
       by false c d out within unchanged =
           by_seen c
           ∙ ap
@@ -117,7 +115,8 @@ module _ {Id : Type 0} (same : Id → Id → Bool) (o : IsEquivalence same) wher
   none-of_file xs id none =
       by xs (sym (first_seen-has (map (λ (x : LabelInFile Id). x.file_id) xs) id) ∙ none)
     where
-      by : (ys : List (LabelInFile Id)) → has (map (λ (y : LabelInFile Id). y.file_id) ys) id ≡ false
+      by : (ys : List (LabelInFile Id)) → has (map (λ (y : LabelInFile Id). y.file_id) ys) id
+          ≡ false
           → AllByRecursion (λ (y : LabelInFile Id). same id y.file_id ≡ false) ys
       by [] h = tt
       by (y ∷ ys) h = grind (arith, common_steps, or_parts, by ys)

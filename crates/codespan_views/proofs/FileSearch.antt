@@ -1,16 +1,11 @@
 -- The index of a file that is looked for, and what is known of all files with it, for the clauses
 -- of `get_or_insert_file` and `find_file`.
-use Rattle.std.proofs.lemmas.Grind.{common_steps}
-use Rattle.std.proofs.Common.{◌≡◌, ◌≢◌, ℕ, ◌+◌, ◌≤◌, Bool, true, false, List, [], ◌∷◌, ◌++◌, length}
-use Rattle.std.proofs.Common.{take, drop, arith, sym, ap, subst, ◌∙◌, append-nil}
-use Rattle.std.specs.Prelude.{if◌then◌else◌}
-use Rattle.std.specs.Cmp.{IsEquivalence}
-use Rattle.std.specs.List.{AllByRecursion}
-use Rattle.std.proofs.lemmas.List.{length-map, length-take-le, map-append, take-append-drop}
-use Rattle.std.proofs.lemmas.List.{take_all}
-use Rattle.codespan_views.specs.declared.labeled_files.LabeledFile.{LabeledFile as RustFile}
-use Rattle.codespan_views.specs.Private.LabeledFiles.{ids_view, with_file}
-use Rattle.codespan_views.specs.Private.FileIndices.{index_of_file}
+use Rattle.codespan_core.proofs.Std.{common_steps, ◌≡◌, ◌≢◌, ℕ, ◌+◌, ◌≤◌, Bool, true, false, List}
+use Rattle.codespan_core.proofs.Std.{[], ◌∷◌, ◌++◌, length, take, drop, arith, sym, ap, subst, ◌∙◌}
+use Rattle.codespan_core.proofs.Std.{append-nil, if◌then◌else◌, IsEquivalence, AllByRecursion}
+use Rattle.codespan_core.proofs.Std.{length-map, length-take-le, map-append, take-append-drop}
+use Rattle.codespan_core.proofs.Std.{take_all}
+use Rattle.codespan_views.specs.Private.{RustFile, ids_view, with_file, index_of_file}
 use Rattle.codespan_views.proofs.FileOrder.{has}
 use Rattle.codespan_views.proofs.FileIndices.{no-index, index-here, index-past, has-index}
 use Rattle.codespan_views.proofs.IndexedElements.{IsElementAt, drop-one, take-at}

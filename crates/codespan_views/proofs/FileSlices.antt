@@ -1,20 +1,17 @@
 -- A loop over the files takes the annotations of each file in order, for the clauses of
 -- `find_numbers` and `render_snippets`.
-use Rattle.std.proofs.lemmas.Grind.{common_steps}
-use Rattle.std.proofs.Common.{◌≡◌, ℕ, ◌+◌, ◌-◌, ◌≤◌, Bool, true, false, ◌&&◌, cond, ◌==◌, nat_lt}
-use Rattle.std.proofs.Common.{nat_le, List, [], ◌∷◌, ◌++◌, length, take, drop, map, filter, refl}
-use Rattle.std.proofs.Common.{sym, ◌∙◌, ap, arith, length-drop}
-use Rattle.std.specs.List.{prefix_len, AllByRecursion}
-use Rattle.std.specs.List.Sorted.{IsSortedBy}
+use Rattle.codespan_core.proofs.Std.{common_steps, ◌≡◌, ℕ, ◌+◌, ◌-◌, ◌≤◌, Bool, true, false, ◌&&◌}
+use Rattle.codespan_core.proofs.Std.{cond, ◌==◌, nat_lt, nat_le, List, [], ◌∷◌, ◌++◌, length, take}
+use Rattle.codespan_core.proofs.Std.{drop, map, filter, refl, sym, ◌∙◌, ap, arith, length-drop}
+use Rattle.codespan_core.proofs.Std.{prefix_len, AllByRecursion, IsSortedBy, take-append_seam}
+use Rattle.codespan_core.proofs.Std.{take-length, le-leb, ne_eqb, nat_tests, drop-drop, drop-map}
+use Rattle.codespan_core.proofs.Std.{take-map, length-map}
 use Rattle.std.proofs.Math.Nat.{add-sub_cancel_left}
-use Rattle.std.proofs.Math.Seq.{take-append_seam, drop-append_seam, take-length}
-use Rattle.std.proofs.lemmas.Bool.{le-leb, leb-true, ne_eqb}
-use Rattle.std.proofs.lemmas.Bool.Decides.{nat_tests}
-use Rattle.std.proofs.lemmas.List.{drop-drop, drop-map, take-map, length-map}
+use Rattle.std.proofs.Math.Seq.{drop-append_seam}
+use Rattle.std.proofs.lemmas.Bool.{leb-true}
 use Rattle.std.proofs.lemmas.List.Elements.{filter_agree}
-use Rattle.codespan_views.specs.declared.annotation.Annotation.{Annotation as RustAnnotation}
-use Rattle.codespan_views.specs.Private.Annotations.{Annotation, is_before, is_of_file}
-use Rattle.codespan_views.specs.Private.AnnotationViews.{annotation_view}
+use Rattle.codespan_views.specs.Private.{RustAnnotation, Annotation, is_before, is_of_file}
+use Rattle.codespan_views.specs.Private.{annotation_view}
 use Rattle.codespan_views.proofs.AnnotationGroups.{IsRising, rising-filter, split_at}
 use Rattle.codespan_views.proofs.AnnotationOrder.{below_order, file_rises}
 use Rattle.codespan_picture.proofs.ListElements.{all-weaker, all-pass, filter-whole, filter-filter}
@@ -29,7 +26,14 @@ from_file f xs = filter (λ (e : Annotation). nat_le f e.file_index) xs
 -- along annotations in order the files do not decrease
 files-rise : (xs : List Annotation) → Rises is_before xs → IsRising (λ e. e.file_index) xs
 files-rise [] a = tt
-files-rise (x ∷ xs) a = grind (arith, common_steps, all-weaker, file_rises, files-rise xs, nat_tests)
+files-rise (x ∷ xs) a = grind (
+  arith,
+  common_steps,
+  all-weaker,
+  file_rises,
+  files-rise xs,
+  nat_tests,
+)
 
 -- a file is from itself on
 from_own : (f k : ℕ) → (nat_le f k && (k == f)) ≡ (k == f)
@@ -82,7 +86,16 @@ prefix-append p (x ∷ a) b h k = grind (arith, common_steps, prefix-append p a 
 own-len : (xs : List Annotation) (f : ℕ)
     → prefix_len (is_of_file f) (filter (is_of_file f) xs ++ from_file (f + 1) xs) ≡ length
     (filter (is_of_file f) xs)
-own-len xs f = grind (arith, common_steps, prefix-append, all-pass, all-weaker, nat_le, leb-true, ne_eqb)
+own-len xs f = grind (
+  arith,
+  common_steps,
+  prefix-append,
+  all-pass,
+  all-weaker,
+  nat_le,
+  leb-true,
+  ne_eqb,
+)
 
 -- ---- annotations as a view holds them
 

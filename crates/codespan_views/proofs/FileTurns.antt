@@ -1,23 +1,14 @@
 -- The turn of a file in a loop over the files, by the index of its id, for the clauses of
 -- `find_numbers` and `render_snippets`.
-use Rattle.std.proofs.lemmas.Grind.{common_steps}
-use Rattle.std.proofs.Common.{◌≡◌, ℕ, suc, ◌+◌, ◌-◌, ◌≤◌, true, List, [], ◌∷◌, ◌++◌, length, take}
-use Rattle.std.proofs.Common.{drop, map, filter, refl, sym, ap, ◌∙◌, subst, arith}
-use Rattle.std.specs.Prelude.{All, flat_map}
-use Rattle.std.specs.List.{AllByRecursion, prefix_len}
-use Rattle.std.specs.List.Sorted.{IsSortedBy}
-use Rattle.std.proofs.lemmas.Bool.{eqb-true}
-use Rattle.std.proofs.lemmas.List.{append-nil, append_assoc, get_or-map, length-map}
-use Rattle.std.proofs.lemmas.List.Elements.{All-from_recursion}
+use Rattle.codespan_core.proofs.Std.{common_steps, ◌≡◌, ℕ, suc, ◌+◌, ◌-◌, ◌≤◌, true, List, [], ◌∷◌}
+use Rattle.codespan_core.proofs.Std.{◌++◌, length, take, drop, map, filter, refl, sym, ap, ◌∙◌}
+use Rattle.codespan_core.proofs.Std.{subst, arith, All, flat_map, AllByRecursion, prefix_len}
+use Rattle.codespan_core.proofs.Std.{IsSortedBy, eqb-true, append-nil, append_assoc, get_or-map}
+use Rattle.codespan_core.proofs.Std.{length-map, All-from_recursion}
 use Rattle.codespan_core.specs.FileModel.{FileModel}
-use Rattle.codespan_views.specs.declared.annotation.Annotation.{Annotation as RustAnnotation}
-use Rattle.codespan_views.specs.declared.labeled_files.LabeledFile.{LabeledFile as RustFile}
-use Rattle.codespan_views.specs.Private.Annotations.{Annotation, is_before, is_of_file}
-use Rattle.codespan_views.specs.Private.AnnotationViews.{IsLineOf, IsOfFiles, annotation_view}
-use Rattle.codespan_views.specs.Private.LabeledFiles.{ids_view}
-use Rattle.codespan_views.specs.Private.FileIndices.{IsIdAt}
-use Rattle.codespan_views.specs.Private.EarlyLookups.{flat_map_indexed, lines_at}
-use Rattle.codespan_views.specs.Private.SnippetLines.{lines_of}
+use Rattle.codespan_views.specs.Private.{RustAnnotation, RustFile, Annotation, is_before}
+use Rattle.codespan_views.specs.Private.{is_of_file, IsLineOf, IsOfFiles, annotation_view, ids_view}
+use Rattle.codespan_views.specs.Private.{IsIdAt, flat_map_indexed, lines_at, lines_of}
 use Rattle.codespan_views.proofs.FileSlices.{IsFileSlice, from_file, next-file, next_slice}
 use Rattle.codespan_views.proofs.FileIndices.{at-get}
 use Rattle.codespan_views.proofs.IndexedElements.{IsElementAt}
@@ -45,7 +36,8 @@ pub flat_map_indexed-more : {Id A : Type 0} (image : ℕ → Id → List A) (f :
     (id : Id)
     → length ids ≡ f → more ≡ ids ++ id ∷ []
     → flat_map_indexed image 0 more ≡ flat_map_indexed image 0 ids ++ image f id
-flat_map_indexed-more {Id} {A} image f ids more id len is = grind (arith, common_steps, flat_map_indexed-append, append-nil)
+flat_map_indexed-more {Id} {A} image f ids more id len is = grind
+    (arith, common_steps, flat_map_indexed-append, append-nil)
 
 -- ids that have the same at their indices
 pub flat_map_indexed-same : {Id A : Type 0} (image : ℕ → Id → List A) (each : Id → List A) (k : ℕ)

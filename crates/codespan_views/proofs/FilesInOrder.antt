@@ -1,21 +1,15 @@
 -- The files of an output, by their indices, for the clauses of `render_snippets` and
 -- `find_numbers`.
-use Rattle.std.proofs.Common.{◌≡◌, ℕ, zero, suc, ◌+◌, ◌-◌, ◌<◌, ◌≤◌, Bool, ◌||◌}
-use Rattle.std.proofs.Common.{List, [], ◌∷◌, ◌++◌, length, take, drop, get_or, refl, sym, ap}
-use Rattle.std.proofs.Common.{subst, map, ◌∙◌, lt-ltb, arith}
-use Rattle.std.specs.Prelude.{nat_lt}
-use Rattle.std.proofs.lemmas.Grind.{common_steps}
-use Rattle.std.proofs.lemmas.List.{get_or-map, length-drop, length-map, length-take-le, map-append}
-use Rattle.std.proofs.lemmas.List.{map-id}
+use Rattle.codespan_core.proofs.Std.{◌≡◌, ℕ, zero, suc, ◌+◌, ◌-◌, ◌<◌, ◌≤◌, Bool, ◌||◌, List, []}
+use Rattle.codespan_core.proofs.Std.{◌∷◌, ◌++◌, length, take, drop, get_or, refl, sym, ap, subst}
+use Rattle.codespan_core.proofs.Std.{map, ◌∙◌, lt-ltb, arith, nat_lt, common_steps, get_or-map}
+use Rattle.codespan_core.proofs.Std.{length-drop, length-map, length-take-le, map-append, map-id}
 use Rattle.std.proofs.lemmas.Simd.{map-map}
+use Rattle.codespan_core.specs.FileModel.{FileModel}
 use Rattle.codespan_picture.specs.Arguments.{locus_view}
 use Rattle.codespan_picture.specs.Snippets.{LabelInFile, has_any}
-use Rattle.codespan_core.specs.FileModel.{FileModel}
-use Rattle.codespan_views.specs.declared.labeled_files.LeastStarts.{LeastStarts}
-use Rattle.codespan_views.specs.declared.labeled_files.LabeledFile.{LabeledFile as RustFile}
-use Rattle.codespan_views.specs.Private.LabeledFiles.{AreLabeledFiles, ids_view, loci_view}
-use Rattle.codespan_views.specs.Private.LabeledFiles.{with_labels, without_locus}
-use Rattle.codespan_views.specs.Private.FileIndices.{IsIdAt}
+use Rattle.codespan_views.specs.Private.{LeastStarts, RustFile, AreLabeledFiles, ids_view}
+use Rattle.codespan_views.specs.Private.{loci_view, with_labels, without_locus, IsIdAt}
 use Rattle.codespan_views.proofs.FileIndices.{at-get}
 use Rattle.codespan_views.proofs.IndexedElements.{IsElementAt, take-at}
 
@@ -67,14 +61,16 @@ module _ {Id : Type 0} {files : List (RustFile Id)} {k : ℕ} {f : RustFile Id}
   id-at = grind (arith, common_steps, get_or-map)
 
   pub is-id : IsIdAt (ids_view files) k f.file_id
-  is-id = subst (IsIdAt (ids_view files) k) (sym id-at) (at-get (ids_view files) k f.file_id id-inside)
+  is-id = subst (IsIdAt (ids_view files) k) (sym id-at)
+      (at-get (ids_view files) k f.file_id id-inside)
 
   -- it has the labels of its id, where each file has those of the one of these ids
   pub labels-at : {same : Id → Id → Bool} {file : Id → FileModel} {xs : List (LabelInFile Id)}
       {ids : List Id} → AreLabeledFiles same file xs ids files
       → without_locus f ≡ with_labels same file xs f.file_id
   labels-at {same} {file} {xs} {ids} labeled =
-      let long : length files ≡ length ids = sym (length-map files without_locus) ∙ ap length labeled.are
+      let long : length files ≡ length ids = sym (length-map files without_locus)
+      ∙ ap length labeled.are
       ∙ length-map ids (with_labels same file xs) in
       let there : without_locus f ≡ with_labels same file xs (get_or ids k f.file_id) =
       ap without_locus at.is ∙ sym (get_or-map without_locus files k f (without_locus f) at.inside)

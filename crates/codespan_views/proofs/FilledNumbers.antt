@@ -1,23 +1,18 @@
 -- The known numbers of filled lines, taken one after another, and what is between two shown lines:
 -- for the clauses of `render_lines` and `render_snippets`.
-use Rattle.std.proofs.Common.{◌≡◌, ℕ, suc, ◌-◌, ◌<◌, List, [], ◌∷◌, ◌++◌, length, drop, Bor, Option}
-use Rattle.std.proofs.Common.{None, refl, sym, subst, ap, ◌∙◌, arith, append_assoc}
-use Rattle.std.specs.Prelude.{flat_map, slice_get}
-use Rattle.std.proofs.lemmas.Grind.{common_steps, flat_map-append}
-use Rattle.std.proofs.lemmas.List.{drop-drop, nil_from_length}
+use Rattle.codespan_core.proofs.Std.{◌≡◌, ℕ, suc, ◌-◌, ◌<◌, List, [], ◌∷◌, ◌++◌, length, drop, Bor}
+use Rattle.codespan_core.proofs.Std.{Option, None, refl, sym, subst, ap, ◌∙◌, arith, append_assoc}
+use Rattle.codespan_core.proofs.Std.{flat_map, slice_get, common_steps, flat_map-append, drop-drop}
+use Rattle.codespan_core.proofs.Std.{nil_from_length}
 use Rattle.std.specs.Option.{option_copied}
 use Rattle.std.specs.Slice.Iter.{iter_rest, iter_steps}
 use Rattle.std.specs.declared.slice.Iter.{Iter}
-use Rattle.codespan_core.specs.declared.term.config.Layout.{Layout}
-use Rattle.codespan_core.specs.declared.term.config.Layout.TheVariants.{Classic, Unbroken}
 use Rattle.codespan_core.specs.FileModel.{FileModel, Lookup}
+use Rattle.codespan_picture.specs.Types.{Layout, Classic, Unbroken}
 use Rattle.codespan_picture.specs.Lookups.{filled_line_lookups}
-use Rattle.codespan_views.specs.Private.Annotations.{Annotation}
-use Rattle.codespan_views.specs.Private.EarlyLookups.{known_numbers}
-use Rattle.codespan_views.specs.Private.FilledLines.{AreNumbersOf, gap_lines, lookups_with}
-use Rattle.codespan_views.specs.Private.SnippetLines.{Break, Filled, SnippetLine, filled_line_of}
-use Rattle.codespan_views.specs.Private.SnippetLines.{filled_lines_of}
-use Rattle.codespan_views.specs.Private.SourceFiles.{lookups_of_filled}
+use Rattle.codespan_views.specs.Private.{Annotation, known_numbers, AreNumbersOf, gap_lines}
+use Rattle.codespan_views.specs.Private.{lookups_with, Break, Filled, SnippetLine, filled_line_of}
+use Rattle.codespan_views.specs.Private.{filled_lines_of, lookups_of_filled}
 
 -- ---- what is between two shown lines
 

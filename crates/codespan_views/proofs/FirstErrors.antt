@@ -1,11 +1,9 @@
 -- The first lookup that fails, and the first error of lookups one after another, for the clauses
 -- `failed` of `collect_lines` and `collect`.
-use Rattle.std.proofs.lemmas.Grind.{common_steps}
-use Rattle.std.proofs.Common.{◌≡◌, zero, suc, List, [], ◌∷◌, ◌++◌, Option, None, Some, refl, sym}
-use Rattle.std.proofs.Common.{ap, ◌∙◌, arith}
-use Rattle.std.proofs.lemmas.List.{map-append}
-use Rattle.codespan_core.specs.declared.files.Error.{Error}
+use Rattle.codespan_core.proofs.Std.{common_steps, ◌≡◌, zero, suc, List, [], ◌∷◌, ◌++◌, Option}
+use Rattle.codespan_core.proofs.Std.{None, Some, refl, sym, ap, ◌∙◌, arith, map-append}
 use Rattle.codespan_core.specs.FileModel.{Lookup, or_failure}
+use Rattle.codespan_picture.specs.Types.{Error}
 use Rattle.codespan_picture.specs.Lookups.{Failures, lookups_of_file, first_error, AllSucceed}
 
 -- ---- errors, one after another

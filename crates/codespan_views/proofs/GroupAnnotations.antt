@@ -1,17 +1,14 @@
 -- The annotations of a line, for the rows that are made of them and so for the clauses of
 -- `render_snippets` and `RichDiagnostic::render`.
-use Rattle.std.proofs.lemmas.Grind.{common_steps}
-use Rattle.std.proofs.Common.{◌≡◌, ℕ, ◌≤◌, Bool, true, false, cond, ◌==◌, ◌||◌, List, [], ◌∷◌, ◌++◌}
-use Rattle.std.proofs.Common.{map, filter, reverse, Option, refl, sym, ◌∙◌, ap, arith}
-use Rattle.std.specs.List.{list_any, cons_option, AllByRecursion}
-use Rattle.std.proofs.lemmas.Bool.{le-ltb, ltb-false}
-use Rattle.std.proofs.lemmas.List.{append-nil}
-use Rattle.std.proofs.lemmas.List.Elements.{filter_map-append, filter_agree}
+use Rattle.codespan_core.proofs.Std.{common_steps, ◌≡◌, ℕ, ◌≤◌, Bool, true, false, cond, ◌==◌, ◌||◌}
+use Rattle.codespan_core.proofs.Std.{List, [], ◌∷◌, ◌++◌, map, filter, reverse, Option, refl, sym}
+use Rattle.codespan_core.proofs.Std.{◌∙◌, ap, arith, list_any, cons_option, AllByRecursion, le-ltb}
+use Rattle.codespan_core.proofs.Std.{ltb-false, append-nil, filter_map-append}
+use Rattle.std.proofs.lemmas.List.Elements.{filter_agree}
 use Rattle.codespan_core.specs.Labels.{LaneMark, LabelModel}
-use Rattle.codespan_views.specs.Private.Annotations.{Annotation, AnnotationKind, Single}
-use Rattle.codespan_views.specs.Private.Annotations.{rank_of, is_before, shows_line}
-use Rattle.codespan_views.specs.Private.SnippetLines.{are_shown, lane_mark_of_kind, lane_marks_in}
-use Rattle.codespan_views.specs.Private.SnippetLines.{single_label_of, single_labels_in}
+use Rattle.codespan_views.specs.Private.{Annotation, AnnotationKind, Single, rank_of, is_before}
+use Rattle.codespan_views.specs.Private.{shows_line, are_shown, lane_mark_of_kind, lane_marks_in}
+use Rattle.codespan_views.specs.Private.{single_label_of, single_labels_in}
 use Rattle.codespan_views.proofs.AnnotationGroups.{IsRising}
 use Rattle.codespan_views.proofs.FileLabels.{has_label_range, is_of_range}
 use Rattle.codespan_views.proofs.AnnotationOrder.{kind_rises, line_rises, lane_mark_annotation}

@@ -1,13 +1,10 @@
 -- `lines_from` over annotations in order, group by group, for the clauses
 -- of `render_lines`.
-use Rattle.std.proofs.lemmas.Grind.{common_steps}
-use Rattle.std.proofs.Common.{◌≡◌, ℕ, suc, ◌<◌, true, false, cond, List, [], ◌∷◌, ◌++◌, take, drop}
-use Rattle.std.proofs.Common.{Option, Some, refl, sym, ◌∙◌, ap, subst, arith}
-use Rattle.std.specs.List.{prefix_len}
-use Rattle.std.proofs.lemmas.Bool.{eq-eqb}
-use Rattle.codespan_views.specs.Private.Annotations.{Annotation, is_on_line, shows_line}
-use Rattle.codespan_views.specs.Private.SnippetLines.{SnippetLine, are_shown, groups, lines_to}
-use Rattle.codespan_views.specs.Private.SnippetLines.{lines_from}
+use Rattle.codespan_core.proofs.Std.{common_steps, ◌≡◌, ℕ, suc, ◌<◌, true, false, cond, List, []}
+use Rattle.codespan_core.proofs.Std.{◌∷◌, ◌++◌, take, drop, Option, Some, refl, sym, ◌∙◌, ap, subst}
+use Rattle.codespan_core.proofs.Std.{arith, prefix_len, eq-eqb}
+use Rattle.codespan_views.specs.Private.{Annotation, is_on_line, shows_line, SnippetLine, are_shown}
+use Rattle.codespan_views.specs.Private.{groups, lines_to, lines_from}
 use Rattle.codespan_views.proofs.AnnotationGroups.{group_at, groups-cons}
 
 -- ---- groups

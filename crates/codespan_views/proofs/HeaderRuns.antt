@@ -1,28 +1,17 @@
 -- Headers of labels, one after another, each after the lookups of its locus, for the clauses
 -- `renders` of `render_headers` and `ShortDiagnostic::render`.
-use Rattle.std.proofs.Common.{◌≡◌, ◌≢◌, ◌<◌, ◌≤◌, ℕ, ◌+◌, Bool, true, false, List, [], ◌∷◌, ◌++◌}
-use Rattle.std.proofs.Common.{length, map, flat_map, take, None, Some, Result, Ok, Err, inl, inr}
-use Rattle.std.proofs.Common.{refl, sym, subst, ap, ◌∙◌, append-nil, arith}
-use Rattle.std.specs.Prelude.{IfErr}
-use Rattle.std.specs.List.{AllZip}
-use Rattle.std.proofs.lemmas.Grind.{flat_map-append}
-use Rattle.std.proofs.lemmas.List.{length-append, take_all}
-use Rattle.std.proofs.Math.Seq.{take-append_seam}
-use Rattle.codespan_core.specs.declared.diagnostic.Diagnostic.{Diagnostic}
-use Rattle.codespan_core.specs.declared.diagnostic.Label.{Label}
-use Rattle.codespan_core.specs.declared.files.Error.{Error}
-use Rattle.codespan_core.specs.declared.files.Error.TheVariants.{FormatError, OutOfMemory}
-use Rattle.codespan_core.specs.declared.term.config.Config.{Config}
-use Rattle.codespan_core.specs.declared.term.config.DisplayStyle.{DisplayStyle}
-use Rattle.codespan_core.specs.declared.term.config.DisplayStyle.TheVariants.{Medium, Rich, Short}
+use Rattle.codespan_core.proofs.Std.{◌≡◌, ◌≢◌, ◌<◌, ◌≤◌, ℕ, ◌+◌, Bool, true, false, List, [], ◌∷◌}
+use Rattle.codespan_core.proofs.Std.{◌++◌, length, map, flat_map, take, None, Some, Result, Ok, Err}
+use Rattle.codespan_core.proofs.Std.{inl, inr, refl, sym, subst, ap, ◌∙◌, append-nil, arith, IfErr}
+use Rattle.codespan_core.proofs.Std.{AllZip, flat_map-append, length-append, take_all}
+use Rattle.codespan_core.proofs.Std.{take-append_seam}
 use Rattle.codespan_core.specs.Errors.{IsIo}
 use Rattle.codespan_core.specs.FileModel.{FileDatabase, Lookup}
 use Rattle.codespan_core.specs.Labels.{is_primary}
 use Rattle.codespan_core.specs.Streams.{Stream}
 use Rattle.codespan_core.specs.WriterLaw.{PrefixWritten, Sink, with_written, Writes}
-use Rattle.codespan_core.proofs.Chains.{WroteStream, WrotePrefix, failed-before, failed-then}
-use Rattle.codespan_core.proofs.Chains.{writes-last, written-then}
-use Rattle.codespan_core.proofs.Writes.{PrefixWritten-first, PrefixWritten-last, with_written-nil}
+use Rattle.codespan_picture.specs.Types.{Diagnostic, Label, Error, FormatError, OutOfMemory, Config}
+use Rattle.codespan_picture.specs.Types.{DisplayStyle, Medium, Rich, Short}
 use Rattle.codespan_picture.specs.Lookups.{first_error, header_lookups_of}
 use Rattle.codespan_picture.specs.OutputStreams.{AreLoci, IsLocus, header_text_of, label_locus_byte}
 use Rattle.codespan_picture.specs.OutputStreams.{label_of, output}
@@ -30,13 +19,13 @@ use Rattle.codespan_picture.specs.Picture.{headers_at, stated_locus}
 use Rattle.codespan_picture.specs.Rows.{Locus, Row}
 use Rattle.codespan_picture.specs.RowStreams.{stream_of_rows}
 use Rattle.codespan_picture.specs.Snippets.{LabelInFile, has_any, header_rows, primary_of}
+use Rattle.codespan_views.specs.{Succeeds, style_with_notes, WritesOutput}
+use Rattle.codespan_views.specs.Private.{IsLocusOfLabel, header_row_with_newline}
+use Rattle.codespan_core.proofs.Chains.{WroteStream, WrotePrefix, failed-before, failed-then}
+use Rattle.codespan_core.proofs.Chains.{writes-last, written-then}
+use Rattle.codespan_core.proofs.Writes.{PrefixWritten-first, PrefixWritten-last, with_written-nil}
 use Rattle.codespan_picture.proofs.Loci.{locus_there, zip_append, zip_each, zip_length, zip_map}
 use Rattle.codespan_picture.proofs.Loci.{zip_weaker}
-use Rattle.codespan_views.specs.Output.{Succeeds}
-use Rattle.codespan_views.specs.Views.{style_with_notes}
-use Rattle.codespan_views.specs.WriteCalls.{WritesOutput}
-use Rattle.codespan_views.specs.Private.Utf8Loci.{IsLocusOfLabel}
-use Rattle.codespan_views.specs.Private.ViewRendering.{header_row_with_newline}
 use Rattle.codespan_views.proofs.FirstErrors.{all_succeed, first_error-none, first_error-some}
 use Rattle.codespan_views.proofs.HeaderStreams.{context, has_any-last, headers-last, no_loci, noted}
 use Rattle.codespan_views.proofs.HeaderStreams.{noted-after, primary_before, primary_from}

@@ -1,16 +1,11 @@
 -- The headers of primary labels, and the notes after them, as streams, for the clauses `renders` of
 -- `render_headers` and `ShortDiagnostic::render`.
-use Rattle.std.proofs.Common.{◌≡◌, ℕ, ◌+◌, true, false, List, [], ◌∷◌, ◌++◌, map, take, drop, Some}
-use Rattle.std.proofs.Common.{refl, sym, ap, ◌∙◌, append_assoc, append-nil}
-use Rattle.std.specs.List.{AllZip}
-use Rattle.std.proofs.lemmas.Grind.{flat_map-append}
-use Rattle.std.proofs.lemmas.List.{map-append, take-append-drop}
-use Rattle.std.proofs.lemmas.List.Elements.{filter-append}
-use Rattle.codespan_core.specs.declared.diagnostic.Diagnostic.{Diagnostic}
-use Rattle.codespan_core.specs.declared.diagnostic.Label.{Label}
-use Rattle.codespan_core.specs.declared.term.config.Config.{Config}
+use Rattle.codespan_core.proofs.Std.{◌≡◌, ℕ, ◌+◌, true, false, List, [], ◌∷◌, ◌++◌, map, take, drop}
+use Rattle.codespan_core.proofs.Std.{Some, refl, sym, ap, ◌∙◌, append_assoc, append-nil, AllZip}
+use Rattle.codespan_core.proofs.Std.{flat_map-append, map-append, take-append-drop, filter-append}
 use Rattle.codespan_core.specs.Labels.{is_primary}
 use Rattle.codespan_core.specs.Streams.{Stream, newline}
+use Rattle.codespan_picture.specs.Types.{Diagnostic, Label, Config}
 use Rattle.codespan_picture.specs.OutputStreams.{header_text_of, label_of, labels_of, context_of}
 use Rattle.codespan_picture.specs.OutputStreams.{notes_of}
 use Rattle.codespan_picture.specs.Picture.{headers, headers_at}
@@ -18,7 +13,7 @@ use Rattle.codespan_picture.specs.Rows.{HeaderRow, HeaderText, RowContext, Locus
 use Rattle.codespan_picture.specs.RowStreams.{stream_of, stream_of_rows}
 use Rattle.codespan_picture.specs.Snippets.{LabelInFile, has_any, header_rows, note_rows}
 use Rattle.codespan_picture.specs.Snippets.{primary_of}
-use Rattle.codespan_views.specs.Private.ViewRendering.{header_row_with_newline}
+use Rattle.codespan_views.specs.Private.{header_row_with_newline}
 use Rattle.codespan_views.proofs.IndexedElements.{IsElementAt, take-at}
 
 -- ---- the primary labels up to an index
@@ -117,7 +112,8 @@ module _ {Id : Type 0} (config : Config) (d : Diagnostic Id) where
       ≡ headers_at config d ps ++ header_row_with_newline d (Some p)
   headers-last ps p =
       headers-append ps (p ∷ [])
-      ∙ ap (λ (s : Stream). headers_at config d ps ++ s) (append-nil (header_row_with_newline d (Some p)))
+      ∙ ap (λ (s : Stream). headers_at config d ps ++ s)
+      (append-nil (header_row_with_newline d (Some p)))
 
   -- a short output with these loci
   abbrev pub short : List Locus → Stream
@@ -129,7 +125,8 @@ module _ {Id : Type 0} (config : Config) (d : Diagnostic Id) where
       ≡ (headers_at config d ps ++ header_row_with_newline d (Some p)) ++ headers_at config d qs
   short-some ps p qs =
       any ps ∙ headers-append ps (p ∷ qs)
-      ∙ sym (append_assoc (headers_at config d ps) (header_row_with_newline d (Some p)) (headers_at config d qs))
+      ∙ sym (append_assoc (headers_at config d ps) (header_row_with_newline d (Some p))
+      (headers_at config d qs))
     where
       any : (os : List Locus) → short (os ++ p ∷ qs) ≡ headers_at config d (os ++ p ∷ qs)
       any [] = refl

@@ -1,9 +1,7 @@
 -- Elements of lists at their indices, for the clauses of `collect` and `find_file`.
-use Rattle.std.proofs.lemmas.Grind.{common_steps}
-use Rattle.std.proofs.Common.{◌≡◌, ℕ, ◌+◌, ◌<◌, List, [], ◌∷◌, ◌++◌, length, take, drop}
-use Rattle.std.proofs.Common.{get_or, sym, ap, subst, ◌∙◌, arith}
-use Rattle.std.proofs.Math.Seq.{drop-cons}
-use Rattle.std.proofs.lemmas.List.{take_more}
+use Rattle.codespan_core.proofs.Std.{common_steps, ◌≡◌, ℕ, ◌+◌, ◌<◌, List, [], ◌∷◌, ◌++◌, length}
+use Rattle.codespan_core.proofs.Std.{take, drop, get_or, sym, ap, subst, ◌∙◌, arith, drop-cons}
+use Rattle.codespan_core.proofs.Std.{take_more}
 
 -- the element at an index of a list
 pub record IsElementAt {X : Type 0} (xs : List X) (index : ℕ) (x : X) : Type 0 where

@@ -1,11 +1,10 @@
 -- The elements of a list that are kept: their numbers pass a test. For the clause `permutation` of
 -- `follow_chains`.
-use Rattle.std.proofs.Common.{◌≡◌, ℕ, zero, suc, ◌+◌, ◌<◌, ◌≤◌, Bool, true, false, cond, List, []}
-use Rattle.std.proofs.Common.{◌∷◌, ◌++◌, length, set, get_or, refl, sym, ap, subst, arith}
-use Rattle.std.specs.List.Sorted.{IsPermutation}
-use Rattle.std.proofs.lemmas.List.{append_assoc, length-append, nil_from_length}
-use Rattle.std.proofs.lemmas.List.Sorted.{IsPermutation-refl, IsPermutation-trans}
-use Rattle.std.proofs.lemmas.List.Sorted.{IsPermutation-sym, IsPermutation-cons}
+use Rattle.codespan_core.proofs.Std.{◌≡◌, ℕ, zero, suc, ◌+◌, ◌<◌, ◌≤◌, Bool, true, false, cond}
+use Rattle.codespan_core.proofs.Std.{List, [], ◌∷◌, ◌++◌, length, set, get_or, refl, sym, ap, subst}
+use Rattle.codespan_core.proofs.Std.{arith, IsPermutation, append_assoc, length-append}
+use Rattle.codespan_core.proofs.Std.{nil_from_length, IsPermutation-refl, IsPermutation-trans}
+use Rattle.codespan_core.proofs.Std.{IsPermutation-sym, IsPermutation-cons}
 use Rattle.std.proofs.lemmas.List.Sorted.{IsPermutation-middle, IsPermutation-push_more}
 use Rattle.std.proofs.lemmas.List.Sorted.{length_permutation}
 

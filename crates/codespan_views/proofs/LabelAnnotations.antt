@@ -1,24 +1,19 @@
 -- The annotations of one label on one line, for the clause `collected` of `collect`.
-use Rattle.std.proofs.lemmas.Grind.{common_steps}
-use Rattle.std.proofs.Common.{rules, ◌≡◌, ℕ, ◌<◌, Bool, true, false, cond, ◌==◌, nat_lt, ◌&&◌, List}
-use Rattle.std.proofs.Common.{[], ◌∷◌, filter, None, ⊎_elim, refl, sym, ◌∙◌, ap, arith}
-use Rattle.std.specs.Prelude.{Option}
-use Rattle.std.specs.Option.{option_map}
-use Rattle.std.specs.List.{list_any, AllByRecursion}
-use Rattle.std.proofs.lemmas.Bool.{cases_Bool}
+use Rattle.codespan_core.proofs.Std.{common_steps, rules, ◌≡◌, ℕ, ◌<◌, Bool, true, false, cond}
+use Rattle.codespan_core.proofs.Std.{◌==◌, nat_lt, ◌&&◌, List, [], ◌∷◌, filter, None, ⊎_elim, refl}
+use Rattle.codespan_core.proofs.Std.{sym, ◌∙◌, ap, arith, Option, option_map, list_any}
+use Rattle.codespan_core.proofs.Std.{AllByRecursion, cases_Bool, append-nil, filter-append}
+use Rattle.codespan_core.proofs.Std.{list_any-append}
 use Rattle.std.proofs.Math.Bool.{and-false}
-use Rattle.std.proofs.lemmas.List.{append-nil}
-use Rattle.std.proofs.lemmas.List.Elements.{filter-append}
-use Rattle.std.proofs.lemmas.List.Folds.{list_any-append}
-use Rattle.codespan_core.specs.declared.term.config.Config.{Config}
 use Rattle.codespan_core.specs.FileModel.{FileModel, line_count}
 use Rattle.codespan_core.specs.Labels.{LaneMark, LabelModel, first_line, last_line, is_single}
 use Rattle.codespan_core.specs.Labels.{drawn_label, lane_mark_of, multi_label_on}
-use Rattle.codespan_views.specs.Private.Annotations.{Annotation, AnnotationKind, Single, Multi}
-use Rattle.codespan_views.specs.Private.Annotations.{is_on_line, annotation_if_any, shows_line}
-use Rattle.codespan_views.specs.Private.LabelAnnotations.{line_annotations, annotations_of}
+use Rattle.codespan_picture.specs.Types.{Config}
 use Rattle.codespan_picture.specs.Lines.{shows}
 use Rattle.codespan_picture.specs.Lookups.{is_looked_up}
+use Rattle.codespan_views.specs.Private.{Annotation, AnnotationKind, Single, Multi, is_on_line}
+use Rattle.codespan_views.specs.Private.{annotation_if_any, shows_line, line_annotations}
+use Rattle.codespan_views.specs.Private.{annotations_of}
 use Rattle.codespan_picture.proofs.ListElements.{all-append}
 use Rattle.codespan_views.proofs.LinesOfLabels.{is_kind, among-below, all-range, on-line, not_shown}
 use Rattle.codespan_views.proofs.LinesOfLabels.{not_first, no_multi_label, own_shown}
@@ -51,11 +46,13 @@ module _ (config : Config) (f : FileModel) (file_index index lane : ℕ) (x : La
   each-line_annotations P l h = search (rules, all-append)
 
   -- its annotations are of its file
-  pub all-of_file : AllByRecursion (λ e. e.file_index ≡ file_index) (annotations_of config f file_index index lane x)
+  pub all-of_file : AllByRecursion (λ e. e.file_index ≡ file_index)
+      (annotations_of config f file_index index lane x)
   all-of_file = search (rules, all-range, each-line_annotations)
 
   -- they are of lines that the file has
-  pub all-below : AllByRecursion (λ e. e.line < line_count f) (annotations_of config f file_index index lane x)
+  pub all-below : AllByRecursion (λ e. e.line < line_count f)
+      (annotations_of config f file_index index lane x)
   all-below =
       all-range (λ e. e.line < line_count f) (line_annotations config f file_index index lane x)
       (is_looked_up config f x) (line_count f) 0
@@ -68,20 +65,24 @@ module _ (config : Config) (f : FileModel) (file_index index lane : ℕ) (x : La
 
   -- on a line that the file has these are its annotations
   pub annotations-on_line : (l : ℕ)
-      → filter (is_on_line l) (annotations_of config f file_index index lane x) ≡ cond (nat_lt l (line_count f))
+      → filter (is_on_line l) (annotations_of config f file_index index lane x)
+      ≡ cond (nat_lt l (line_count f))
       (line_annotations config f file_index index lane x l) []
   annotations-on_line l =
       on-line (line_annotations config f file_index index lane x)
       (λ k. each-line_annotations (λ e. e.line ≡ k) k (λ s. refl)) (is_looked_up config f x) l
       (line_count f) 0
-      ∙ ap (λ b. cond (b && is_looked_up config f x l) (line_annotations config f file_index index lane x l) [])
+      ∙ ap (λ b. cond (b && is_looked_up config f x l)
+      (line_annotations config f file_index index lane x l) [])
       (among-below (line_count f) l)
       ∙ ⊎_elim
       (λ (t : is_looked_up config f x l ≡ true). ap
-      (λ b. cond (nat_lt l (line_count f) && b) (line_annotations config f file_index index lane x l) []) t
+      (λ b. cond (nat_lt l (line_count f) && b)
+      (line_annotations config f file_index index lane x l) []) t
       ∙ both (nat_lt l (line_count f)))
       (λ (t : is_looked_up config f x l ≡ false). ap
-      (λ b. cond (nat_lt l (line_count f) && b) (line_annotations config f file_index index lane x l) []) t
+      (λ b. cond (nat_lt l (line_count f) && b)
+      (line_annotations config f file_index index lane x l) []) t
       ∙ none (nat_lt l (line_count f))
       ∙ ap (λ (r : List Annotation). cond (nat_lt l (line_count f)) r []) (sym (not_looked_up l t)))
       (cases_Bool (is_looked_up config f x l))
@@ -92,7 +93,8 @@ module _ (config : Config) (f : FileModel) (file_index index lane : ℕ) (x : La
       both b = grind (arith, common_steps)
 
       none : (b : Bool)
-          → cond (b && false) (line_annotations config f file_index index lane x l) [] ≡ cond b [] []
+          → cond (b && false) (line_annotations config f file_index index lane x l) []
+          ≡ cond b [] []
       none b = grind (arith, common_steps)
 
   -- ---- the kinds of its annotations of a line
@@ -105,11 +107,13 @@ module _ (config : Config) (f : FileModel) (file_index index lane : ℕ) (x : La
 
   -- its multi-line label mark
   pub lane_marks-on_line : (l : ℕ)
-      → filter (is_kind 2) (line_annotations config f file_index index lane x l) ≡ multi_annotations_on l
+      → filter (is_kind 2) (line_annotations config f file_index index lane x l)
+      ≡ multi_annotations_on l
   lane_marks-on_line l = grind (arith, common_steps, filter-append)
 
   -- its annotations make the lines shown that it shows: a label inside a line shows that line
   pub shown-on_line : (l : ℕ)
-      → list_any shows_line (line_annotations config f file_index index lane x l) ≡ shows config (first_line f x)
+      → list_any shows_line (line_annotations config f file_index index lane x l)
+      ≡ shows config (first_line f x)
       (last_line f x) l
   shown-on_line l = grind (arith, common_steps, list_any-append, own_shown)

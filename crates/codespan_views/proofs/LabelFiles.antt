@@ -1,23 +1,15 @@
 -- The files of labels, one label after another, for the clause `collected` of `collect`.
-use Rattle.std.proofs.lemmas.Grind.{common_steps}
-use Rattle.std.proofs.Common.{rules, ◌≡◌, ◌<◌, Bool, true, false, List, [], ◌∷◌, ◌++◌, length, map}
-use Rattle.std.proofs.Common.{arith, refl, sym, ap, subst, ◌∙◌}
-use Rattle.std.specs.Prelude.{if◌then◌else◌}
-use Rattle.std.specs.Cmp.{IsEquivalence}
-use Rattle.std.specs.List.{AllByRecursion}
-use Rattle.std.proofs.lemmas.List.{map-append}
-use Rattle.std.proofs.lemmas.List.Elements.{recursion_from_All}
-use Rattle.codespan_core.specs.declared.term.config.Config.{Config}
+use Rattle.codespan_core.proofs.Std.{common_steps, rules, ◌≡◌, ◌<◌, Bool, true, false, List, []}
+use Rattle.codespan_core.proofs.Std.{◌∷◌, ◌++◌, length, map, arith, refl, sym, ap, subst, ◌∙◌}
+use Rattle.codespan_core.proofs.Std.{if◌then◌else◌, IsEquivalence, AllByRecursion, map-append}
+use Rattle.codespan_core.proofs.Std.{recursion_from_All}
 use Rattle.codespan_core.specs.FileModel.{FileModel}
+use Rattle.codespan_picture.specs.Types.{Config}
 use Rattle.codespan_picture.specs.Snippets.{LabelInFile, file_ids}
-use Rattle.codespan_views.specs.declared.annotation.Annotation.{Annotation as RustAnnotation}
-use Rattle.codespan_views.specs.Private.Annotations.{Annotation}
-use Rattle.codespan_views.specs.Private.LabelAnnotations.{annotations_of}
-use Rattle.codespan_views.specs.Private.AnnotationViews.{AppendsAnnotations, IsOfFiles}
-use Rattle.codespan_views.specs.Private.AnnotationViews.{annotation_view}
-use Rattle.codespan_views.specs.Private.LabeledFiles.{num_multi_labels_of, with_file}
-use Rattle.codespan_views.specs.Private.FileIndices.{IsIdAt, index_of_file}
-use Rattle.codespan_views.specs.Private.IndexedLabels.{annotations_after}
+use Rattle.codespan_views.specs.Private.{RustAnnotation, Annotation, annotations_of}
+use Rattle.codespan_views.specs.Private.{AppendsAnnotations, IsOfFiles, annotation_view}
+use Rattle.codespan_views.specs.Private.{num_multi_labels_of, with_file, IsIdAt, index_of_file}
+use Rattle.codespan_views.specs.Private.{annotations_after}
 use Rattle.codespan_views.proofs.FileOrder.{file_ids-has, file_ids-more, has, none-of_file}
 use Rattle.codespan_views.proofs.FileIndices.{at-stays, index-stays, has-index}
 use Rattle.codespan_views.proofs.LabelAnnotations.{all-of_file}
@@ -43,7 +35,8 @@ module _ {Id : Type 0} {same : Id → Id → Bool} (o : IsEquivalence same) (xs 
 
   -- what is known of each file, where the label is not of it
   pub known-more : {A : Type 0} {d : A} {known now : List A} (h : Id → A)
-      → (AllByRecursion (λ (y : LabelInFile Id). same x.file_id y.file_id ≡ false) xs → h x.file_id ≡ d)
+      → (AllByRecursion (λ (y : LabelInFile Id). same x.file_id y.file_id ≡ false) xs
+      → h x.file_id ≡ d)
       → known ≡ map h were → now ≡ with_file same were x.file_id known d → now ≡ map h are
   known-more {A} {d} {known} h new was is =
       is ∙ ap (λ (ks : List A). with_file same were x.file_id ks d) was
@@ -84,14 +77,17 @@ module _ {Id : Type 0} {same : Id → Id → Bool} (o : IsEquivalence same) (xs 
 
     -- the annotations of the labels were added, and their lines are those of their files
     pub added-with_file : {items : List (RustAnnotation Id)}
-        → AppendsAnnotations (IsOfFiles file were) [] items (annotations_after same file config were [] xs)
-        → AppendsAnnotations (IsOfFiles file are) [] items (annotations_after same file config are [] xs)
+        → AppendsAnnotations (IsOfFiles file were) [] items
+        (annotations_after same file config were [] xs)
+        → AppendsAnnotations (IsOfFiles file are) [] items
+        (annotations_after same file config are [] xs)
     added-with_file adds = record {
       more = adds.more;
       whole = adds.whole;
       are = adds.are ∙ sym (annotations-stay [] xs all-there);
       each =
-          all-weaker (λ (e : RustAnnotation Id). IsOfFiles file were e × (e.file_index < length were))
+          all-weaker (λ (e : RustAnnotation Id). IsOfFiles file were e
+          × (e.file_index < length were))
           (IsOfFiles file are)
           (λ e h id at. h.0 id
           (at-stays same o were x.file_id e.file_index id h.1

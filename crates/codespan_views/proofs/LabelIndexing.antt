@@ -1,26 +1,20 @@
 -- The files of ids, and the indices and lanes of labels, one label after another, for the clause
 -- `collected` of `collect`.
-use Rattle.std.proofs.lemmas.Grind.{common_steps}
-use Rattle.std.proofs.Common.{◌≡◌, ℕ, ◌+◌, ◌<◌, ◌≤◌, Bool, true, false, not, List, []}
-use Rattle.std.proofs.Common.{◌∷◌, ◌++◌, length, get_or, set, map, refl, sym, ap, subst, ◌∙◌, arith}
-use Rattle.std.proofs.Common.{true≢false}
-use Rattle.std.specs.Prelude.{filter, if◌then◌else◌}
-use Rattle.std.specs.Cmp.{IsEquivalence}
-use Rattle.std.specs.List.{AllByRecursion}
-use Rattle.std.proofs.lemmas.List.{append-nil, append_assoc, length-append, length-map, map-append}
-use Rattle.std.proofs.lemmas.List.Elements.{filter-append}
+use Rattle.codespan_core.proofs.Std.{common_steps, ◌≡◌, ℕ, ◌+◌, ◌<◌, ◌≤◌, Bool, true, false, not}
+use Rattle.codespan_core.proofs.Std.{List, [], ◌∷◌, ◌++◌, length, get_or, set, map, refl, sym, ap}
+use Rattle.codespan_core.proofs.Std.{subst, ◌∙◌, arith, true≢false, filter, if◌then◌else◌}
+use Rattle.codespan_core.proofs.Std.{IsEquivalence, AllByRecursion, append-nil, append_assoc}
+use Rattle.codespan_core.proofs.Std.{length-append, length-map, map-append, filter-append}
 use Rattle.std.proofs.lemmas.List.Filters.{length-filter_both}
-use Rattle.codespan_core.specs.declared.term.config.Config.{Config}
 use Rattle.codespan_core.specs.FileModel.{FileDatabase, FileModel, line_count}
 use Rattle.codespan_core.specs.LawfulFiles.{IsLawful}
 use Rattle.codespan_core.specs.Labels.{LabelModel, first_line, is_single, last_line}
-use Rattle.codespan_views.specs.declared.label_span.LabelSpan.{LabelSpan}
-use Rattle.codespan_views.specs.Private.Annotations.{Annotation}
-use Rattle.codespan_views.specs.Private.LabeledFiles.{lanes_of_span, num_multi_labels_of, with_labels}
-use Rattle.codespan_views.specs.Private.LocusBytes.{file_least_starts, least_starts_with, no_starts}
-use Rattle.codespan_views.specs.Private.FileIndices.{index_of_file}
-use Rattle.codespan_views.specs.Private.IndexedLabels.{annotations_of_next, annotations_after}
+use Rattle.codespan_picture.specs.Types.{Config}
 use Rattle.codespan_picture.specs.Snippets.{LabelInFile, num_multi_labels}
+use Rattle.codespan_views.specs.Private.{LabelSpan, Annotation, lanes_of_span, num_multi_labels_of}
+use Rattle.codespan_views.specs.Private.{with_labels, file_least_starts, least_starts_with}
+use Rattle.codespan_views.specs.Private.{no_starts, index_of_file, annotations_of_next}
+use Rattle.codespan_views.specs.Private.{annotations_after}
 use Rattle.codespan_picture.proofs.ListElements.{filter-nothing}
 use Rattle.codespan_views.proofs.FileOrder.{has}
 use Rattle.codespan_views.proofs.LocusBytes.{start-others, start-own, start-unknown}
@@ -52,7 +46,8 @@ label_lanes f x = if is_single f x then 0 else 1
 -- that is known by the lines that it starts and ends on
 pub lanes_of_span-are : (f : FileModel) (x : LabelModel) (span : LabelSpan)
     → span.first ≡ first_line f x → span.last ≡ last_line f x → lanes_of_span span ≡ label_lanes f x
-lanes_of_span-are f x span first last = λ i. lanes_of_span (record { first = first i; last = last i })
+lanes_of_span-are f x span first last = λ i. lanes_of_span
+    (record { first = first i; last = last i })
 
 module _ {Id A : Type 0} {same : Id → Id → Bool} (o : IsEquivalence same) {i : Id} {h more : Id → A}
     (others : (j : Id) → same j i ≡ false → more j ≡ h j) where
@@ -67,7 +62,8 @@ module _ {Id A : Type 0} {same : Id → Id → Bool} (o : IsEquivalence same) {i
       → v ≡ more (get_or ids (index_of_file same ids i) d)
       → set (map h ids) (index_of_file same ids i) v ≡ map more ids
   set-at [] d v differ there is = absurd (true≢false (sym there))
-  set-at (j ∷ js) d v differ there is = grind (arith, common_steps, index-here, others-stay, index-later, set-at js d v)
+  set-at (j ∷ js) d v differ there is = grind
+      (arith, common_steps, index-here, others-stay, index-later, set-at js d v)
 
 -- equal ids have as many lanes
 pub num_multi_labels_of-equal : {Id : Type 0} {database : FileDatabase Id}
@@ -105,7 +101,8 @@ module _ {Id : Type 0} (same : Id → Id → Bool) (file : Id → FileModel) whe
   pub num_multi_labels_of-more : (before : List (LabelInFile Id)) (x : LabelInFile Id) (id : Id)
       → num_multi_labels_of same file (before ++ x ∷ []) id ≡ num_multi_labels_of same file before
       id + (if same id x.file_id then label_lanes (file id) x.label else 0)
-  num_multi_labels_of-more before x id = grind (arith, common_steps, filter-append, map-append, length-append, append-nil)
+  num_multi_labels_of-more before x id = grind
+      (arith, common_steps, filter-append, map-append, length-append, append-nil)
 
   -- where no label is of the file
   pub labels-none : (xs : List (LabelInFile Id)) (id : Id)
@@ -116,7 +113,8 @@ module _ {Id : Type 0} (same : Id → Id → Bool) (file : Id → FileModel) whe
 
   -- with one more label of another file
   pub labels-others : (xs : List (LabelInFile Id)) (x : LabelInFile Id) (id : Id)
-      → same id x.file_id ≡ false → with_labels same file (xs ++ x ∷ []) id ≡ with_labels same file xs id
+      → same id x.file_id ≡ false → with_labels same file (xs ++ x ∷ []) id
+      ≡ with_labels same file xs id
   labels-others xs x id apart = grind (arith, common_steps, start-others, num_multi_labels_of-more)
 
   -- with one more of the file
@@ -138,9 +136,11 @@ module _ {Id : Type 0} (same : Id → Id → Bool) (file : Id → FileModel) whe
       ++ annotations_of_next same file config ids (before ++ xs) x
   annotations_after-more config ids before [] x = grind (arith, common_steps, append-nil)
   annotations_after-more config ids before (y ∷ ys) x =
-      ap (λ (es : List Annotation). annotations_of_next same file config ids before y ++ es) (annotations_after-more config ids (before ++ y ∷ []) ys x)
+      ap (λ (es : List Annotation). annotations_of_next same file config ids before y ++ es)
+      (annotations_after-more config ids (before ++ y ∷ []) ys x)
       ∙ sym
-      (append_assoc (annotations_of_next same file config ids before y) (annotations_after same file config ids (before ++ y ∷ []) ys)
+      (append_assoc (annotations_of_next same file config ids before y)
+      (annotations_after same file config ids (before ++ y ∷ []) ys)
       (annotations_of_next same file config ids ((before ++ y ∷ []) ++ ys) x))
       ∙ ap (λ (zs : List (LabelInFile Id)). annotations_after same file config ids before (y ∷ ys)
       ++ annotations_of_next same file config ids zs x)

@@ -1,12 +1,11 @@
 -- The labels of a line in the order of their starts, for the clauses of `render_snippets` and
 -- `RichDiagnostic::render`.
-use Rattle.std.proofs.Common.{◌≡◌, ℕ, ◌≤◌, false, true, nat_le, List, [], ◌∷◌, refl, arith}
-use Rattle.std.specs.List.{AllByRecursion}
-use Rattle.std.proofs.lemmas.Bool.Decides.{nat_tests}
+use Rattle.codespan_core.proofs.Std.{◌≡◌, ℕ, ◌≤◌, false, true, nat_le, List, [], ◌∷◌, refl, arith}
+use Rattle.codespan_core.proofs.Std.{AllByRecursion, nat_tests}
 use Rattle.codespan_core.specs.Labels.{LabelModel, range_precedes}
+use Rattle.codespan_picture.specs.Arguments.{starts_from, starts_in_order}
 use Rattle.codespan_picture.proofs.OrderSorts.{Ascends}
 use Rattle.codespan_picture.proofs.ListElements.{all-weaker}
-use Rattle.codespan_picture.specs.Arguments.{starts_from, starts_in_order}
 
 -- ---- labels by their ranges
 

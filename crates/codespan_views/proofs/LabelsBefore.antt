@@ -1,13 +1,13 @@
 -- Labels one after another, with the files of those up to this one, for the clause `collected` of
 -- `collect`.
-use Rattle.std.proofs.Common.{◌≡◌, ℕ, ◌+◌, ◌<◌, Bool, true, List, [], ◌∷◌, ◌++◌, length, take}
-use Rattle.std.proofs.Common.{get_or, map, sym, ap, ◌∙◌, arith}
-use Rattle.std.specs.Cmp.{IsEquivalence}
-use Rattle.std.proofs.lemmas.List.{get_or-map, get_or-take, length-map, length-take-le, map-append}
-use Rattle.codespan_core.specs.declared.diagnostic.Label.{Label}
+use Rattle.codespan_core.proofs.Std.{◌≡◌, ℕ, ◌+◌, ◌<◌, Bool, true, List, [], ◌∷◌, ◌++◌, length}
+use Rattle.codespan_core.proofs.Std.{take, get_or, map, sym, ap, ◌∙◌, arith, IsEquivalence}
+use Rattle.codespan_core.proofs.Std.{get_or-map, length-map, length-take-le, map-append}
+use Rattle.std.proofs.lemmas.List.{get_or-take}
+use Rattle.codespan_picture.specs.Types.{Label}
 use Rattle.codespan_picture.specs.OutputStreams.{label_of}
 use Rattle.codespan_picture.specs.Snippets.{LabelInFile, file_ids}
-use Rattle.codespan_views.specs.Private.FileIndices.{index_of_file}
+use Rattle.codespan_views.specs.Private.{index_of_file}
 use Rattle.codespan_views.proofs.FileOrder.{file_ids-has, has}
 use Rattle.codespan_views.proofs.FileIndices.{Differ, first_seen-differ, has-index}
 use Rattle.codespan_views.proofs.IndexedElements.{IsElementAt, take-at}
@@ -49,4 +49,5 @@ module _ {Id : Type 0} {labels : List (Label Id)} {index : ℕ} {label : Label I
     -- no two of the ids are the same
     pub ids-differ : Differ same o ids
     ids-differ =
-        first_seen-differ same o (map (λ (x : LabelInFile Id). x.file_id) (before labels (index + 1)))
+        first_seen-differ same o (map (λ (x : LabelInFile Id). x.file_id)
+        (before labels (index + 1)))

@@ -1,17 +1,16 @@
 -- The order of the lane marks on a line, for the clauses `in_order` of `render_line` and
 -- `render_break`, and those of `render_snippets` and `RichDiagnostic::render`.
-use Rattle.std.proofs.lemmas.Grind.{common_steps}
-use Rattle.std.proofs.Common.{◌≡◌, ℕ, ◌+◌, ◌≤◌, Bool, true, ◌&&◌, List, [], ◌∷◌, length, map}
-use Rattle.std.proofs.Common.{Option, refl, arith, nat_le, nat_lt}
-use Rattle.std.specs.List.{AllByRecursion, enumerate_from, filter_map, cons_option}
+use Rattle.codespan_core.proofs.Std.{common_steps, ◌≡◌, ℕ, ◌+◌, ◌≤◌, Bool, true, ◌&&◌, List, []}
+use Rattle.codespan_core.proofs.Std.{◌∷◌, length, map, Option, refl, arith, nat_le, nat_lt}
+use Rattle.codespan_core.proofs.Std.{AllByRecursion, enumerate_from, filter_map, cons_option}
+use Rattle.codespan_core.proofs.Std.{nat_tests}
 use Rattle.std.proofs.lemmas.Bool.{leb-true}
-use Rattle.std.proofs.lemmas.Bool.Decides.{nat_tests}
 use Rattle.codespan_core.specs.FileModel.{FileModel}
 use Rattle.codespan_core.specs.Labels.{LabelModel, LaneMark, MultiLabel, lane_mark_of}
 use Rattle.codespan_core.specs.Labels.{lane_marks_on, multi_label_on}
 use Rattle.codespan_picture.specs.Arguments.{ascend_from}
 use Rattle.codespan_picture.specs.Snippets.{LabeledFileModel, num_multi_labels}
-use Rattle.codespan_views.specs.Private.Annotations.{is_before}
+use Rattle.codespan_views.specs.Private.{is_before}
 use Rattle.codespan_views.proofs.AnnotationOrder.{lane_below, lane_mark_annotation}
 use Rattle.codespan_picture.proofs.ListElements.{all-weaker}
 use Rattle.codespan_picture.proofs.SortedLists.{Climbs}

@@ -1,19 +1,15 @@
 -- The lines of a range, and those that are not looked up for a label, for the clause `collected`
 -- of `collect`.
-use Rattle.std.proofs.lemmas.Grind.{common_steps}
-use Rattle.std.proofs.Common.{◌≡◌, ◌≢◌, ℕ, zero, suc, ◌+◌, ◌<◌, Bool, true, false, cond, ◌==◌}
-use Rattle.std.proofs.Common.{nat_lt, nat_le, ◌&&◌, ◌||◌, List, [], ◌∷◌, filter, flat_map}
-use Rattle.std.proofs.Common.{None, ⊎_elim, sym, ◌∙◌, ap, arith}
-use Rattle.std.specs.List.{range_with_len, AllByRecursion}
-use Rattle.std.proofs.lemmas.Bool.{cases_eq, cond_both, eq-eqb, ne_eqb}
-use Rattle.std.proofs.lemmas.Bool.Decides.{nat_tests}
-use Rattle.std.proofs.lemmas.List.{append-nil}
-use Rattle.std.proofs.lemmas.List.Elements.{filter-append}
-use Rattle.codespan_core.specs.declared.term.config.Config.{Config}
+use Rattle.codespan_core.proofs.Std.{common_steps, ◌≡◌, ◌≢◌, ℕ, zero, suc, ◌+◌, ◌<◌, Bool, true}
+use Rattle.codespan_core.proofs.Std.{false, cond, ◌==◌, nat_lt, nat_le, ◌&&◌, ◌||◌, List, [], ◌∷◌}
+use Rattle.codespan_core.proofs.Std.{filter, flat_map, None, ⊎_elim, sym, ◌∙◌, ap, arith}
+use Rattle.codespan_core.proofs.Std.{range_with_len, AllByRecursion, cases_eq, cond_both, eq-eqb}
+use Rattle.codespan_core.proofs.Std.{ne_eqb, nat_tests, append-nil, filter-append}
 use Rattle.codespan_core.specs.Labels.{LabelModel, multi_label_at}
-use Rattle.codespan_views.specs.Private.Annotations.{Annotation, rank_of, is_on_line}
+use Rattle.codespan_picture.specs.Types.{Config}
 use Rattle.codespan_picture.specs.Lines.{shows}
 use Rattle.codespan_picture.specs.Lookups.{is_around}
+use Rattle.codespan_views.specs.Private.{Annotation, rank_of, is_on_line}
 use Rattle.codespan_picture.proofs.ListElements.{all-append, filter-whole, filter-nothing}
 use Rattle.codespan_picture.proofs.ListElements.{all-weaker}
 
@@ -99,7 +95,14 @@ module _ (g : ℕ → List Annotation) (own : (l : ℕ) → AllByRecursion (λ e
           by_test : filter (is_on_line l) (flat_map g rest_lines) ≡ [] → (b : Bool)
               → filter (is_on_line l) (flat_map g (cond b (a ∷ rest_lines) rest_lines)) ≡ cond b
               (g a) []
-          by_test none b = grind (arith, common_steps, filter-append, rest_lines, append-nil, keeps-own)
+          by_test none b = grind (
+            arith,
+            common_steps,
+            filter-append,
+            rest_lines,
+            append-nil,
+            keeps-own,
+          )
 
       later : a ≢ l
           → filter (is_on_line l) (flat_map g rest_lines)

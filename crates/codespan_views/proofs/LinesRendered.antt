@@ -1,24 +1,19 @@
 -- Snippet lines that are rendered one after another, what is written and what is looked up, for the
 -- clauses of `render_lines`.
-use Rattle.std.proofs.Common.{◌≡◌, ℕ, List, [], ◌∷◌, ◌++◌, length, drop, Option, Result, Ok, Err}
-use Rattle.std.proofs.Common.{refl, sym, subst, ap, ◌∙◌}
-use Rattle.std.specs.Prelude.{true}
-use Rattle.std.specs.List.{AllByRecursion}
-use Rattle.std.proofs.lemmas.List.{drop-drop, length-append}
-use Rattle.std.proofs.lemmas.Grind.{flat_map-append}
-use Rattle.codespan_core.specs.declared.files.Error.{Error}
+use Rattle.codespan_core.proofs.Std.{◌≡◌, ℕ, List, [], ◌∷◌, ◌++◌, length, drop, Option, Result, Ok}
+use Rattle.codespan_core.proofs.Std.{Err, refl, sym, subst, ap, ◌∙◌, true, AllByRecursion}
+use Rattle.codespan_core.proofs.Std.{drop-drop, length-append, flat_map-append}
 use Rattle.codespan_core.specs.FileModel.{FileDatabase, FileModel, Lookup, or_failure}
 use Rattle.codespan_core.specs.Streams.{Stream, newline}
 use Rattle.codespan_core.specs.WriterLaw.{Sink}
+use Rattle.codespan_picture.specs.Types.{Error}
 use Rattle.codespan_picture.specs.Rows.{RowContext, Row}
 use Rattle.codespan_picture.specs.RowStreams.{stream_of, stream_of_rows}
 use Rattle.codespan_picture.specs.Private.LineViews.{context_view}
 use Rattle.codespan_views.specs.declared.snippet.Snippet.{Snippet}
-use Rattle.codespan_views.specs.Private.FilledLines.{AreNumbersOf, lookups_with}
-use Rattle.codespan_views.specs.Private.LineRendering.{HasLines, RendersLines}
-use Rattle.codespan_views.specs.Private.SnippetLines.{SnippetLine, filled_lines_of}
-use Rattle.codespan_views.specs.Private.SnippetLines.{is_line_in_order, rows_of_line, rows_of_lines}
-use Rattle.codespan_views.specs.Private.SourceFiles.{failure_of, model_of}
+use Rattle.codespan_views.specs.Private.{AreNumbersOf, lookups_with, HasLines, RendersLines}
+use Rattle.codespan_views.specs.Private.{SnippetLine, filled_lines_of, is_line_in_order}
+use Rattle.codespan_views.specs.Private.{rows_of_line, rows_of_lines, failure_of, model_of}
 use Rattle.codespan_views.proofs.FilledNumbers.{filled-append, lookups_with-append, numbers-later}
 use Rattle.codespan_views.proofs.FirstErrors.{first_error-lookups}
 use Rattle.codespan_views.proofs.LookupRuns.{run_as, run_cut, run_of_lookup, run_then}

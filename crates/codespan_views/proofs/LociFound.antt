@@ -1,25 +1,19 @@
 -- The loci of files, looked up one after another, each of which its file keeps: for the clauses of
 -- `find_loci`.
-use Rattle.std.proofs.Common.{◌≡◌, ℕ, ◌+◌, ◌≤◌, List, [], ◌∷◌, ◌++◌, length, take}
-use Rattle.std.proofs.Common.{drop, set, None, Some, refl, sym, subst, ap, ◌∙◌, append-nil}
-use Rattle.std.specs.Prelude.{flat_map}
-use Rattle.std.specs.List.{AllByRecursion}
+use Rattle.codespan_core.proofs.Std.{◌≡◌, ℕ, ◌+◌, ◌≤◌, List, [], ◌∷◌, ◌++◌, length, take, drop, set}
+use Rattle.codespan_core.proofs.Std.{None, Some, refl, sym, subst, ap, ◌∙◌, append-nil, flat_map}
+use Rattle.codespan_core.proofs.Std.{AllByRecursion, flat_map-append, get_or_default, length-map}
+use Rattle.codespan_core.proofs.Std.{take-append-drop, take_all, flat_map-map}
 use Rattle.std.proofs.Math.Seq.{map-set_same}
-use Rattle.std.proofs.lemmas.Grind.{flat_map-append}
-use Rattle.std.proofs.lemmas.List.{get_or_default, length-map, take-append-drop, take_all}
 use Rattle.std.proofs.lemmas.List.{take_more_set}
-use Rattle.std.proofs.lemmas.List.Folds.{flat_map-map}
-use Rattle.codespan_core.specs.declared.files.Error.{Error}
 use Rattle.codespan_core.specs.FileModel.{FileModel, Lookup}
 use Rattle.codespan_core.specs.FileModel.Lookup.{LocationAt, Name}
+use Rattle.codespan_picture.specs.Types.{Error}
 use Rattle.codespan_picture.specs.Lookups.{Failures, first_error, lookups_of_file}
+use Rattle.codespan_views.specs.Private.{RustFile, LeastStarts, KeepsLabels, without_locus}
+use Rattle.codespan_views.specs.Private.{HasLocus, locus_lookups_of, locus_lookups_of_files}
+use Rattle.codespan_views.specs.Private.{locus_byte}
 use Rattle.codespan_picture.proofs.ListElements.{all-append}
-use Rattle.codespan_views.specs.declared.labeled_files.LabeledFile.{LabeledFile as RustFile}
-use Rattle.codespan_views.specs.declared.labeled_files.LeastStarts.{LeastStarts}
-use Rattle.codespan_views.specs.Private.EarlyLookups.{KeepsLabels}
-use Rattle.codespan_views.specs.Private.LabeledFiles.{without_locus}
-use Rattle.codespan_views.specs.Private.Loci.{HasLocus, locus_lookups_of, locus_lookups_of_files}
-use Rattle.codespan_views.specs.Private.LocusBytes.{locus_byte}
 use Rattle.codespan_views.proofs.FirstErrors.{first_error-none, first_error-some}
 use Rattle.codespan_views.proofs.IndexedElements.{IsElementAt, take-at}
 

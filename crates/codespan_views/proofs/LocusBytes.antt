@@ -1,17 +1,11 @@
 -- Where the snippets of files start, one label after another, for the clause `collected` of
 -- `collect`.
-use Rattle.std.proofs.lemmas.Grind.{common_steps}
-use Rattle.std.proofs.Common.{rules, arith, ◌≡◌, ℕ, Bool, true, false, List, [], ◌∷◌, ◌++◌, Some}
-use Rattle.std.proofs.Common.{append-nil}
-use Rattle.std.specs.Prelude.{if◌then◌else◌}
-use Rattle.std.specs.List.{AllByRecursion}
-use Rattle.std.proofs.lemmas.List.{map-append}
-use Rattle.std.proofs.lemmas.List.Elements.{filter-append}
-use Rattle.std.proofs.lemmas.List.Sums.{fold-append}
+use Rattle.codespan_core.proofs.Std.{common_steps, rules, arith, ◌≡◌, ℕ, Bool, true, false, List}
+use Rattle.codespan_core.proofs.Std.{[], ◌∷◌, ◌++◌, Some, append-nil, if◌then◌else◌, AllByRecursion}
+use Rattle.codespan_core.proofs.Std.{map-append, filter-append, fold-append}
 use Rattle.codespan_picture.specs.Snippets.{LabelInFile}
-use Rattle.codespan_views.specs.Private.LocusBytes.{file_least_starts, is_locus_label, least_if_any}
-use Rattle.codespan_views.specs.Private.LocusBytes.{least_with, no_starts, least_starts_with}
-use Rattle.codespan_views.specs.Private.LocusBytes.{label_starts}
+use Rattle.codespan_views.specs.Private.{file_least_starts, is_locus_label, least_if_any}
+use Rattle.codespan_views.specs.Private.{least_with, no_starts, least_starts_with, label_starts}
 use Rattle.codespan_picture.proofs.ListElements.{all-weaker, filter-nothing}
 
 -- the least of some numbers and one more
@@ -19,7 +13,8 @@ least-more : (ns : List ℕ) (n : ℕ)
     → least_if_any (ns ++ n ∷ []) ≡ Some (least_with (least_if_any ns) n)
 least-more ns n = grind (arith, common_steps, fold-append)
 
-module _ {Id : Type 0} (same : Id → Id → Bool) (xs : List (LabelInFile Id)) (x : LabelInFile Id) (id : Id)
+module _ {Id : Type 0} (same : Id → Id → Bool) (xs : List (LabelInFile Id)) (x : LabelInFile Id)
+    (id : Id)
   where
     -- the start of the label, where it counts
     abbrev own_start : Bool → List ℕ
@@ -37,12 +32,14 @@ module _ {Id : Type 0} (same : Id → Id → Bool) (xs : List (LabelInFile Id)) 
     start-others f =
         λ i. record { primary = least_if_any (none true i); any = least_if_any (none false i) }
       where
-        none : (only : Bool) → label_starts same id only (xs ++ x ∷ []) ≡ label_starts same id only xs
+        none : (only : Bool) → label_starts same id only (xs ++ x ∷ []) ≡ label_starts same id only
+            xs
         none only = grind (arith, common_steps, starts-more, append-nil)
 
     -- one of the file adds its start
     pub start-own : same id x.file_id ≡ true
-        → file_least_starts same (xs ++ x ∷ []) id ≡ least_starts_with (file_least_starts same xs id) x.label
+        → file_least_starts same (xs ++ x ∷ []) id
+        ≡ least_starts_with (file_least_starts same xs id) x.label
     start-own t = search (rules, least-more, starts-more, append-nil)
 
 -- labels of other files change nothing

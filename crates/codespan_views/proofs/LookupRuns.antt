@@ -1,20 +1,17 @@
 -- Rendering with lookups on the way, part by part: what has been written, what was looked up, and
 -- what an error cut short. For the clauses of `render`, `render_snippets`, `render_line` and
 -- `render_break`.
-use Rattle.std.proofs.Common.{◌≡◌, ◌≢◌, [], ◌++◌, Option, None, Some, Result, Ok, Err, inl, inr}
-use Rattle.std.proofs.Common.{⊎_elim, refl, sym, subst, ◌∙◌}
-use Rattle.std.specs.Prelude.{IfErr}
-use Rattle.std.specs.Result.{IsErrOf}
-use Rattle.codespan_core.specs.declared.files.Error.{Error}
-use Rattle.codespan_core.specs.declared.files.Error.TheVariants.{OutOfMemory}
+use Rattle.codespan_core.proofs.Std.{◌≡◌, ◌≢◌, [], ◌++◌, Option, None, Some, Result, Ok, Err, inl}
+use Rattle.codespan_core.proofs.Std.{inr, ⊎_elim, refl, sym, subst, ◌∙◌, IfErr, IsErrOf}
 use Rattle.codespan_core.specs.Errors.{IsIo}
 use Rattle.codespan_core.specs.FileModel.{or_failure}
 use Rattle.codespan_core.specs.Streams.{Stream}
 use Rattle.codespan_core.specs.WriterLaw.{Sink, Writes, PrefixWritten}
+use Rattle.codespan_picture.specs.Types.{Error, OutOfMemory}
+use Rattle.codespan_views.specs.Private.{FailedWithLookups, WritesWithLookups}
 use Rattle.codespan_core.proofs.Chains.{WrotePrefix, written-then, failed-before, failed-then}
 use Rattle.codespan_core.proofs.Chains.{known-after}
 use Rattle.codespan_core.proofs.Writes.{with_written-nil, PrefixWritten-first, PrefixWritten-last}
-use Rattle.codespan_views.specs.Private.LookupsWhileRendering.{FailedWithLookups, WritesWithLookups}
 use Rattle.codespan_views.proofs.FirstErrors.{or_failure-some, or_failure-succeeded}
 use Rattle.codespan_views.proofs.Renderings.{PrefixWritten-none}
 

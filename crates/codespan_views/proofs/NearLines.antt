@@ -1,9 +1,8 @@
 -- The lines around the two ends of a label, for the clauses of `collect_lines`.
-use Rattle.std.proofs.Common.{◌≡◌, ℕ, ◌+◌, ◌<◌, ◌≤◌, Bool, true, false, ◌&&◌, ◌||◌, List, [], ◌∷◌}
-use Rattle.std.proofs.Common.{◌++◌, refl, arith}
-use Rattle.std.specs.Prelude.{nat_lt, nat_le, if◌then◌else◌, filter, flat_map}
-use Rattle.std.proofs.lemmas.Grind.{common_steps}
-use Rattle.codespan_views.specs.Private.LabelSpans.{spans_line}
+use Rattle.codespan_core.proofs.Std.{◌≡◌, ℕ, ◌+◌, ◌<◌, ◌≤◌, Bool, true, false, ◌&&◌, ◌||◌, List, []}
+use Rattle.codespan_core.proofs.Std.{◌∷◌, ◌++◌, refl, arith, nat_lt, nat_le, if◌then◌else◌, filter}
+use Rattle.codespan_core.proofs.Std.{flat_map, common_steps}
+use Rattle.codespan_views.specs.Private.{spans_line}
 
 -- the images of the elements that pass a test
 pub flat_map_filtered : {X : Type 0} (h : ℕ → List X) (p : ℕ → Bool) (ls : List ℕ)

@@ -1,10 +1,9 @@
 -- The rows of notes, one note after another, for the clauses of `render_notes` and
 -- `render_closing`.
-use Rattle.std.proofs.Common.{◌≡◌, ℕ, ◌+◌, ◌<◌, List, [], ◌∷◌, ◌++◌, length, take, drop, get_or}
-use Rattle.std.proofs.Common.{map, refl, sym, ap, ◌∙◌}
+use Rattle.codespan_core.proofs.Std.{◌≡◌, ℕ, ◌+◌, ◌<◌, List, [], ◌∷◌, ◌++◌, length, take, drop}
+use Rattle.codespan_core.proofs.Std.{get_or, map, refl, sym, ap, ◌∙◌, flat_map-append, append-nil}
+use Rattle.codespan_core.proofs.Std.{map-append, take-append-drop, take_more}
 use Rattle.std.specs.Str.Lines.{lines}
-use Rattle.std.proofs.lemmas.Grind.{flat_map-append}
-use Rattle.std.proofs.lemmas.List.{append-nil, map-append, take-append-drop, take_more}
 use Rattle.codespan_core.specs.Streams.{Stream, newline}
 use Rattle.codespan_picture.specs.Rows.{RowContext, Row, FinalRow, LaterNoteRow}
 use Rattle.codespan_picture.specs.RowStreams.{first_note_row, later_note_row, stream_of}

@@ -1,27 +1,20 @@
 -- The numbers of filled lines, looked up one after another, and the padding width: for the clauses
 -- of `find_numbers_of_file` and `find_numbers`.
-use Rattle.std.proofs.Common.{arith, ◌≡◌, ℕ, zero, suc, ◌+◌, ◌-◌, List, [], ◌∷◌, ◌++◌, take, drop}
-use Rattle.std.proofs.Common.{max, Option, None, Some, refl, sym, subst, ap, ◌∙◌, append-nil}
-use Rattle.std.proofs.Common.{append_assoc}
-use Rattle.std.specs.Prelude.{◌≢◌, fold}
+use Rattle.codespan_core.proofs.Std.{arith, ◌≡◌, ℕ, zero, suc, ◌+◌, ◌-◌, List, [], ◌∷◌, ◌++◌, take}
+use Rattle.codespan_core.proofs.Std.{drop, max, Option, None, Some, refl, sym, subst, ap, ◌∙◌}
+use Rattle.codespan_core.proofs.Std.{append-nil, append_assoc, ◌≢◌, fold, common_steps}
+use Rattle.codespan_core.proofs.Std.{flat_map-append, length-map, map-append, take-append-drop}
 use Rattle.std.proofs.Math.Nat.{max_comm}
-use Rattle.std.proofs.lemmas.Grind.{common_steps, flat_map-append}
-use Rattle.std.proofs.lemmas.List.{length-map, map-append, take-append-drop}
-use Rattle.codespan_core.specs.declared.files.Error.{Error}
 use Rattle.codespan_core.specs.FileModel.{FileModel, Lookup, or_failure}
 use Rattle.codespan_core.specs.FileModel.Lookup.{LineNumber}
+use Rattle.codespan_picture.specs.Types.{Error}
 use Rattle.codespan_picture.specs.Lookups.{Failures, first_error, lookups_of_file}
 use Rattle.codespan_picture.specs.Padding.{count_digits}
+use Rattle.codespan_views.specs.Private.{RustFile, Annotation, digit_counts_of, flat_map_indexed}
+use Rattle.codespan_views.specs.Private.{lines_at, numbers_of, gap_lines, number_lookups, ids_view}
+use Rattle.codespan_views.specs.Private.{Labeled, SnippetLine, drawn_line_of, drawn_lines_of}
+use Rattle.codespan_views.specs.Private.{filled_line_of, filled_lines_of}
 use Rattle.codespan_picture.proofs.Greatest.{greatest-append}
-use Rattle.codespan_views.specs.declared.labeled_files.LabeledFile.{LabeledFile as RustFile}
-use Rattle.codespan_views.specs.Private.Annotations.{Annotation}
-use Rattle.codespan_views.specs.Private.EarlyLookups.{digit_counts_of, flat_map_indexed, lines_at}
-use Rattle.codespan_views.specs.Private.EarlyLookups.{numbers_of}
-use Rattle.codespan_views.specs.Private.FilledLines.{gap_lines, number_lookups}
-use Rattle.codespan_views.specs.Private.LabeledFiles.{ids_view}
-use Rattle.codespan_views.specs.Private.SnippetLines.{Labeled, SnippetLine, drawn_line_of}
-use Rattle.codespan_views.specs.Private.SnippetLines.{drawn_lines_of, filled_line_of}
-use Rattle.codespan_views.specs.Private.SnippetLines.{filled_lines_of}
 use Rattle.codespan_views.proofs.FilesInOrder.{files_before, ids-more}
 use Rattle.codespan_views.proofs.FileTurns.{flat_map_indexed-append, flat_map_indexed-more}
 use Rattle.codespan_views.proofs.FilledNumbers.{gap-filled}
@@ -41,7 +34,8 @@ module _ {Id : Type 0} (failure : Failures Id) (id : Id) (f : FileModel) where
   -- the numbers of some snippet lines, and then those of others
   numbers_failed-append : (xs ys : List SnippetLine)
       → numbers_failed (xs ++ ys) ≡ or_failure (numbers_failed xs) (numbers_failed ys)
-  numbers_failed-append xs ys = grind (arith, common_steps, flat_map-append, map-append, first_error-lookups)
+  numbers_failed-append xs ys = grind
+      (arith, common_steps, flat_map-append, map-append, first_error-lookups)
 
   -- the numbers of these snippet lines were found: they are behind those before, and the padding
   -- was widened

@@ -1,16 +1,14 @@
 -- Loci of an output whose names are UTF-8, for the clauses `renders` of
 -- `RichDiagnostic::render` and `render_headers`.
-use Rattle.std.proofs.Common.{List}
-use Rattle.std.specs.List.{AllZip}
-use Rattle.codespan_core.specs.declared.term.config.DisplayStyle.TheVariants.{Rich, Short}
-use Rattle.codespan_core.specs.declared.diagnostic.Diagnostic.{Diagnostic}
+use Rattle.codespan_core.proofs.Std.{List, AllZip}
+use Rattle.codespan_core.specs.FileModel.{FileDatabase}
+use Rattle.codespan_picture.specs.Types.{Rich, Short, Diagnostic}
 use Rattle.codespan_picture.specs.OutputStreams.{AreLoci, IsLocus, NamesAreUtf8, files_of}
 use Rattle.codespan_picture.specs.OutputStreams.{label_locus_byte, labels_of, snippet_locus_byte}
 use Rattle.codespan_picture.specs.Rows.{Locus}
 use Rattle.codespan_picture.specs.Snippets.{LabelInFile, LabeledFileModel, primary_of}
+use Rattle.codespan_views.specs.Private.{IsLocusOfFile, IsLocusOfLabel}
 use Rattle.codespan_picture.proofs.Loci.{zip_map, zip_texts, zip_weaker}
-use Rattle.codespan_views.specs.Private.Utf8Loci.{IsLocusOfFile, IsLocusOfLabel}
-use Rattle.codespan_core.specs.FileModel.{FileDatabase}
 
 module _ {Id : Type 0} (files : FileDatabase Id) (d : Diagnostic Id) (loci : List Locus) where
   -- the files

@@ -1,10 +1,7 @@
 -- What the numbers of a range have, one after another, for the clauses of `collect_lines`.
-use Rattle.std.proofs.Common.{◌≡◌, ℕ, zero, suc, ◌+◌, ◌-◌, ◌<◌, ◌≤◌, List, [], ◌++◌, refl, ap, ◌∙◌}
-use Rattle.std.proofs.Common.{arith}
-use Rattle.std.specs.Prelude.{flat_map}
-use Rattle.std.specs.List.{range_with_len}
-use Rattle.std.proofs.lemmas.Grind.{common_steps, flat_map-append}
-use Rattle.std.proofs.lemmas.List.{append-nil}
+use Rattle.codespan_core.proofs.Std.{◌≡◌, ℕ, zero, suc, ◌+◌, ◌-◌, ◌<◌, ◌≤◌, List, [], ◌++◌, refl}
+use Rattle.codespan_core.proofs.Std.{ap, ◌∙◌, arith, flat_map, range_with_len, common_steps}
+use Rattle.codespan_core.proofs.Std.{flat_map-append, append-nil}
 use Rattle.codespan_picture.proofs.CaretLemmas.{range_with_len-append}
 
 module _ {X : Type 0} (g : ℕ → List X) where

@@ -1,15 +1,12 @@
 -- Calls that render by a renderer, one after another: for the clauses of `render_snippets`,
 -- `render_notes` and `render_closing`.
-use Rattle.std.proofs.Common.{◌≡◌, List, [], ◌++◌, Option, Result, Ok, Err, inl, inr, ⊎_elim, refl}
-use Rattle.std.proofs.Common.{sym, subst, ◌∙◌}
+use Rattle.codespan_core.proofs.Std.{◌≡◌, List, [], ◌++◌, Option, Result, Ok, Err, inl, inr, ⊎_elim}
+use Rattle.codespan_core.proofs.Std.{refl, sym, subst, ◌∙◌}
 use Rattle.std.specs.Borrow.{GName}
-use Rattle.codespan_core.specs.declared.files.Error.{Error}
 use Rattle.codespan_core.specs.Errors.{IsIo}
-use Rattle.codespan_core.specs.declared.term.config.Config.{Config}
 use Rattle.codespan_core.specs.Streams.{Stream}
 use Rattle.codespan_core.specs.WriterLaw.{Sink, is_known, with_written}
-use Rattle.codespan_core.proofs.Chains.{WrotePrefix, failed-before, writes-last}
-use Rattle.codespan_core.proofs.Writes.{with_written-nil}
+use Rattle.codespan_picture.specs.Types.{Error, Config}
 use Rattle.codespan_picture.specs.Rows.{Row, RowContext}
 use Rattle.codespan_picture.specs.RowStreams.{stream_of_rows}
 use Rattle.codespan_renderer.specs.declared.term.renderer.Renderer.{Renderer}
@@ -18,9 +15,11 @@ use Rattle.codespan_renderer.specs.Private.RowWriters.{row_writer_sink}
 use Rattle.codespan_renderer.specs.Renderers.{Renders, SameRenderer, config_of, sink_through}
 use Rattle.codespan_renderer.specs.Renderers.{writer_of}
 use Rattle.codespan_renderer.specs.declared.term.renderer.row_writer.RowWriter.{RowWriter}
+use Rattle.codespan_views.specs.Private.{FailedWithLookups, WritesWithLookups}
+use Rattle.codespan_core.proofs.Chains.{WrotePrefix, failed-before, writes-last}
+use Rattle.codespan_core.proofs.Writes.{with_written-nil}
 use Rattle.codespan_renderer.proofs.RowWriters.{same_frame, same_head, same_reference}
 use Rattle.codespan_renderer.proofs.RowWriters.{writes_before}
-use Rattle.codespan_views.specs.Private.LookupsWhileRendering.{FailedWithLookups, WritesWithLookups}
 
 module _ {W : Type 0} where
   -- a renderer is the same as itself

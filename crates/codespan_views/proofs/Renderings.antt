@@ -1,30 +1,23 @@
 -- Rendering in rich style, what has been written for each way to end: for the clause `renders` of
 -- `RichDiagnostic::render`.
-use Rattle.std.proofs.Common.{◌≡◌, ◌≢◌, ◌<◌, List, [], ◌++◌, length, None, Some, Ok, Err, Result}
-use Rattle.std.proofs.Common.{inl, inr, refl, sym, subst, ap, ◌∙◌, arith, ⊎_elim}
-use Rattle.std.proofs.lemmas.List.{length-append}
-use Rattle.std.specs.Prelude.{IfErr, Option}
-use Rattle.std.specs.List.{AllZip}
-use Rattle.codespan_core.specs.declared.term.config.Config.{Config}
-use Rattle.codespan_core.specs.declared.diagnostic.Diagnostic.{Diagnostic}
-use Rattle.codespan_core.specs.declared.files.Error.{Error}
-use Rattle.codespan_core.specs.declared.files.Error.TheVariants.{FormatError, OutOfMemory}
+use Rattle.codespan_core.proofs.Std.{◌≡◌, ◌≢◌, ◌<◌, List, [], ◌++◌, length, None, Some, Ok, Err}
+use Rattle.codespan_core.proofs.Std.{Result, inl, inr, refl, sym, subst, ap, ◌∙◌, arith, ⊎_elim}
+use Rattle.codespan_core.proofs.Std.{length-append, IfErr, Option, AllZip}
 use Rattle.codespan_core.specs.Errors.{IsIo}
 use Rattle.codespan_core.specs.FileModel.{FileDatabase, Lookup}
 use Rattle.codespan_core.specs.Streams.{Stream}
 use Rattle.codespan_core.specs.WriterLaw.{Sink, PrefixWritten, Writes}
-use Rattle.codespan_core.proofs.Chains.{WroteStream, WrotePrefix}
-use Rattle.codespan_core.proofs.KnownBytes.{extended-nil}
-use Rattle.codespan_core.specs.declared.term.config.DisplayStyle.TheVariants.{Rich}
+use Rattle.codespan_picture.specs.Types.{Config, Diagnostic, Error, FormatError, OutOfMemory, Rich}
 use Rattle.codespan_picture.specs.OutputStreams.{files_of, labels_of, output}
 use Rattle.codespan_picture.specs.Picture.{stated_loci}
 use Rattle.codespan_picture.specs.Rows.{Locus}
 use Rattle.codespan_picture.specs.Lookups.{early_lookups, late_lookups, first_error}
+use Rattle.codespan_views.specs.{WritesOutput}
+use Rattle.codespan_views.specs.Private.{FailedWithLookups, WritesWithLookups, IsLocusOfFile}
+use Rattle.codespan_views.specs.Private.{late_failure}
+use Rattle.codespan_core.proofs.Chains.{WroteStream, WrotePrefix}
+use Rattle.codespan_core.proofs.KnownBytes.{extended-nil}
 use Rattle.codespan_picture.proofs.Loci.{stated_are_loci}
-use Rattle.codespan_views.specs.WriteCalls.{WritesOutput}
-use Rattle.codespan_views.specs.Private.LookupsWhileRendering.{FailedWithLookups, WritesWithLookups}
-use Rattle.codespan_views.specs.Private.Utf8Loci.{IsLocusOfFile}
-use Rattle.codespan_views.specs.Private.ViewRendering.{late_failure}
 use Rattle.codespan_views.proofs.EmitErrors.{some_fails}
 use Rattle.codespan_views.proofs.FirstErrors.{first_error-some, first_error-none, all_succeed}
 use Rattle.codespan_views.proofs.OutputLoci.{file_loci, file_texts}
@@ -111,7 +104,8 @@ module _ {Id : Type 0} {renderer_config view_config : Config} {files : FileDatab
     failed_late {e} some failed = record {
       loci = of.loci;
       are_loci = file_loci files d of.loci of.are;
-      received = λ known. subst (λ (s : Stream). PrefixWritten old s new) of.is (failed.prefix known);
+      received = λ known. subst (λ (s : Stream). PrefixWritten old s new) of.is
+          (failed.prefix known);
       on_end = record {
         error_is = inr (
           failed.frame,

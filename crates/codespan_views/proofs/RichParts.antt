@@ -1,22 +1,14 @@
 -- A rich output, rendered part by part, its header, its snippets and its notes: for the clauses
 -- `renders` of `RichDiagnostic::render`.
-use Rattle.std.proofs.Common.{◌≡◌, ◌≢◌, ◌<◌, ℕ, List, [], ◌∷◌, ◌++◌, length, map, None, Some}
-use Rattle.std.proofs.Common.{Result, Ok, Err, inl, refl, sym, subst, ap, ◌∙◌, arith}
-use Rattle.std.specs.Prelude.{IfErr, Option}
-use Rattle.std.specs.List.{AllZip}
-use Rattle.std.proofs.lemmas.Grind.{flat_map-append}
-use Rattle.std.proofs.lemmas.List.{append_assoc, nil_from_length}
-use Rattle.codespan_core.specs.declared.term.config.Config.{Config}
-use Rattle.codespan_core.specs.declared.term.config.DisplayStyle.TheVariants.{Rich}
-use Rattle.codespan_core.specs.declared.diagnostic.Diagnostic.{Diagnostic}
-use Rattle.codespan_core.specs.declared.diagnostic.Label.{Label}
-use Rattle.codespan_core.specs.declared.files.Error.{Error}
-use Rattle.codespan_core.specs.declared.files.Error.TheVariants.{FormatError, OutOfMemory}
+use Rattle.codespan_core.proofs.Std.{◌≡◌, ◌≢◌, ◌<◌, ℕ, List, [], ◌∷◌, ◌++◌, length, map, None, Some}
+use Rattle.codespan_core.proofs.Std.{Result, Ok, Err, inl, refl, sym, subst, ap, ◌∙◌, arith, IfErr}
+use Rattle.codespan_core.proofs.Std.{Option, AllZip, flat_map-append, append_assoc, nil_from_length}
 use Rattle.codespan_core.specs.Errors.{IsIo}
 use Rattle.codespan_core.specs.FileModel.{FileDatabase}
 use Rattle.codespan_core.specs.Streams.{Stream, newline}
 use Rattle.codespan_core.specs.WriterLaw.{Sink, Writes}
-use Rattle.codespan_core.proofs.Chains.{WroteStream, WrotePrefix, failed-before}
+use Rattle.codespan_picture.specs.Types.{Config, Rich, Diagnostic, Label, Error, FormatError}
+use Rattle.codespan_picture.specs.Types.{OutOfMemory}
 use Rattle.codespan_picture.specs.Lookups.{early_lookups, first_error, late_lookups}
 use Rattle.codespan_picture.specs.OutputStreams.{header_text_of, label_of, labels_of, context_of}
 use Rattle.codespan_picture.specs.OutputStreams.{notes_of}
@@ -24,17 +16,13 @@ use Rattle.codespan_picture.specs.Padding.{padding_of}
 use Rattle.codespan_picture.specs.Rows.{FinalRow, HeaderRow, Row}
 use Rattle.codespan_picture.specs.RowStreams.{stream_of, stream_of_rows}
 use Rattle.codespan_picture.specs.Snippets.{LabelInFile, labeled_file_models, note_rows}
+use Rattle.codespan_views.specs.Private.{Collected, IsLookedUpEarly, loci_view, labels_failure}
+use Rattle.codespan_views.specs.Private.{WritesWithLookups, IsLocusOfFile, RendersSnippets}
+use Rattle.codespan_views.specs.Private.{closing_rows, header_row_with_newline, late_failure}
+use Rattle.codespan_views.specs.Private.{snippet_rows}
+use Rattle.codespan_views.specs.{WritesOutput, WritesStyled}
+use Rattle.codespan_core.proofs.Chains.{WroteStream, WrotePrefix, failed-before}
 use Rattle.codespan_picture.proofs.RichLemmas.{output_means_labels}
-use Rattle.codespan_views.specs.declared.collected.Collected.{Collected}
-use Rattle.codespan_views.specs.WriteCalls.{WritesOutput, WritesStyled}
-use Rattle.codespan_views.specs.Private.EarlyLookups.{IsLookedUp}
-use Rattle.codespan_views.specs.Private.LabeledFiles.{loci_view}
-use Rattle.codespan_views.specs.Private.LabelsToCollect.{labels_failure}
-use Rattle.codespan_views.specs.Private.LookupsWhileRendering.{WritesWithLookups}
-use Rattle.codespan_views.specs.Private.Utf8Loci.{IsLocusOfFile}
-use Rattle.codespan_views.specs.Private.ViewRendering.{RendersSnippets, closing_rows}
-use Rattle.codespan_views.specs.Private.ViewRendering.{header_row_with_newline, late_failure}
-use Rattle.codespan_views.specs.Private.ViewRendering.{snippet_rows}
 use Rattle.codespan_views.proofs.CollectedFiles.{loci-of_all}
 use Rattle.codespan_views.proofs.EarlyErrors.{labels-failed, labels-succeeded, later_failure}
 use Rattle.codespan_views.proofs.FirstErrors.{or_failure-none}
@@ -79,17 +67,21 @@ bare-whole {renderer_config = renderer_config} {view_config = view_config} {file
     let none : labels_of d ≡ [] = ap (map label_of) (nil_from_length d.labels.items no_labels) in
     meaning lawful
     (finished
-    (ap (λ (xs : List (LabelInFile _)). first_error files.failure (early_lookups files xs view_config)) none)
+    (ap (λ (xs : List (LabelInFile _)). first_error files.failure
+    (early_lookups files xs view_config)) none)
     (record {
       loci = [];
-      are = subst (λ (xs : List (LabelInFile _)). AllZip IsLocusOfFile (labeled_file_models files.same files.file xs) []) (sym none) tt;
+      are = subst (λ (xs : List (LabelInFile _)). AllZip IsLocusOfFile
+          (labeled_file_models files.same files.file xs) []) (sym none) tt;
       is = ap (λ (xs : List (LabelInFile _)). stream_of_rows
           (context_of renderer_config d.severity
           (padding_of view_config (labeled_file_models files.same files.file xs)))
-          (HeaderRow None (header_text_of d) ∷ (note_rows (notes_of d) ++ (FinalRow ∷ [])))) (sym none);
+          (HeaderRow None (header_text_of d) ∷ (note_rows (notes_of d) ++ (FinalRow ∷ []))))
+          (sym none);
     })
     r
-    (ap (λ (xs : List (LabelInFile _)). first_error files.failure (late_lookups files xs view_config)) none)
+    (ap (λ (xs : List (LabelInFile _)). first_error files.failure
+    (late_lookups files xs view_config)) none)
     writes io)
 
 -- ---- before the header
@@ -100,7 +92,7 @@ pub record IsReady {Id : Type 0} (view_config : Config) (database : FileDatabase
     (d : Diagnostic Id) (numbers : List ℕ) (collected : Collected Id) : Type 0 where
   pub lawful : AreFiles database
   pub some : 0 < length d.labels.items
-  pub looked_up : IsLookedUp database view_config (labels_of d) numbers collected
+  pub looked_up : IsLookedUpEarly database view_config (labels_of d) numbers collected
   pub early : early_failure view_config database d ≡ None
 
 -- what the lookups before the header fail with, where these are the labels
@@ -142,18 +134,19 @@ module _ {Id : Type 0} {view_config : Config} {database : FileDatabase Id} {d : 
       failed-looking_up known =
           meaning lawful
           (failed_early (some_early database view_config d.labels.items some)
-          (λ memory display. early-is view_config database source_labels_are succeeded ∙ known memory display))
+          (λ memory display. early-is view_config database source_labels_are succeeded
+          ∙ known memory display))
 
       -- all of these lookups succeed
       pub ready : {numbers : List ℕ} {collected : Collected Id}
-          → IsLookedUp database view_config (map label_of source_labels) numbers collected
+          → IsLookedUpEarly database view_config (map label_of source_labels) numbers collected
           → later_failure database view_config (map label_of source_labels) ≡ None
           → IsReady view_config database d numbers collected
       ready {numbers} {collected} looked_up known = record {
         lawful = lawful;
         some = some;
         looked_up =
-            subst (λ ls. IsLookedUp database view_config (map label_of ls) numbers collected)
+            subst (λ ls. IsLookedUpEarly database view_config (map label_of ls) numbers collected)
             source_labels_are looked_up;
         early = early-is view_config database source_labels_are succeeded ∙ known;
       }
@@ -193,8 +186,11 @@ module _ {Id : Type 0} (renderer_config : Config) {view_config : Config}
             ((HeaderRow None (header_text_of d) ∷ rows) ++ note_rows (notes_of d)
             ++ (FinalRow ∷ [])))
             (sym ready.looked_up.padding_is)
-            ∙ ap (stream_of_rows context) (append_assoc (HeaderRow None (header_text_of d) ∷ rows) (note_rows (notes_of d)) (FinalRow ∷ []))
-            ∙ flat_map-append (λ row. stream_of context row ++ newline) (HeaderRow None (header_text_of d) ∷ rows) (note_rows (notes_of d) ++ (FinalRow ∷ [])));
+            ∙ ap (stream_of_rows context) (append_assoc (HeaderRow None (header_text_of d) ∷ rows)
+            (note_rows (notes_of d)) (FinalRow ∷ []))
+            ∙ flat_map-append (λ row. stream_of context row ++ newline)
+            (HeaderRow None (header_text_of d) ∷ rows)
+            (note_rows (notes_of d) ++ (FinalRow ∷ [])));
       }
 
   -- the whole was rendered, with the lookups after the header, however that ended

@@ -1,11 +1,10 @@
 -- The single-line labels of a line, whose annotations are in order, for the clauses of
 -- `render_snippets` and `RichDiagnostic::render`.
-use Rattle.std.proofs.Common.{◌≡◌, ℕ, false, List, [], ◌∷◌, refl, sym, ◌∙◌}
-use Rattle.std.specs.List.{AllByRecursion, cons_option}
+use Rattle.codespan_core.proofs.Std.{◌≡◌, ℕ, false, List, [], ◌∷◌, refl, sym, ◌∙◌, AllByRecursion}
+use Rattle.codespan_core.proofs.Std.{cons_option}
 use Rattle.codespan_core.specs.Labels.{LabelModel, range_precedes}
-use Rattle.codespan_views.specs.Private.Annotations.{Annotation, AnnotationKind, Shown, Single}
-use Rattle.codespan_views.specs.Private.Annotations.{Multi, is_before}
-use Rattle.codespan_views.specs.Private.SnippetLines.{single_label_of, single_labels_in}
+use Rattle.codespan_views.specs.Private.{Annotation, AnnotationKind, Shown, Single, Multi}
+use Rattle.codespan_views.specs.Private.{is_before, single_label_of, single_labels_in}
 use Rattle.codespan_picture.proofs.OrderSorts.{Ascends}
 use Rattle.codespan_picture.proofs.SortedLists.{Rises}
 use Rattle.codespan_views.proofs.AnnotationOrder.{range_rises}

@@ -1,23 +1,20 @@
 -- The rows of the snippet lines of shown lines, and the lines that they show and fill in, for the
 -- clauses of `render_snippets` and `RichDiagnostic::render`.
-use Rattle.std.proofs.Common.{◌≡◌, ℕ, ◌≤◌, Bool, true, false, not, cond, ◌&&◌, if◌then◌else◌, List}
-use Rattle.std.proofs.Common.{[], ◌∷◌, ◌++◌, filter, flat_map, Option, None, refl, sym, ap, ◌∙◌}
-use Rattle.std.specs.List.{range_with_len, AllByRecursion}
-use Rattle.std.proofs.lemmas.List.{append-nil}
+use Rattle.codespan_core.proofs.Std.{◌≡◌, ℕ, ◌≤◌, Bool, true, false, not, cond, ◌&&◌, if◌then◌else◌}
+use Rattle.codespan_core.proofs.Std.{List, [], ◌∷◌, ◌++◌, filter, flat_map, Option, None, refl, sym}
+use Rattle.codespan_core.proofs.Std.{ap, ◌∙◌, range_with_len, AllByRecursion, append-nil}
 use Rattle.codespan_core.specs.FileModel.{FileModel}
 use Rattle.codespan_picture.specs.Rows.{Line}
 use Rattle.codespan_picture.specs.Sequences.{break_between, gap_between, in_sequence}
 use Rattle.codespan_picture.specs.Snippets.{break_rows, line_rows}
+use Rattle.codespan_views.specs.Private.{Annotation, SnippetLine, Labeled, Filled, Break}
+use Rattle.codespan_views.specs.Private.{line_of_group, rows_of_line, rows_of_lines, filled_line_of}
+use Rattle.codespan_views.specs.Private.{filled_lines_of, drawn_line_of, drawn_lines_of}
+use Rattle.codespan_views.specs.Private.{are_annotations_in_order, are_lane_marks_in_order}
+use Rattle.codespan_views.specs.Private.{is_line_in_order}
 use Rattle.codespan_picture.proofs.Filling.{given, is_drawn_among, lines-shown}
 use Rattle.codespan_picture.proofs.Sequences.{all-gap, all-sequence, flat_map-gap}
 use Rattle.codespan_picture.proofs.Sequences.{flat_map-sequence, sequence-flat}
-use Rattle.codespan_views.specs.Private.Annotations.{Annotation}
-use Rattle.codespan_views.specs.Private.SnippetLines.{SnippetLine, Labeled, Filled, Break}
-use Rattle.codespan_views.specs.Private.SnippetLines.{line_of_group, rows_of_line, rows_of_lines}
-use Rattle.codespan_views.specs.Private.SnippetLines.{filled_line_of, filled_lines_of}
-use Rattle.codespan_views.specs.Private.SnippetLines.{drawn_line_of, drawn_lines_of}
-use Rattle.codespan_views.specs.Private.SnippetLines.{are_annotations_in_order}
-use Rattle.codespan_views.specs.Private.SnippetLines.{are_lane_marks_in_order, is_line_in_order}
 use Rattle.codespan_views.proofs.AnnotationGroups.{lines_after}
 
 -- ---- the elements of snippet lines

@@ -1,19 +1,13 @@
 -- The snippet lines of annotations as a view has them, for the clauses of `render_lines`
 -- and `find_numbers_of_file`.
-use Rattle.std.proofs.Common.{◌≡◌, ℕ, ◌-◌, ◌<◌, ◌≤◌, true, false, List, [], ◌∷◌, ◌++◌, map, length}
-use Rattle.std.proofs.Common.{take, drop, Option, Some, None, refl, sym, ◌∙◌, ap, subst, arith}
-use Rattle.std.specs.Prelude.{All, slice_get}
-use Rattle.std.proofs.Common.{append_assoc}
-use Rattle.std.specs.List.{prefix_len}
-use Rattle.std.proofs.Math.Seq.{take-length}
+use Rattle.codespan_core.proofs.Std.{◌≡◌, ℕ, ◌-◌, ◌<◌, ◌≤◌, true, false, List, [], ◌∷◌, ◌++◌, map}
+use Rattle.codespan_core.proofs.Std.{length, take, drop, Option, Some, None, refl, sym, ◌∙◌, ap}
+use Rattle.codespan_core.proofs.Std.{subst, arith, All, slice_get, append_assoc, prefix_len}
+use Rattle.codespan_core.proofs.Std.{take-length, drop-map, length-drop, take-map}
 use Rattle.std.proofs.lemmas.List.Elements.{All-drop}
-use Rattle.std.proofs.lemmas.List.{drop-map, length-drop, take-map}
-use Rattle.codespan_views.specs.declared.annotation.Annotation.{Annotation as RustAnnotation}
-use Rattle.codespan_views.specs.Private.Annotations.{Annotation, is_on_line, shows_line}
-use Rattle.codespan_views.specs.Private.AnnotationViews.{annotation_view}
-use Rattle.codespan_views.specs.Private.SnippetLines.{Labeled, SnippetLine, groups}
-use Rattle.codespan_views.specs.Private.SnippetLines.{lines_from, lines_to}
-use Rattle.codespan_views.specs.Private.FilledLines.{IsGapBefore, gap_lines}
+use Rattle.codespan_views.specs.Private.{RustAnnotation, Annotation, is_on_line, shows_line}
+use Rattle.codespan_views.specs.Private.{annotation_view, Labeled, SnippetLine, groups, lines_from}
+use Rattle.codespan_views.specs.Private.{lines_to, IsGapBefore, gap_lines}
 use Rattle.codespan_views.proofs.FileSlices.{prefix-map}
 use Rattle.codespan_views.proofs.GroupLines.{IsGroup, next_group, snippet_lines-next}
 use Rattle.codespan_views.proofs.GroupLines.{snippet_lines-skip}

@@ -1,14 +1,12 @@
 -- The byte of a file's locus, by the least starts of its labels, is that of the definitions: for
 -- the clauses of `RichDiagnostic::render`.
-use Rattle.std.proofs.lemmas.Grind.{common_steps}
-use Rattle.std.proofs.Common.{rules, arith, ◌≡◌, ℕ, Bool, true, false, cond, ◌&&◌, List, [], ◌∷◌}
-use Rattle.std.proofs.Common.{map, filter, Some, None, refl}
-use Rattle.std.specs.Prelude.{unwrap_or}
+use Rattle.codespan_core.proofs.Std.{common_steps, rules, arith, ◌≡◌, ℕ, Bool, true, false, cond}
+use Rattle.codespan_core.proofs.Std.{◌&&◌, List, [], ◌∷◌, map, filter, Some, None, refl, unwrap_or}
 use Rattle.codespan_core.specs.FileModel.{FileModel}
 use Rattle.codespan_core.specs.Labels.{LabelModel, is_primary}
 use Rattle.codespan_picture.specs.Snippets.{LabelInFile, labeled_file_model, least, locus_byte_of}
-use Rattle.codespan_views.specs.Private.LocusBytes.{file_least_starts, is_locus_label, least_if_any}
-use Rattle.codespan_views.specs.Private.LocusBytes.{locus_byte, label_starts}
+use Rattle.codespan_views.specs.Private.{file_least_starts, is_locus_label, least_if_any}
+use Rattle.codespan_views.specs.Private.{locus_byte, label_starts}
 
 -- the least of some numbers is that of those that there are
 least-unwrap : (ns : List ℕ) → unwrap_or (least_if_any ns) 0 ≡ least ns
@@ -72,7 +70,8 @@ module _ {Id : Type 0} (same : Id → Id → Bool) (file : Id → FileModel) (id
   locus-primary xs n is = grind (arith, common_steps, primary-starts)
 
   -- or that of any label
-  locus-any : (xs : List (LabelInFile Id)) (n : ℕ) → least_if_any (label_starts same id true xs) ≡ None
+  locus-any : (xs : List (LabelInFile Id)) (n : ℕ) → least_if_any (label_starts same id true xs)
+      ≡ None
       → n ≡ unwrap_or (least_if_any (label_starts same id false xs)) 0
       → n ≡ locus_byte_of (labeled_file_model same file xs id).labels
   locus-any xs n none is = grind (arith, common_steps, all-starts, least-unwrap, primary-starts)

@@ -1,20 +1,13 @@
 -- The snippets of the files that were collected, one after another, for the clause of
 -- `render_snippets`.
-use Rattle.std.proofs.Common.{◌≡◌, ℕ, ◌+◌, ◌≤◌, Bool, ◌||◌, List, [], ◌∷◌, ◌++◌, length, drop, map}
-use Rattle.std.proofs.Common.{Option, None, Ok, refl, sym, subst, ap, ◌∙◌, arith}
-use Rattle.std.specs.Prelude.{flat_map, nat_lt, if◌then◌else◌}
-use Rattle.std.proofs.lemmas.Grind.{flat_map-append}
-use Rattle.std.proofs.lemmas.List.{append_assoc}
-use Rattle.codespan_core.specs.declared.diagnostic.Diagnostic.{Diagnostic}
-use Rattle.codespan_core.specs.declared.files.Error.{Error}
-use Rattle.codespan_core.specs.declared.term.config.Layout.{Layout}
-use Rattle.codespan_core.specs.declared.term.config.Layout.TheVariants.{Classic, Unbroken}
-use Rattle.codespan_core.specs.declared.term.config.Config.{Config}
+use Rattle.codespan_core.proofs.Std.{◌≡◌, ℕ, ◌+◌, ◌≤◌, Bool, ◌||◌, List, [], ◌∷◌, ◌++◌, length}
+use Rattle.codespan_core.proofs.Std.{drop, map, Option, None, Ok, refl, sym, subst, ap, ◌∙◌, arith}
+use Rattle.codespan_core.proofs.Std.{flat_map, nat_lt, if◌then◌else◌, flat_map-append, append_assoc}
 use Rattle.codespan_core.specs.FileModel.{FileDatabase, Lookup, or_failure}
 use Rattle.codespan_core.specs.FileModel.Lookup.{Source}
 use Rattle.codespan_core.specs.Streams.{Stream, newline}
 use Rattle.codespan_core.specs.WriterLaw.{Sink}
-use Rattle.codespan_core.proofs.Chains.{WroteStream}
+use Rattle.codespan_picture.specs.Types.{Diagnostic, Error, Layout, Classic, Unbroken, Config}
 use Rattle.codespan_picture.specs.Arguments.{locus_view}
 use Rattle.codespan_picture.specs.Lookups.{filled_lines, first_error, lookups_of_file}
 use Rattle.codespan_picture.specs.Lookups.{snippet_lookups}
@@ -23,16 +16,12 @@ use Rattle.codespan_picture.specs.Rows.{Locus, Row, RowContext}
 use Rattle.codespan_picture.specs.RowStreams.{stream_of, stream_of_rows}
 use Rattle.codespan_picture.specs.Snippets.{LabeledFileModel, empty_row_after, has_any}
 use Rattle.codespan_picture.specs.Snippets.{labeled_file_model, num_multi_labels, snippet, snippets}
-use Rattle.codespan_views.specs.declared.collected.Collected.{Collected}
-use Rattle.codespan_views.specs.declared.labeled_files.LabeledFile.{LabeledFile as RustFile}
-use Rattle.codespan_views.specs.Private.EarlyLookups.{IsLookedUp, known_numbers}
-use Rattle.codespan_views.specs.Private.EarlyLookups.{known_numbers_of_labels}
-use Rattle.codespan_views.specs.Private.FilledLines.{AreNumbersOf, lookups_with}
-use Rattle.codespan_views.specs.Private.LabeledFiles.{ids_view, loci_view}
-use Rattle.codespan_views.specs.Private.LookupsWhileRendering.{WritesWithLookups}
-use Rattle.codespan_views.specs.Private.SnippetLines.{SnippetLine, filled_lines_of, rows_of_lines}
-use Rattle.codespan_views.specs.Private.Rendering.{first_rows, snippet_empty_row}
-use Rattle.codespan_views.specs.Private.ViewRendering.{late_failure, snippet_rows}
+use Rattle.codespan_views.specs.Private.{Collected, RustFile, IsLookedUpEarly, known_numbers}
+use Rattle.codespan_views.specs.Private.{known_numbers_of_labels, AreNumbersOf, lookups_with}
+use Rattle.codespan_views.specs.Private.{ids_view, loci_view, WritesWithLookups, SnippetLine}
+use Rattle.codespan_views.specs.Private.{filled_lines_of, rows_of_lines, first_rows}
+use Rattle.codespan_views.specs.Private.{snippet_empty_row, late_failure, snippet_rows}
+use Rattle.codespan_core.proofs.Chains.{WroteStream}
 use Rattle.codespan_views.proofs.CollectedFiles.{IsFileOfLabels, nothing-of_each}
 use Rattle.codespan_views.proofs.FilesInOrder.{ids-of_labels, drop-end, followed-at, id-at}
 use Rattle.codespan_views.proofs.FilesInOrder.{id-inside, ids-count, locus-at, locus-inside}
@@ -51,7 +40,8 @@ module _ {Id : Type 0} (database : FileDatabase Id) (view_config : Config) (d : 
 
   -- the lookups with a file's snippet
   abbrev snippet_lookups_of : Id → List (Id × Lookup)
-  snippet_lookups_of = λ id. lookups_of_file id (snippet_lookups database (labels_of d) view_config id)
+  snippet_lookups_of = λ id. lookups_of_file id
+      (snippet_lookups database (labels_of d) view_config id)
 
   -- what those of these files fail with
   abbrev failure_of_all : List Id → Option Error
@@ -64,7 +54,8 @@ module _ {Id : Type 0} (database : FileDatabase Id) (view_config : Config) (d : 
   module _ (collected : Collected Id) where
     -- the rows of the files from an index on
     abbrev rows_left : ℕ → List Row
-    rows_left k = rows_at (drop k (loci_view collected.files.items)) (drop k (ids_view collected.files.items))
+    rows_left k = rows_at (drop k (loci_view collected.files.items))
+        (drop k (ids_view collected.files.items))
 
     -- what their lookups fail with
     abbrev failure_left : ℕ → Option Error
@@ -84,7 +75,7 @@ rows-two context a b = flat_map-append (λ r. stream_of context r ++ newline) a 
 -- at first all are left
 pub left-start : {Id : Type 0} {database : FileDatabase Id} {view_config : Config}
     {d : Diagnostic Id} {context : RowContext} {collected : Collected Id} {numbers : List ℕ}
-    {s : Sink} → IsLookedUp database view_config (labels_of d) numbers collected
+    {s : Sink} → IsLookedUpEarly database view_config (labels_of d) numbers collected
     → SnippetsLeft database view_config d collected context 0 s s
 left-start {database = database} {view_config} {d} {context} {collected} looked_up = record {
   left = record {

@@ -1,27 +1,21 @@
 -- The padding width for the numbers of the lines that labels span is that of the output in the
 -- classic layout: for the clauses of `RichDiagnostic::render`.
-use Rattle.std.proofs.lemmas.Grind.{common_steps}
-use Rattle.std.proofs.Common.{◌≡◌, ℕ, zero, suc, ◌+◌, ◌<◌, ◌≤◌, Bool, true, false, ◌&&◌, max}
-use Rattle.std.proofs.Common.{List, [], ◌∷◌, ◌++◌, length, get_or, map, filter, flat_map, ⊎_elim}
-use Rattle.std.proofs.Common.{refl, sym, ◌∙◌, ap, subst, arith}
-use Rattle.std.specs.Prelude.{Contains, fold, if◌then◌else◌}
-use Rattle.std.specs.Cmp.{IsEquivalence}
-use Rattle.std.specs.List.{AllByRecursion, list_any, range_with_len}
-use Rattle.std.proofs.lemmas.Bool.{and_parts, cases_Bool, cases_eq, eq-eqb, true≢false}
-use Rattle.std.proofs.lemmas.List.Elements.{recursion_from_All}
-use Rattle.std.proofs.lemmas.List.Folds.{flat_map-map, list_any_at}
-use Rattle.codespan_core.specs.declared.term.config.Config.{Config}
-use Rattle.codespan_core.specs.declared.term.config.Layout.TheVariants.{Classic}
+use Rattle.codespan_core.proofs.Std.{common_steps, ◌≡◌, ℕ, zero, suc, ◌+◌, ◌<◌, ◌≤◌, Bool, true}
+use Rattle.codespan_core.proofs.Std.{false, ◌&&◌, max, List, [], ◌∷◌, ◌++◌, length, get_or, map}
+use Rattle.codespan_core.proofs.Std.{filter, flat_map, ⊎_elim, refl, sym, ◌∙◌, ap, subst, arith}
+use Rattle.codespan_core.proofs.Std.{Contains, fold, if◌then◌else◌, IsEquivalence, AllByRecursion}
+use Rattle.codespan_core.proofs.Std.{list_any, range_with_len, and_parts, cases_Bool, cases_eq}
+use Rattle.codespan_core.proofs.Std.{eq-eqb, true≢false, recursion_from_All, flat_map-map}
+use Rattle.codespan_core.proofs.Std.{list_any_at}
 use Rattle.codespan_core.specs.FileModel.{FileModel, line_count}
 use Rattle.codespan_core.specs.Labels.{LabelModel}
+use Rattle.codespan_picture.specs.Types.{Config, Classic}
 use Rattle.codespan_picture.specs.Padding.{count_digits, digits_of, numbered_lines, padding_of}
 use Rattle.codespan_picture.specs.Padding.{spanned_lines, spans}
 use Rattle.codespan_picture.specs.Snippets.{LabelInFile, LabeledFileModel, labeled_file_model}
 use Rattle.codespan_picture.specs.Snippets.{labeled_file_models, file_ids}
-use Rattle.codespan_views.specs.Private.FileIndices.{IsIdAt, index_of_file}
-use Rattle.codespan_views.specs.Private.SpannedDigitCounts.{all_digit_counts}
-use Rattle.codespan_views.specs.Private.SpannedDigitCounts.{digit_count_if_spanned}
-use Rattle.codespan_views.specs.Private.SpannedDigitCounts.{label_digit_counts}
+use Rattle.codespan_views.specs.Private.{IsIdAt, index_of_file, all_digit_counts}
+use Rattle.codespan_views.specs.Private.{digit_count_if_spanned, label_digit_counts}
 use Rattle.codespan_picture.proofs.Greatest.{greatest-any, greatest-append, greatest-same}
 use Rattle.codespan_picture.proofs.PaddingLemmas.{contains-filter, contains-range, numbered-fits}
 use Rattle.codespan_picture.proofs.RefillLemmas.{any-map}
@@ -97,7 +91,8 @@ module _ (f : FileModel) (x : LabelModel) where
 
   -- the number of a line that is spanned is counted
   line-counted : (l n a : ℕ) → a ≤ l → l < a + n → spans f x l ≡ true
-      → count_digits (f.line_number l) ≤ fold max 0 (flat_map (digit_count_if_spanned f x) (range_with_len a n))
+      → count_digits (f.line_number l)
+      ≤ fold max 0 (flat_map (digit_count_if_spanned f x) (range_with_len a n))
   line-counted l zero a low high t = absurd (omega arith)
   line-counted l (suc n) a low high t =
       ⊎_elim
@@ -108,7 +103,8 @@ module _ (f : FileModel) (x : LabelModel) where
       (line-counted l n (a + 1) (omega arith) (omega arith) t))
       (cases_eq a l)
     where
-      here : (k : ℕ) → k ≡ l → count_digits (f.line_number l) ≤ fold max 0 (digit_count_if_spanned f x k)
+      here : (k : ℕ) → k ≡ l → count_digits (f.line_number l)
+          ≤ fold max 0 (digit_count_if_spanned f x k)
       here k e = grind (arith, common_steps)
 
 -- ---- all labels
@@ -185,7 +181,8 @@ module _ {Id : Type 0} (same : Id → Id → Bool) (file : Id → FileModel) (o 
       → list_any (λ (x : LabelInFile Id). same id x.file_id && spans (file id) x.label l) ys ≡ true
       → count_digits ((file id).line_number l) ≤ fold max 0 (all_digit_counts file ys)
   some-counted id l low [] any = absurd (true≢false (sym any))
-  some-counted id l low (y ∷ ys) any = grind (arith, common_steps, and_parts, in-first, line-counted, in-second, some-counted id l low ys)
+  some-counted id l low (y ∷ ys) any = grind
+      (arith, common_steps, and_parts, in-first, line-counted, in-second, some-counted id l low ys)
 
   -- so is that of each spanned line of the output
   lines-counted : AllByRecursion (λ n. n ≤ fold max 0 (all_digit_counts file xs))

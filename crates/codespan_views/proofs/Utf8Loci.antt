@@ -1,11 +1,10 @@
 -- Loci of names and locations that were looked up, for the clause `locus` of `SourceFile::locus`.
-use Rattle.std.proofs.Common.{◌≡◌, ℕ}
-use Rattle.std.specs.Prelude.{IfSome, string_bytes}
+use Rattle.codespan_core.proofs.Std.{◌≡◌, ℕ, IfSome, string_bytes}
 use Rattle.std.proofs.lemmas.Str.{IsUtf8-string_bytes}
 use Rattle.codespan_core.specs.FileModel.{FileModel}
-use Rattle.codespan_picture.specs.declared.arguments.Locus as rust_locus
 use Rattle.codespan_picture.specs.Arguments.{locus_view}
-use Rattle.codespan_views.specs.Private.Utf8Loci.{IsUtf8Locus}
+use Rattle.codespan_views.specs.Private.{IsUtf8Locus}
+use Rattle.codespan_picture.specs.declared.arguments.Locus as rust_locus
 
 -- a locus of a file's name and of a byte's location is the locus of that byte
 pub locus_located : (f : FileModel) (byte : ℕ) (locus : rust_locus.Locus)

@@ -6,7 +6,7 @@ ghost use Rattle.codespan_picture.specs.Arguments.{locus_view};
 ghost use Rattle.codespan_picture.specs.OutputStreams.{labels_of, notes_of};
 ghost use Rattle.codespan_picture.specs.Snippets.{note_rows};
 ghost use Rattle.codespan_renderer.specs.Renderers.{Renders, SameRenderer, config_of, writer_of};
-ghost use Rattle.codespan_views.specs.Private.EarlyLookups.{IsLookedUp};
+ghost use Rattle.codespan_views.specs.Private.EarlyLookups.{IsLookedUpEarly};
 ghost use Rattle.codespan_views.specs.Private.Rendering.{RendersRows};
 ghost use Rattle.codespan_views.specs.Private.ViewRendering.{RendersSnippets, closing_rows};
 ghost use Rattle.codespan_views.specs.Private.ViewRendering.{header_row_with_newline};
@@ -142,7 +142,7 @@ impl<'diagnostic, 'config, FileId: Copy + Eq> RichDiagnostic<'diagnostic, 'confi
         F: Files<'files, FileId = FileId>,
         W: WriteStyle,
         FileId: 'files,
-        requires { IsLookedUp (F.database files.now) (view_config_of self.now)
+        requires { IsLookedUpEarly (F.database files.now) (view_config_of self.now)
             (labels_of (diagnostic_of self.now)) numbers.now collected.now }
         ensures same { SameRenderer renderer.old renderer.new }
         ensures renders { RendersSnippets (view_config_of self.now) (F.database files.now)

@@ -1,13 +1,16 @@
 -- For the clauses of `escape::unescape`, `parse_escape` and `parse_unicode_escape`: what is parsed
 -- of escapes, and of escaped texts.
-use Rattle.std.proofs.Common.{◌≡◌, ◌<◌, ◌≤◌, ℕ, List, length, [], ◌∷◌, ◌++◌, Option, Some, None, refl, sym, ◌∙◌, ap, subst, append_assoc, arith}
+use Rattle.std.proofs.Common.{◌≡◌, ◌<◌, ◌≤◌, ℕ, List, length, [], ◌∷◌, ◌++◌, Option, Some, None}
+use Rattle.std.proofs.Common.{refl, sym, ◌∙◌, ap, subst, append_assoc, arith}
 use Rattle.std.specs.Borrow.{Bor}
 use Rattle.std.specs.Prelude.{encode_utf8, IfSome, MatchOption}
 use Rattle.std.specs.Option.{option_map}
 use Rattle.std.proofs.lemmas.Bool.Decides.{nat_tests}
 use Rattle.std.proofs.lemmas.Str.{char_from_byte}
 use Rattle.std.proofs.lemmas.Str.Pattern.{IsSplitOnceResult, split_after, split_parts}
-use Rattle.gallery_cases.specs.Escapes.{LacksBackslash, IsBraced, IsHexCharacter, ParsesUnicodeEscape, ParsesEscape, Unescapes, letter_character, with_prefix}
+use Rattle.gallery_cases.specs.Escapes.{LacksBackslash, IsBraced, IsHexCharacter}
+use Rattle.gallery_cases.specs.Escapes.{ParsesUnicodeEscape, ParsesEscape, Unescapes}
+use Rattle.gallery_cases.specs.Escapes.{letter_character, with_prefix}
 use Rattle.gallery_cases.specs.Escapes.Unescapes.{whole, broken, escaped}
 
 -- ---- letters

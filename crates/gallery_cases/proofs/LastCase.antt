@@ -1,6 +1,8 @@
 -- For the clauses of `cases::apply_to_last` and `Case::continue_source`: the last one of several,
 -- and what is done to it.
-use Rattle.std.proofs.Common.{zero, suc, ◌≡◌, ◌+◌, ◌-◌, ◌<◌, ℕ, List, [], ◌∷◌, ◌++◌, length, map, Result, Ok, Err, OnOk, IfErr, refl, sym, ◌∙◌, ap, subst, inl, inr, ◌⊎◌, arith, string_bytes, String, Global}
+use Rattle.std.proofs.Common.{zero, suc, ◌≡◌, ◌+◌, ◌-◌, ◌<◌, ℕ, List, [], ◌∷◌, ◌++◌, length, map}
+use Rattle.std.proofs.Common.{Result, Ok, Err, OnOk, IfErr, refl, sym, ◌∙◌, ap, subst, inl, inr}
+use Rattle.std.proofs.Common.{◌⊎◌, arith, string_bytes, String, Global}
 use Rattle.std.proofs.lemmas.List.{map-append}
 use Rattle.std.specs.Prelude.{slice_set, slice_index_or}
 use Rattle.gallery_cases.specs.declared.case.Case.{Case}
@@ -8,7 +10,8 @@ use Rattle.gallery_cases.specs.declared.case.File.{File}
 use Rattle.gallery_cases.specs.declared.errors.LineError.{LineError}
 use Rattle.gallery_cases.specs.declared.errors.LineError.TheVariants.{NoFile, OutOfMemory}
 use Rattle.gallery_cases.specs.declared.statement.Statement.{Statement}
-use Rattle.gallery_cases.specs.Cases.{Applies, AppliesToLast, FailsAtLast, IsSource, ContinuesSource, file_view}
+use Rattle.gallery_cases.specs.Cases.{Applies, AppliesToLast, FailsAtLast, IsSource}
+use Rattle.gallery_cases.specs.Cases.{ContinuesSource, file_view}
 
 -- a list is the elements before the last one, and that one; the last one can be set
 pub record IsLast {X : Type 0} (xs : List X) (k : ℕ) (old new : X) : Type 0 where

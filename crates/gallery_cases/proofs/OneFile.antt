@@ -6,7 +6,8 @@ use Rattle.codespan_base.specs.FileModel.{FileDatabase}
 use Rattle.gallery_cases.specs.declared.case.Case.{Case}
 use Rattle.gallery_cases.specs.declared.case.DatabaseKind.TheVariants.{One, Several, Mapped}
 use Rattle.gallery_cases.specs.Cases.{file_view}
-use Rattle.gallery_cases.specs.CaseOutputs.{HoldsOfCase, HoldsOfOnlyFile, HoldsOfAllFiles, Property, mapped_database, several_database, simple_database}
+use Rattle.gallery_cases.specs.CaseOutputs.{HoldsOfCase, HoldsOfOnlyFile, HoldsOfAllFiles, Property}
+use Rattle.gallery_cases.specs.CaseOutputs.{mapped_database, several_database, simple_database}
 use Rattle.gallery_cases.specs.Database.{BorrowedFile, IsOnlyFile, borrowed_view, with_set_numbers}
 
 -- it holds over all files of a case

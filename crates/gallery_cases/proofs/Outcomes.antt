@@ -1,15 +1,21 @@
 -- For the clauses of `run::run` and its parts: what the outcome of a run says.
-use Rattle.std.proofs.Common.{IfErr, IfSome, OnOk, IsErrOf, Result, sym, ap, ◌∙◌, ◌≡◌, ◌≢◌, ℕ, List, [], Option, Some, None, Ok, Err, subst}
+use Rattle.std.proofs.Common.{IfErr, IfSome, OnOk, IsErrOf, Result, sym, ap, ◌∙◌, ◌≡◌, ◌≢◌, ℕ, List}
+use Rattle.std.proofs.Common.{[], Option, Some, None, Ok, Err, subst}
 use Rattle.std.specs.Option.{ok_or, option_map}
 use Rattle.std.specs.Str.Lines.{lines}
 use Rattle.gallery_cases.specs.declared.case.Case.{Case}
 use Rattle.gallery_cases.specs.declared.errors.GalleryError.{GalleryError}
-use Rattle.gallery_cases.specs.declared.errors.GalleryError.TheVariants.{Line, UnknownCase, CannotRender}
+use Rattle.gallery_cases.specs.declared.errors.GalleryError.TheVariants.{Line, UnknownCase}
+use Rattle.gallery_cases.specs.declared.errors.GalleryError.TheVariants.{CannotRender}
 use Rattle.gallery_cases.specs.Cases.{AppliesLines}
 use Rattle.gallery_cases.specs.Requests.{GalleryRequestView}
 use Rattle.program_io.specs.declared.run_error.RunError.{RunError}
-use Rattle.program_io.specs.declared.run_error.RunError.TheVariants.{WrongArguments, CannotReadInput, NotUtf8, OutOfMemory, CannotWriteOutput, Program}
-use Rattle.gallery_cases.specs.Responses.{IsResponse, IsResponseOf, IsGalleryRunError, IsResponseError}
+use Rattle.program_io.specs.declared.run_error.RunError.TheVariants.{WrongArguments}
+use Rattle.program_io.specs.declared.run_error.RunError.TheVariants.{CannotReadInput, NotUtf8}
+use Rattle.program_io.specs.declared.run_error.RunError.TheVariants.{OutOfMemory, CannotWriteOutput}
+use Rattle.program_io.specs.declared.run_error.RunError.TheVariants.{Program}
+use Rattle.gallery_cases.specs.Responses.{IsResponse, IsResponseOf, IsGalleryRunError}
+use Rattle.gallery_cases.specs.Responses.{IsResponseError}
 
 -- with wrong arguments the output is unchanged
 pub unchanged_at_error : (outcome : Result (Unit {0}) (RunError GalleryError)) {X : Type 0}

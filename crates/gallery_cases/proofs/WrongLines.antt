@@ -8,7 +8,8 @@ use Rattle.gallery_cases.specs.declared.statement.Statement.{Statement}
 use Rattle.gallery_cases.specs.declared.words.Word.{Word}
 use Rattle.program_io.specs.Fields.{field_of, past_space}
 use Rattle.gallery_cases.specs.Numbers.{IsBadNumber}
-use Rattle.gallery_cases.specs.Statements.{IsWrong, HasBadNumber, HasBadNumberOfThree, past_two_spaces}
+use Rattle.gallery_cases.specs.Statements.{IsWrong, HasBadNumber, HasBadNumberOfThree}
+use Rattle.gallery_cases.specs.Statements.{past_two_spaces}
 
 -- a number that has to follow the word is missing
 pub number_missing : (word : Word) (rest : List ℕ) (r : Result Statement LineError)

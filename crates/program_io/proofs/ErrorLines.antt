@@ -1,5 +1,6 @@
 -- For `RunError::write_line`: the line of a failed output.
-use Rattle.std.proofs.Common.{◌≡◌, ℕ, List, [], ◌∷◌, ◌++◌, Option, Result, IfSome, OnOk, codes, append_assoc, sym, subst}
+use Rattle.codespan_core.proofs.Std.{◌≡◌, ℕ, List, [], ◌∷◌, ◌++◌, Option, Result, IfSome, OnOk}
+use Rattle.codespan_core.proofs.Std.{codes, append_assoc, sym, subst}
 use Rattle.std.specs.Fmt.{with_newline}
 use Rattle.std.specs.Io.KnownBytes.{Appends}
 use Rattle.program_io.specs.declared.run_error.RunError.{RunError}

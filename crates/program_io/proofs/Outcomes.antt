@@ -1,7 +1,11 @@
 -- For the clauses of the runs of programs: what a status says of an outcome.
-use Rattle.std.proofs.Common.{◌≡◌, ◌≢◌, ◌≤◌, ◌⊎◌, inl, inr, ℕ, Result, Ok, Err, IsErrOf, OnOk, refl, subst, arith}
+use Rattle.codespan_core.proofs.Std.{◌≡◌, ◌≢◌, ◌≤◌, ◌⊎◌, inl, inr, ℕ, Result, Ok, Err, IsErrOf}
+use Rattle.codespan_core.proofs.Std.{OnOk, refl, subst, arith}
 use Rattle.program_io.specs.declared.run_error.RunError.{RunError}
-use Rattle.program_io.specs.declared.run_error.RunError.TheVariants.{WrongArguments, CannotReadInput, NotUtf8, OutOfMemory, CannotWriteOutput, Program}
+use Rattle.program_io.specs.declared.run_error.RunError.TheVariants.{WrongArguments}
+use Rattle.program_io.specs.declared.run_error.RunError.TheVariants.{CannotReadInput, NotUtf8}
+use Rattle.program_io.specs.declared.run_error.RunError.TheVariants.{OutOfMemory, CannotWriteOutput}
+use Rattle.program_io.specs.declared.run_error.RunError.TheVariants.{Program}
 use Rattle.program_io.specs.RunErrors.{IsStatusOf}
 
 -- the status is one of three

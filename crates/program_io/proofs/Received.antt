@@ -1,8 +1,8 @@
 -- For the clauses `written` and `prefix` of the writing calls: what a writer has received, where
 -- its bytes are known.
-use Rattle.std.proofs.Common.{◌≡◌, ℕ, ◌-◌, List, [], ◌∷◌, ◌++◌, length, take, drop, Option, Result, Ok, Err, OnOk, sym, ap, subst, ◌∙◌, append_assoc, take-append-drop}
-use Rattle.std.proofs.Math.Seq.{take-append_seam}
-use Rattle.std.proofs.lemmas.List.{take_rest}
+use Rattle.codespan_core.proofs.Std.{◌≡◌, ℕ, ◌-◌, List, [], ◌∷◌, ◌++◌, length, take, drop, Option}
+use Rattle.codespan_core.proofs.Std.{Result, Ok, Err, OnOk, sym, ap, subst, ◌∙◌, append_assoc}
+use Rattle.codespan_core.proofs.Std.{take-append-drop, take-append_seam, take_rest}
 use Rattle.std.proofs.KnownBytes.{Appends-kept, Appends-trans}
 use Rattle.std.specs.Io.{StartsWith}
 use Rattle.std.specs.Io.KnownBytes.{Appends, Keeps}

@@ -1,8 +1,8 @@
 -- For the clauses of `LabelRequest::from_arguments` and `Request::from_arguments`: what the
 -- arguments request, one by one.
-use Rattle.std.proofs.Common.{◌≡◌, ℕ, ◌<◌, ◌≤◌, ◌⊎◌, inl, inr, List, [], ◌∷◌, length, get_or, map, Option, None, refl, ap, sym, ◌∙◌, arith}
-use Rattle.codespan_core.specs.declared.term.config.DisplayStyle.{DisplayStyle}
-use Rattle.std.specs.Option.{option_map}
+use Rattle.codespan_core.proofs.Std.{◌≡◌, ℕ, ◌<◌, ◌≤◌, ◌⊎◌, inl, inr, List, [], ◌∷◌, length, get_or}
+use Rattle.codespan_core.proofs.Std.{map, Option, None, refl, ap, sym, ◌∙◌, arith, option_map}
+use Rattle.codespan_picture.specs.Types.{DisplayStyle}
 use Rattle.program_io.specs.Names.{display_style_named}
 use Rattle.report.specs.Requests.{request_of, number_of, label_request_of, label_request_with}
 use Rattle.report.specs.Requests.RequestView.{OneLabel, OfScript}
@@ -43,7 +43,8 @@ pub five_arguments : {A : Type 0} (text : A → List ℕ) (xs : List A)
     → (named : Option DisplayStyle) (first last : Option ℕ)
     → named ≡ display_style_named (text style) → first ≡ number_of (text start)
     → last ≡ number_of (text end)
-    → label_request_with (text name) (text message) named first last ≡ label_request_of (map text xs)
+    → label_request_with (text name) (text message) named first last
+    ≡ label_request_of (map text xs)
 unfolding label_request_of
 five_arguments text xs style name start end message least most p q r s t named first last x y z =
     let five = five_elements xs style name start end message least most p q r s t in

@@ -1,13 +1,12 @@
 -- For the clause of `diagnostics::diagnostic_of_label_request`: the diagnostic of a label request,
 -- as its fields are set.
-use Rattle.std.proofs.Common.{◌≡◌, [], ◌∷◌, ◌++◌, ap, ◌∙◌, refl, string_bytes, None, Result, Ok, Err, IfOk}
-use Rattle.codespan_core.specs.declared.diagnostic.Diagnostic.{Diagnostic}
-use Rattle.codespan_core.specs.declared.diagnostic.Label.{Label}
-use Rattle.codespan_core.specs.declared.diagnostic.LabelStyle.TheVariants.{Primary}
-use Rattle.codespan_core.specs.declared.diagnostic.Severity.TheVariants as severities
+use Rattle.codespan_core.proofs.Std.{◌≡◌, [], ◌∷◌, ◌++◌, ap, ◌∙◌, refl, string_bytes, None, Result}
+use Rattle.codespan_core.proofs.Std.{Ok, Err, IfOk}
 use Rattle.codespan_core.specs.Diagnostics.{diagnostic_view}
+use Rattle.codespan_picture.specs.Types.{Diagnostic, Label, Primary}
 use Rattle.report.specs.ReportDiagnostics.{label_request_diagnostic}
 use Rattle.report.specs.Requests.{LabelRequestView}
+use Rattle.codespan_core.specs.declared.diagnostic.Severity.TheVariants as severities
 
 -- the label is new but for its message, and the diagnostic for its message and its label
 pub stated : {E : Type 0} (label_request : LabelRequestView) (r : Result (Diagnostic (Unit {0})) E)

@@ -1,15 +1,17 @@
 -- For the clause of `request::parse_number`: `parse` returns the number of digits alone.
-use Rattle.std.proofs.Common.{◌≡◌, ℕ, ◌<◌, ◌^◌, ◌&&◌, nat_lt, true, false, List, [], ◌∷◌, length, get_or, decimal, Option, Some, None, Result, Ok, Err, refl, ap, sym, ◌∙◌, if◌then◌else◌, arith}
+use Rattle.codespan_core.proofs.Std.{◌≡◌, ℕ, ◌<◌, ◌^◌, ◌&&◌, nat_lt, true, false, List, [], ◌∷◌}
+use Rattle.codespan_core.proofs.Std.{length, get_or, decimal, Option, Some, None, Result, Ok, Err}
+use Rattle.codespan_core.proofs.Std.{refl, ap, sym, ◌∙◌, if◌then◌else◌, arith, nat_tests}
 use Rattle.std.specs.Char.{is_ascii_digit}
 use Rattle.std.specs.Int.{IsInRange}
 use Rattle.std.specs.List.{list_all}
 use Rattle.std.specs.Result.{OkIff, result_ok}
 use Rattle.std.specs.Str.{all_ascii_digits}
 use Rattle.std.specs.Str.Parse.{ParsesUnsigned, digits_value}
-use Rattle.std.proofs.lemmas.Bool.Decides.{nat_tests}
 use Rattle.std.proofs.lemmas.Fmt.{decimal_is_IsNumeral, digits_decimal}
 use Rattle.std.proofs.lemmas.List.Recursion.{same_from_clauses}
-use Rattle.std.proofs.lemmas.Str.Parse.{IsNumeralModel, numerals_by_value, tells_all_ascii_digits, tells_by_index, parse_digits}
+use Rattle.std.proofs.lemmas.Str.Parse.{IsNumeralModel, numerals_by_value, tells_all_ascii_digits}
+use Rattle.std.proofs.lemmas.Str.Parse.{tells_by_index, parse_digits}
 use Rattle.report.specs.Requests.{number_of}
 
 -- `all` finds digits as the definition does
@@ -23,7 +25,8 @@ pub number_of-others : (bs : List ℕ) → all_ascii_digits bs ≡ false → Non
 unfolding number_of
 number_of-others [] others = refl
 number_of-others (d ∷ ds) others =
-    ap (λ b. if b && nat_lt (digits_value 10 (d ∷ ds)) (2 ^ 64) then Some (digits_value 10 (d ∷ ds)) else None) (sym others)
+    ap (λ b. if b && nat_lt (digits_value 10 (d ∷ ds)) (2 ^ 64) then Some (digits_value 10 (d ∷ ds))
+    else None) (sym others)
 
 -- what std's lemmas call digits and their value
 decimals : IsNumeralModel (λ ds. all_ascii_digits ds ≡ true) (digits_value 10)
@@ -77,7 +80,8 @@ number_of-digits : (ds : List ℕ) → 0 < length ds → all_ascii_digits ds ≡
 unfolding number_of
 number_of-digits [] some digits fits = absurd (omega arith)
 number_of-digits (d ∷ ds) some digits fits =
-    ap (λ b. if b && nat_lt (digits_value 10 (d ∷ ds)) (2 ^ 64) then Some (digits_value 10 (d ∷ ds)) else None) digits
+    ap (λ b. if b && nat_lt (digits_value 10 (d ∷ ds)) (2 ^ 64) then Some (digits_value 10 (d ∷ ds))
+    else None) digits
     ∙ sym (fitting (digits_value 10 (d ∷ ds)) (digits_value 10 (d ∷ ds)) fits refl)
 
 -- the decimal digits of a number are that number

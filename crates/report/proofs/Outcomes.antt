@@ -1,16 +1,19 @@
 -- For the clauses of `run::conclude` and `run::run`: what the outcome of a run says.
-use Rattle.std.proofs.Common.{◌≤◌, IfErr, OnOk, Result, ap, ◌≡◌, ◌≢◌, ◌⊎◌, inl, inr, ℕ, List, Option, Some, None, Ok, Err, IfSome, IsErrOf, subst, arith, codes, string_bytes}
-use Rattle.std.specs.Str.{IsUtf8}
+use Rattle.codespan_core.proofs.Std.{◌≤◌, IfErr, OnOk, Result, ap, ◌≡◌, ◌≢◌, ◌⊎◌, inl, inr, ℕ, List}
+use Rattle.codespan_core.proofs.Std.{Option, Some, None, Ok, Err, IfSome, IsErrOf, subst, arith}
+use Rattle.codespan_core.proofs.Std.{codes, string_bytes, IsUtf8}
 use Rattle.program_io.specs.declared.run_error.RunError.{RunError}
-use Rattle.program_io.specs.declared.run_error.RunError.TheVariants.{WrongArguments, CannotWriteOutput, Program}
+use Rattle.program_io.specs.declared.run_error.RunError.TheVariants.{WrongArguments}
+use Rattle.program_io.specs.declared.run_error.RunError.TheVariants.{CannotWriteOutput, Program}
 use Rattle.program_io.specs.Output.{AppendsPrefix}
 use Rattle.program_io.specs.RunErrors.{failed_output_line}
-use Rattle.program_io.proofs.Outcomes as general
 use Rattle.report.specs.declared.report_error.ReportError.{ReportError}
 use Rattle.report.specs.declared.report_error.ReportError.TheVariants.{BadScript}
 use Rattle.report.specs.RenderedTexts.{rendering_of}
-use Rattle.report.specs.ReportErrors.{IsRunError, IfBadScript, IsReportStatusOf, UnchangedUnlessRendered}
+use Rattle.report.specs.ReportErrors.{IsRunError, IfBadScript, IsReportStatusOf}
+use Rattle.report.specs.ReportErrors.{UnchangedUnlessRendered}
 use Rattle.report.specs.Requests.{RequestView, WhereKnown, request_of}
+use Rattle.program_io.proofs.Outcomes as general
 
 -- the outcome of a run
 abbrev Outcome : Type 0

@@ -1,29 +1,36 @@
 -- For the clause of `laws::scripts_read_back`: what is read of a script that is written out from
 -- its statements.
-use Rattle.std.proofs.Common.{◌≡◌, ℕ, suc, ◌+◌, ◌^◌, ◌<◌, ◌≤◌, Bool, true, false, List, [], ◌∷◌, ◌++◌, length, map, Option, Some, None, Ok, codes, is_some, bytes_eq, refl, sym, ap, ◌∙◌, subst, arith, if◌then◌else◌, append_assoc, length-append, unwrap_or, All, option_map, option_and_then, slice_get, filter_map}
-use Rattle.std.specs.List.{AllByRecursion, cons_option, slice_split}
+use Rattle.codespan_core.proofs.Std.{◌≡◌, ℕ, suc, ◌+◌, ◌^◌, ◌<◌, ◌≤◌, Bool, true, false, List, []}
+use Rattle.codespan_core.proofs.Std.{◌∷◌, ◌++◌, length, map, Option, Some, None, Ok, codes, is_some}
+use Rattle.codespan_core.proofs.Std.{bytes_eq, refl, sym, ap, ◌∙◌, subst, arith, if◌then◌else◌}
+use Rattle.codespan_core.proofs.Std.{append_assoc, length-append, unwrap_or, All, option_map}
+use Rattle.codespan_core.proofs.Std.{slice_get, filter_map, AllByRecursion, cons_option}
+use Rattle.codespan_core.proofs.Std.{slice_split, length-map, filter_map-append, slice_get-map}
+use Rattle.std.proofs.Common.{option_and_then}
 use Rattle.std.specs.declared.ops.Range.{Range}
-use Rattle.std.proofs.lemmas.List.{length-map}
-use Rattle.std.proofs.lemmas.List.Elements.{filter_map-append}
-use Rattle.std.proofs.lemmas.Option.{slice_get-map}
-use Rattle.codespan_core.specs.declared.diagnostic.LabelStyle.TheVariants.{Primary, Secondary}
-use Rattle.codespan_core.specs.declared.diagnostic.Severity.{Severity}
 use Rattle.codespan_core.specs.declared.diagnostic.Severity.TheVariants.{Error}
+use Rattle.codespan_picture.specs.Types.{Primary, Secondary, Severity}
 use Rattle.program_io.specs.Fields.{field_of, past_space}
 use Rattle.program_io.specs.Names.{severity_named}
 use Rattle.report.specs.declared.script.Fault.{Fault}
 use Rattle.report.specs.declared.script.FaultKind.TheVariants.{UnknownSeverity, RepeatedWord}
 use Rattle.report.specs.Requests.{number_of}
-use Rattle.report.specs.ScriptFaults.{fault_at, fault_from, line_of_word, line_fault, number_fault, or_fault, repetition, severity_fault}
+use Rattle.report.specs.ScriptFaults.{fault_at, fault_from, line_of_word, line_fault, number_fault}
+use Rattle.report.specs.ScriptFaults.{or_fault, repetition, severity_fault}
 use Rattle.report.specs.ScriptLaws.{ScriptReadsBack}
-use Rattle.report.specs.Statements.{IsStatable, Statement, code_stated, label_fields, label_stated, message_stated, note_stated, first_stated, stated_diagnostic, severity_name, severity_stated, statement_line, written_script}
-use Rattle.report.specs.Statements.Statement.{SeverityLine, CodeLine, MessageLine, LabelLine, NoteLine, CommentLine, EmptyLine}
+use Rattle.report.specs.Statements.{IsStatable, Statement, code_stated, label_fields, label_stated}
+use Rattle.report.specs.Statements.{message_stated, note_stated, first_stated, stated_diagnostic}
+use Rattle.report.specs.Statements.{severity_name, severity_stated, statement_line, written_script}
+use Rattle.report.specs.Statements.Statement.{SeverityLine, CodeLine, MessageLine, LabelLine}
+use Rattle.report.specs.Statements.Statement.{NoteLine, CommentLine, EmptyLine}
 use Rattle.report.specs.ScriptLines.{ScriptLineView, is_newline, script_lines_from, script_lines}
 use Rattle.report.specs.ScriptLines.{range_at, rest_of, script_source, word_of, word_range}
 use Rattle.report.specs.ScriptWords.{script_word_named}
-use Rattle.report.specs.Scripts.{script_diagnostic, parsed_label, parsed_note, parsed_lines, parsed_script, rest_of_word, parsed_severity}
+use Rattle.report.specs.Scripts.{script_diagnostic, parsed_label, parsed_note, parsed_lines}
+use Rattle.report.specs.Scripts.{parsed_script, rest_of_word, parsed_severity}
 use Rattle.report.proofs.WrittenScripts.{line_at, statement_lines, body_written, source_written}
-use Rattle.report.proofs.ReadLines.{rest_by, severity_read, code_read, message_read, note_read, name_read, fields_read, label_read, all_read}
+use Rattle.report.proofs.ReadLines.{rest_by, severity_read, code_read, message_read, note_read}
+use Rattle.report.proofs.ReadLines.{name_read, fields_read, label_read, all_read}
 
 -- ---- no line has an error
 
@@ -135,7 +142,8 @@ label_correct start s range message first last is =
     (ap (λ rest. number_of (field_of rest)) is ∙ read.first)
     (ap (λ rest. number_of (field_of (past_space rest))) is ∙ read.last)
 
-line_right : (before : List ScriptLineView) (start : ℕ) (s : Statement) (lines : List ScriptLineView)
+line_right : (before : List ScriptLineView) (start : ℕ) (s : Statement)
+    (lines : List ScriptLineView)
     → IsStatable s → AreOnce (before ++ line_at start s ∷ lines)
     → line_fault before (line_at start s) ≡ None
 unfolding script_word_named
@@ -265,7 +273,8 @@ reads_back ss source script =
     (all_once ss can script.one_severity script.one_code script.one_message) in
     ap (λ ls. parsed_lines input ls (fault_from [] ls) (script_source input lines))
     (body_written 0 ss source can)
-    ∙ ap (λ fault. parsed_lines input (statement_lines 0 ss) fault (script_source input lines)) right
+    ∙ ap (λ fault. parsed_lines input (statement_lines 0 ss) fault (script_source input lines))
+    right
     ∙ ap (parsed_lines input (statement_lines 0 ss) None) found
     ∙ ap (λ diagnostic. Ok (record { diagnostic = diagnostic; source = source }))
     (diagnostic_same ss can)

@@ -1,22 +1,29 @@
 -- For the clause of `laws::scripts_read_back`: what is read of each line of a script that is
 -- written out from its statements.
-use Rattle.std.proofs.Common.{◌≡◌, ℕ, ◌+◌, ◌^◌, ◌<◌, List, [], ◌∷◌, length, take, Option, Some, None, codes, bytes_eq, refl, ap, ◌∙◌, if◌then◌else◌, one-add, unwrap_or, decimal, option_map, filter_map}
-use Rattle.std.specs.List.{AllByRecursion, cons_option, position_or_len}
+use Rattle.codespan_core.proofs.Std.{◌≡◌, ℕ, ◌+◌, ◌^◌, ◌<◌, List, [], ◌∷◌, length, take, Option}
+use Rattle.codespan_core.proofs.Std.{Some, None, codes, bytes_eq, refl, ap, ◌∙◌, if◌then◌else◌}
+use Rattle.codespan_core.proofs.Std.{unwrap_or, decimal, option_map, filter_map, AllByRecursion}
+use Rattle.codespan_core.proofs.Std.{cons_option, position_or_len}
+use Rattle.std.proofs.Common.{one-add}
 use Rattle.std.specs.declared.ops.Range.{Range}
-use Rattle.codespan_core.specs.declared.diagnostic.LabelStyle.{LabelStyle}
-use Rattle.codespan_core.specs.declared.diagnostic.LabelStyle.TheVariants.{Primary, Secondary}
-use Rattle.codespan_core.specs.declared.diagnostic.Severity.{Severity}
-use Rattle.codespan_core.specs.declared.diagnostic.Severity.TheVariants.{Bug, Error, Warning, Note, Help}
+use Rattle.codespan_core.specs.declared.diagnostic.Severity.TheVariants.{Bug, Error, Warning, Note}
+use Rattle.codespan_core.specs.declared.diagnostic.Severity.TheVariants.{Help}
+use Rattle.codespan_picture.specs.Types.{LabelStyle, Primary, Secondary, Severity}
 use Rattle.program_io.specs.Fields.{field_of, is_space, past_space}
 use Rattle.program_io.specs.Names.{severity_named}
 use Rattle.report.specs.Requests.{number_of}
-use Rattle.report.specs.Statements.{IsStatable, Statement, code_stated, joined_fields, label_fields, label_stated, message_stated, note_stated, severity_name, severity_stated, statement_line}
-use Rattle.report.specs.Statements.Statement.{SeverityLine, CodeLine, MessageLine, LabelLine, NoteLine, CommentLine, EmptyLine}
+use Rattle.report.specs.Statements.{IsStatable, Statement, code_stated, joined_fields, label_fields}
+use Rattle.report.specs.Statements.{label_stated, message_stated, note_stated, severity_name}
+use Rattle.report.specs.Statements.{severity_stated, statement_line}
+use Rattle.report.specs.Statements.Statement.{SeverityLine, CodeLine, MessageLine, LabelLine}
+use Rattle.report.specs.Statements.Statement.{NoteLine, CommentLine, EmptyLine}
 use Rattle.report.specs.ScriptLines.{ScriptLineView, rest_of, word_of}
 use Rattle.report.specs.ScriptWords.{script_word_named}
-use Rattle.report.specs.Scripts.{label_by_word, label_with_ends, parsed_label, label_of_rest, parsed_note}
+use Rattle.report.specs.Scripts.{label_by_word, label_with_ends, parsed_label, label_of_rest}
+use Rattle.report.specs.Scripts.{parsed_note}
 use Rattle.report.proofs.Numbers.{number_of-decimal}
-use Rattle.report.proofs.WrittenScripts.{field_alone, past_alone, first_field, past_field, no_space, line_at, statement_lines}
+use Rattle.report.proofs.WrittenScripts.{field_alone, past_alone, first_field, past_field, no_space}
+use Rattle.report.proofs.WrittenScripts.{line_at, statement_lines}
 
 -- ---- what is read of each line
 

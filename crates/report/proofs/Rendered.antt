@@ -1,19 +1,17 @@
 -- For the clauses of `rendering::render_over` and `rendering::config_in`: the output of a
 -- diagnostic.
-use Rattle.std.proofs.Common.{◌≡◌, ℕ, true, List, Result, Ok, Err, IfOk, refl, sym, subst, ap, ◌∙◌}
-use Rattle.codespan_core.specs.declared.diagnostic.Diagnostic.{Diagnostic}
-use Rattle.codespan_core.specs.declared.files.Error.{Error}
-use Rattle.codespan_core.specs.declared.term.config.Config.{Config}
-use Rattle.codespan_core.specs.declared.term.config.DisplayStyle.{DisplayStyle}
+use Rattle.codespan_core.proofs.Std.{◌≡◌, ℕ, true, List, Result, Ok, Err, IfOk, refl, sym, subst}
+use Rattle.codespan_core.proofs.Std.{ap, ◌∙◌}
 use Rattle.codespan_core.specs.Defaults.{default_config}
 use Rattle.codespan_core.specs.Diagnostics.{diagnostic_view}
 use Rattle.codespan_core.specs.FileModel.{FileDatabase}
 use Rattle.codespan_core.specs.ConfigEquality.{IsEqualConfig}
 use Rattle.codespan_core.specs.Streams.{text_of}
-use Rattle.codespan_views.specs.Output.{Emits, IsRendered}
-use Rattle.codespan_picture.proofs.StatedNames.{output_stated}
+use Rattle.codespan_picture.specs.Types.{Diagnostic, Error, Config, DisplayStyle}
 use Rattle.codespan_picture.specs.Lookups.{Failures}
 use Rattle.codespan_picture.specs.ViewPictures.{picture_of_diagnostic_view}
+use Rattle.codespan_views.specs.Output.{Emits, IsRendered}
+use Rattle.codespan_picture.proofs.StatedNames.{output_stated}
 use Rattle.codespan_picture.proofs.ViewPictures.{picture-of_view}
 use Rattle.report.specs.RenderedTexts.{report_config, only_file, output_text}
 
@@ -53,7 +51,8 @@ module _ (d : Diagnostic (Unit {0})) where
       (λ m. text_of
       (picture_of_diagnostic_view plain (λ i j. true) (only_file m source) (diagnostic_view d))) n
       ∙ ap
-      (λ m. text_of (picture_of_diagnostic_view plain (λ i j. true) (only_file named m) (diagnostic_view d))) s
+      (λ m. text_of (picture_of_diagnostic_view plain (λ i j. true) (only_file named m)
+      (diagnostic_view d))) s
 
   -- the same of a call that returns a text, by a configuration equal to the default one in a style
   pub rendered_result : {T : Type 0} (style : DisplayStyle) (text : T → List ℕ)

@@ -1,11 +1,11 @@
 -- For the clauses of `lines::first_line` and `lines::without_carriage_return`, and for both laws: a
 -- text, cut into lines, and a line that is cut.
-use Rattle.std.proofs.Common.{◌≡◌, ◌≢◌, ℕ, ◌+◌, ◌-◌, ◌<◌, ◌≤◌, ◌==◌, true, false, List, [], ◌∷◌, ◌++◌, length, get_or, take, drop, refl, sym, ap, ◌∙◌, arith, if◌then◌else◌}
-use Rattle.std.specs.List.{slice_split}
+use Rattle.codespan_core.proofs.Std.{◌≡◌, ◌≢◌, ℕ, ◌+◌, ◌-◌, ◌<◌, ◌≤◌, ◌==◌, true, false, List, []}
+use Rattle.codespan_core.proofs.Std.{◌∷◌, ◌++◌, length, get_or, take, drop, refl, sym, ap, ◌∙◌}
+use Rattle.codespan_core.proofs.Std.{arith, if◌then◌else◌, slice_split, nat_tests, common_steps}
+use Rattle.codespan_core.proofs.Std.{drop-drop, take_all, take_more, length-append}
 use Rattle.std.specs.Str.Lines.{strip_carriage_return}
-use Rattle.std.proofs.lemmas.Bool.Decides.{nat_tests}
-use Rattle.std.proofs.lemmas.Grind.{common_steps}
-use Rattle.std.proofs.lemmas.List.{drop-drop, drop_at, take_at, take_all, take_more, get_or_push, length-append, length_push}
+use Rattle.std.proofs.lemmas.List.{drop_at, take_at, get_or_push, length_push}
 use Rattle.std.proofs.lemmas.List.Splits.{length-slice_split}
 use Rattle.report.specs.ScriptLines.{is_newline, script_lines_from}
 

@@ -1,19 +1,27 @@
 -- For the clause of `laws::scripts_read_back`: the lines of a script that is written out from its
 -- statements.
-use Rattle.std.proofs.Common.{◌≡◌, ◌≢◌, ℕ, suc, zero, ◌+◌, ◌-◌, ◌^◌, ◌<◌, true, false, List, [], ◌∷◌, ◌++◌, length, get_or, take, drop, Option, Some, None, IfSome, codes, bytes_eq, ltb, refl, sym, ap, ◌∙◌, arith, if◌then◌else◌, append_assoc, append-nil, eq-eqb, ne_eqb, length-append, take_all, take_at, All, decimal}
-use Rattle.std.specs.List.{AllByRecursion, list_all, position_or_len, slice_split}
+use Rattle.codespan_core.proofs.Std.{◌≡◌, ◌≢◌, ℕ, suc, zero, ◌+◌, ◌-◌, ◌^◌, ◌<◌, true, false, List}
+use Rattle.codespan_core.proofs.Std.{[], ◌∷◌, ◌++◌, length, get_or, take, drop, Option, Some, None}
+use Rattle.codespan_core.proofs.Std.{IfSome, codes, bytes_eq, ltb, refl, sym, ap, ◌∙◌, arith}
+use Rattle.codespan_core.proofs.Std.{if◌then◌else◌, append_assoc, append-nil, eq-eqb, ne_eqb}
+use Rattle.codespan_core.proofs.Std.{length-append, take_all, All, decimal, AllByRecursion}
+use Rattle.codespan_core.proofs.Std.{position_or_len, slice_split, and_parts, ltb-true, drop_all}
+use Rattle.std.proofs.Common.{take_at}
+use Rattle.std.specs.List.{list_all}
 use Rattle.std.specs.Str.Lines.{strip_carriage_return}
 use Rattle.std.specs.declared.ops.Range.{Range}
-use Rattle.std.proofs.lemmas.Bool.{and_parts, ltb-true}
-use Rattle.std.proofs.lemmas.List.{drop_all, get_or_append_left, get_or_at}
+use Rattle.std.proofs.lemmas.List.{get_or_append_left, get_or_at}
 use Rattle.std.proofs.lemmas.List.Sums.{position_or_len_is}
-use Rattle.codespan_core.specs.declared.diagnostic.LabelStyle.TheVariants.{Primary, Secondary}
-use Rattle.codespan_core.specs.declared.diagnostic.Severity.{Severity}
-use Rattle.codespan_core.specs.declared.diagnostic.Severity.TheVariants.{Bug, Error, Warning, Note, Help}
+use Rattle.codespan_core.specs.declared.diagnostic.Severity.TheVariants.{Bug, Error, Warning, Note}
+use Rattle.codespan_core.specs.declared.diagnostic.Severity.TheVariants.{Help}
+use Rattle.codespan_picture.specs.Types.{Primary, Secondary, Severity}
 use Rattle.program_io.specs.Fields.{field_of, is_space, past_space}
-use Rattle.report.specs.Statements.{IsLineSuffix, IsStatable, Statement, joined_fields, label_fields, severity_name, statement_line, written_script}
-use Rattle.report.specs.Statements.Statement.{SeverityLine, CodeLine, MessageLine, LabelLine, NoteLine, CommentLine, EmptyLine}
-use Rattle.report.specs.ScriptLines.{ScriptLineView, body, is_newline, script_lines_from, script_source}
+use Rattle.report.specs.Statements.{IsLineSuffix, IsStatable, Statement, joined_fields}
+use Rattle.report.specs.Statements.{label_fields, severity_name, statement_line, written_script}
+use Rattle.report.specs.Statements.Statement.{SeverityLine, CodeLine, MessageLine, LabelLine}
+use Rattle.report.specs.Statements.Statement.{NoteLine, CommentLine, EmptyLine}
+use Rattle.report.specs.ScriptLines.{ScriptLineView, body, is_newline, script_lines_from}
+use Rattle.report.specs.ScriptLines.{script_source}
 use Rattle.report.proofs.Numbers.{digits_of_decimal}
 use Rattle.report.proofs.ScriptCuts.{Lacks, past_one, left_after, line_then, pieces_at, some_piece}
 
@@ -189,7 +197,8 @@ first_line start s ss source can =
     let pieces : List (List ℕ) = slice_split is_newline (written_script ss source) in
     let lacks : Lacks 10 (statement_line s) = λ i below. (line_ends s can).no_newline i 0 below in
     ap (λ text. script_lines_from start (slice_split is_newline text)) (written_after s ss source)
-    ∙ ap (script_lines_from start) (pieces_at 10 (statement_line s) (written_script ss source) lacks)
+    ∙ ap (script_lines_from start)
+    (pieces_at 10 (statement_line s) (written_script ss source) lacks)
     ∙ line_then start (statement_line s) pieces (some_piece is_newline (written_script ss source))
     ∙ ap
     (λ text. record { start = start; text = text; next = start + length (statement_line s) + 1 }

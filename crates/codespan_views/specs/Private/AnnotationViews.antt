@@ -5,15 +5,15 @@ use Rattle.codespan_core.specs.FileModel.{FileModel}
 use Rattle.codespan_core.specs.LawfulFiles.{IsLineRange}
 use Rattle.codespan_core.specs.Labels.{LabelModel, MultiLabel, Top, Left, Bottom, from_line_start}
 use Rattle.codespan_picture.specs.OutputStreams.{label_of}
-use Rattle.codespan_views.specs.declared.annotation.Annotation.{Annotation as RustAnnotation}
+use Rattle.codespan_views.specs.Private.Types.{RustAnnotation}
 use Rattle.codespan_views.specs.declared.annotation.MultiLabelKind.{MultiLabelKind}
-use Rattle.codespan_views.specs.declared.annotation.MultiLabelKind.TheVariants as label_kind
 use Rattle.codespan_views.specs.declared.annotation.AnnotationKind.{AnnotationKind as RustKind}
-use Rattle.codespan_views.specs.declared.annotation.AnnotationKind.TheVariants as rust
 use Rattle.codespan_views.specs.declared.annotation.LineInfo.{LineInfo}
 use Rattle.codespan_views.specs.Private.Annotations.{Annotation, AnnotationKind, Shown, Single}
 use Rattle.codespan_views.specs.Private.Annotations.{Multi}
 use Rattle.codespan_views.specs.Private.FileIndices.{IsIdAt}
+use Rattle.codespan_views.specs.declared.annotation.MultiLabelKind.TheVariants as label_kind
+use Rattle.codespan_views.specs.declared.annotation.AnnotationKind.TheVariants as rust
 
 -- the multi-line label mark of this kind, on a line that starts at this byte index
 abbrev pub multi_label_from : ℕ → LabelModel → MultiLabelKind → MultiLabel

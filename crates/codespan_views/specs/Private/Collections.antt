@@ -2,10 +2,10 @@
 use Rattle.std.specs.Prelude.{◌≡◌, List, fold, map, max}
 use Rattle.std.specs.List.{AllByRecursion}
 use Rattle.std.specs.List.Sorted.{IsPermutation, IsSortedBy}
-use Rattle.codespan_picture.specs.Types.{Config}
 use Rattle.codespan_core.specs.FileModel.{FileDatabase, FileModel}
+use Rattle.codespan_picture.specs.Types.{Config}
 use Rattle.codespan_picture.specs.Snippets.{LabelInFile, file_ids}
-use Rattle.codespan_views.specs.declared.collected.Collected.{Collected}
+use Rattle.codespan_views.specs.Private.Types.{Collected}
 use Rattle.codespan_views.specs.Private.Annotations.{is_before}
 use Rattle.codespan_views.specs.Private.AnnotationViews.{IsOfFiles, annotation_view}
 use Rattle.codespan_views.specs.Private.LabeledFiles.{AreLabeledFiles, ids_view}

@@ -1,6 +1,6 @@
 -- What is looked up before the header, labels aside: the numbers of filled lines, and loci.
-use Rattle.std.specs.Prelude.{◌≡◌, ℕ, ◌+◌, List, [], ◌∷◌, ◌++◌, Option}
-use Rattle.std.specs.Prelude.{filter, flat_map, fold, map, max}
+use Rattle.std.specs.Prelude.{◌≡◌, ℕ, ◌+◌, List, [], ◌∷◌, ◌++◌, Option, filter, flat_map, fold, map}
+use Rattle.std.specs.Prelude.{max}
 use Rattle.std.specs.List.{AllByRecursion}
 use Rattle.codespan_core.specs.FileModel.{FileDatabase, FileModel, Lookup}
 use Rattle.codespan_picture.specs.Types.{Config, Error, Layout, Classic, Unbroken}
@@ -8,16 +8,15 @@ use Rattle.codespan_picture.specs.Lookups.{Failures, filled_lines, first_error, 
 use Rattle.codespan_picture.specs.Padding.{count_digits, padding_of}
 use Rattle.codespan_picture.specs.Snippets.{LabelInFile, file_ids, labeled_file_model}
 use Rattle.codespan_picture.specs.Snippets.{labeled_file_models}
-use Rattle.codespan_views.specs.declared.collected.Collected.{Collected}
-use Rattle.codespan_views.specs.declared.labeled_files.LabeledFile.{LabeledFile as RustFile}
+use Rattle.codespan_views.specs.Private.Types.{Collected, RustFile}
 use Rattle.codespan_views.specs.Private.Annotations.{Annotation, is_of_file}
 use Rattle.codespan_views.specs.Private.AnnotationViews.{annotation_view}
 use Rattle.codespan_views.specs.Private.Collections.{IsCollected}
 use Rattle.codespan_views.specs.Private.FilledLines.{number_lookups}
 use Rattle.codespan_views.specs.Private.LabeledFiles.{ids_view, without_locus}
 use Rattle.codespan_views.specs.Private.Loci.{HasLocus, locus_lookups_of_files}
-use Rattle.codespan_views.specs.Private.SnippetLines.{SnippetLine, drawn_lines_of}
-use Rattle.codespan_views.specs.Private.SnippetLines.{filled_lines_of, lines_of}
+use Rattle.codespan_views.specs.Private.SnippetLines.{SnippetLine, drawn_lines_of, filled_lines_of}
+use Rattle.codespan_views.specs.Private.SnippetLines.{lines_of}
 
 -- ---- lines of files
 
@@ -103,7 +102,7 @@ known_numbers_of_labels config database xs ids =
 
 -- this was collected of these labels, and the loci of its files, the numbers and the padding width
 -- have been looked up
-pub record IsLookedUp {Id : Type 0} (database : FileDatabase Id) (config : Config)
+pub record IsLookedUpEarly {Id : Type 0} (database : FileDatabase Id) (config : Config)
     (xs : List (LabelInFile Id)) (numbers : List ℕ) (collected : Collected Id) : Type 0 where
   pub collected_is : IsCollected database config xs collected
   pub loci : AllByRecursion (HasLocus database.file) collected.files.items

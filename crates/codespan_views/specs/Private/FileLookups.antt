@@ -1,7 +1,7 @@
 -- Lookups of one file.
 use Rattle.std.specs.Prelude.{List, Option, ◌≡◌, ◌≢◌, Some, None, Result, MatchResult}
-use Rattle.codespan_picture.specs.Types.{Error, FormatError, OutOfMemory}
 use Rattle.codespan_core.specs.FileModel.{Lookup}
+use Rattle.codespan_picture.specs.Types.{Error, FormatError, OutOfMemory}
 use Rattle.codespan_picture.specs.Lookups.{Failures, lookups_of_file, first_error}
 
 -- the error of the first of these lookups of a file that fails

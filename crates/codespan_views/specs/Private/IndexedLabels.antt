@@ -1,11 +1,11 @@
 -- The labels of a diagnostic among each other: their indices and their lanes.
 use Rattle.std.specs.Prelude.{Bool, List, [], ◌∷◌, ◌++◌, length}
-use Rattle.codespan_picture.specs.Types.{Config}
 use Rattle.codespan_core.specs.FileModel.{FileModel}
-use Rattle.codespan_views.specs.Private.Annotations.{Annotation}
-use Rattle.codespan_views.specs.Private.LabelAnnotations.{annotations_of}
+use Rattle.codespan_picture.specs.Types.{Config}
 use Rattle.codespan_picture.specs.Snippets.{LabelInFile, file_ids, labeled_file_model}
 use Rattle.codespan_picture.specs.Snippets.{num_multi_labels}
+use Rattle.codespan_views.specs.Private.Annotations.{Annotation}
+use Rattle.codespan_views.specs.Private.LabelAnnotations.{annotations_of}
 use Rattle.codespan_views.specs.Private.FileIndices.{index_of_file}
 
 module _ {Id : Type 0} (same : Id → Id → Bool) (file : Id → FileModel) where

@@ -2,12 +2,11 @@
 use Rattle.std.specs.Prelude.{ℕ, ◌==◌, ◌&&◌, List, [], ◌++◌, flat_map, Option, Some, None}
 use Rattle.std.specs.Prelude.{if◌then◌else◌}
 use Rattle.std.specs.Option.{option_map}
-use Rattle.codespan_picture.specs.Types.{Config}
 use Rattle.codespan_core.specs.FileModel.{FileModel, Lookup}
 use Rattle.codespan_core.specs.Labels.{LabelModel, MultiLabel, first_line, last_line, is_single}
-use Rattle.codespan_core.specs.Labels.{drawn_label}
-use Rattle.codespan_core.specs.Labels.{lane_mark_of, multi_label_on, from_line_start}
+use Rattle.codespan_core.specs.Labels.{drawn_label, lane_mark_of, multi_label_on, from_line_start}
 use Rattle.codespan_core.specs.Labels.{multi_label_at}
+use Rattle.codespan_picture.specs.Types.{Config}
 use Rattle.codespan_picture.specs.Lines.{shows}
 use Rattle.codespan_picture.specs.Lookups.{looked_up_lines, is_looked_up, line_lookups}
 use Rattle.codespan_views.specs.Private.Annotations.{Annotation, AnnotationKind, Shown, Single}

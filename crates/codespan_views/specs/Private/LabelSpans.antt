@@ -1,7 +1,7 @@
 -- The lines on which a label starts and ends.
 use Rattle.std.specs.Prelude.{ℕ, ◌+◌, ◌<◌, Bool, ◌&&◌, ◌||◌, ◌==◌, nat_le, [], ◌∷◌, Option}
-use Rattle.codespan_picture.specs.Types.{Label, Error, Config}
 use Rattle.codespan_core.specs.FileModel.Lookup.{LineIndex}
+use Rattle.codespan_picture.specs.Types.{Label, Error, Config}
 use Rattle.codespan_picture.specs.Lookups.{Failures}
 use Rattle.codespan_views.specs.Private.FileLookups.{failure_in}
 

@@ -5,9 +5,7 @@ use Rattle.codespan_core.specs.FileModel.{FileModel}
 use Rattle.codespan_picture.specs.Arguments.{locus_view}
 use Rattle.codespan_picture.specs.Rows.{Locus}
 use Rattle.codespan_picture.specs.Snippets.{LabelInFile, labeled_file_model, num_multi_labels}
-use Rattle.codespan_views.specs.declared.labeled_files.LabeledFile.{LabeledFile as RustFile}
-use Rattle.codespan_views.specs.declared.label_span.LabelSpan.{LabelSpan}
-use Rattle.codespan_views.specs.declared.labeled_files.LeastStarts.{LeastStarts}
+use Rattle.codespan_views.specs.Private.Types.{RustFile, LabelSpan, LeastStarts}
 use Rattle.codespan_views.specs.Private.LocusBytes.{file_least_starts}
 
 -- ---- all files

@@ -1,16 +1,16 @@
 -- Labels whose lines are looked up, one after another.
 use Rattle.std.specs.Prelude.{◌≡◌, ℕ, ◌<◌, Bool, true, false, List, ◌++◌, flat_map, fold, max}
 use Rattle.std.specs.Prelude.{Option, IfOk, Result}
-use Rattle.codespan_picture.specs.Types.{Error, Config}
 use Rattle.codespan_core.specs.FileModel.{FileDatabase, FileModel, line_count, Lookup}
 use Rattle.codespan_core.specs.Labels.{LabelModel, first_line, last_line}
+use Rattle.codespan_picture.specs.Types.{Error, Config}
 use Rattle.codespan_picture.specs.Lookups.{Failures, looked_up_lines, lookups_of_file, first_error}
 use Rattle.codespan_picture.specs.Lookups.{is_looked_up, label_lookups, label_line_lookups}
 use Rattle.codespan_picture.specs.Lookups.{line_lookups, lookup_past_end}
 use Rattle.codespan_picture.specs.OutputStreams.{label_of}
 use Rattle.codespan_picture.specs.Snippets.{LabelInFile}
 use Rattle.codespan_picture.specs.declared.padding.PaddingWidth.{PaddingWidth}
-use Rattle.codespan_views.specs.declared.annotation.Annotation.{Annotation as RustAnnotation}
+use Rattle.codespan_views.specs.Private.Types.{RustAnnotation}
 use Rattle.codespan_views.specs.declared.label_annotations.LabelCollector.{LabelCollector}
 use Rattle.codespan_views.specs.Private.LabelAnnotations.{annotations_of, line_annotations}
 use Rattle.codespan_views.specs.Private.LabelAnnotations.{annotations_if_looked_up}

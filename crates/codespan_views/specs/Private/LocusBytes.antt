@@ -3,7 +3,7 @@ use Rattle.std.specs.Prelude.{ℕ, Bool, true, false, not, ◌&&◌, ◌||◌, m
 use Rattle.std.specs.Prelude.{filter, fold, if◌then◌else◌, Option, Some, None, unwrap_or}
 use Rattle.codespan_core.specs.Labels.{LabelModel, is_primary}
 use Rattle.codespan_picture.specs.Snippets.{LabelInFile}
-use Rattle.codespan_views.specs.declared.labeled_files.LeastStarts.{LeastStarts}
+use Rattle.codespan_views.specs.Private.Types.{LeastStarts}
 
 -- the least of some numbers, if there is one
 abbrev pub least_if_any : List ℕ → Option ℕ

@@ -1,9 +1,9 @@
 -- Rendering with lookups on the way.
 use Rattle.std.specs.Prelude.{◌≡◌, ◌≢◌, ◌⊎◌, true, Option, Some, None, MatchResult, Result}
-use Rattle.codespan_picture.specs.Types.{Error, OutOfMemory}
 use Rattle.codespan_core.specs.Errors.{IsIo}
 use Rattle.codespan_core.specs.Streams.{Stream}
 use Rattle.codespan_core.specs.WriterLaw.{Sink, Writes, is_known, PrefixWritten}
+use Rattle.codespan_picture.specs.Types.{Error, OutOfMemory}
 
 -- a lookup or an allocation failed after a prefix of the stream
 pub record FailedWithLookups (failure : Option Error) (old : Sink) (items : Stream) (error : Error)

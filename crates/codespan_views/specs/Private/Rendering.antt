@@ -2,8 +2,8 @@
 -- to its row writer. The rows of a snippet but for its lines.
 use Rattle.std.specs.Prelude.{ℕ, List, [], ◌∷◌, Result, IfErr}
 use Rattle.codespan_core.specs.Errors.{IsIo}
-use Rattle.codespan_picture.specs.Types.{Severity, Error}
 use Rattle.codespan_core.specs.WriterLaw.{Sink, Writes}
+use Rattle.codespan_picture.specs.Types.{Severity, Error}
 use Rattle.codespan_picture.specs.declared.rows.line.RowContext.{RowContext}
 use Rattle.codespan_picture.specs.Private.LineViews.{context_view}
 use Rattle.codespan_picture.specs.OutputStreams.{context_of}

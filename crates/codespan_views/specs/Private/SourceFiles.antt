@@ -1,9 +1,9 @@
 -- A file of an output, as the code has it.
 use Rattle.std.specs.Prelude.{◌≡◌, ◌≤◌, ℕ, true, nat_lt, ◌&&◌, List, Option, None, if◌then◌else◌}
 use Rattle.std.specs.Prelude.{[], ◌∷◌, Some}
-use Rattle.codespan_picture.specs.Types.{Error}
 use Rattle.codespan_core.specs.FileModel.{FileDatabase, FileModel, line_count, Lookup, or_failure}
 use Rattle.codespan_core.specs.FileModel.Lookup.{LineRange, LineNumber}
+use Rattle.codespan_picture.specs.Types.{Error}
 use Rattle.codespan_picture.specs.Lookups.{ends_context_lines}
 use Rattle.codespan_views.specs.declared.source_file.SourceFile.{SourceFile}
 use Rattle.codespan_views.specs.Private.FileLookups.{failure_in}

@@ -1,15 +1,15 @@
 -- What the views render by a renderer.
 use Rattle.std.specs.Prelude.{List, [], ◌∷◌, ◌++◌, Option, Result}
-use Rattle.codespan_picture.specs.Types.{Diagnostic, Error, Config}
 use Rattle.codespan_core.specs.FileModel.{FileDatabase}
 use Rattle.codespan_core.specs.Streams.{Stream, newline}
 use Rattle.codespan_core.specs.WriterLaw.{Sink}
+use Rattle.codespan_picture.specs.Types.{Diagnostic, Error, Config}
 use Rattle.codespan_picture.specs.Lookups.{first_error, late_lookups}
 use Rattle.codespan_picture.specs.OutputStreams.{header_text_of, labels_of, context_of, notes_of}
 use Rattle.codespan_picture.specs.Snippets.{snippets, has_any, labeled_file_models, note_rows}
 use Rattle.codespan_picture.specs.Rows.{FinalRow, Locus, Row}
 use Rattle.codespan_picture.specs.RowStreams.{header_row, stream_of_rows}
-use Rattle.codespan_views.specs.declared.collected.Collected.{Collected}
+use Rattle.codespan_views.specs.Private.Types.{Collected}
 use Rattle.codespan_views.specs.Private.LabeledFiles.{loci_view}
 use Rattle.codespan_views.specs.Private.LookupsWhileRendering.{WritesWithLookups}
 

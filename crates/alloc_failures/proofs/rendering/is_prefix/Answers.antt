@@ -8,7 +8,8 @@ pub returns : goal.returns
 returns c t =
     search (
       rules,
-      (starts_is Decides-eqb c.as_bytes.result.now c.args.bytes.now _ c.starts_with.ensures.value).0,
+      (starts_is Decides-eqb c.as_bytes.result.now c.args.bytes.now _
+          c.starts_with.ensures.value).0,
       c.as_bytes.ensures.value,
       t,
     )

@@ -1,6 +1,7 @@
-use Rattle.std.proofs.Common.{refl}
+use Rattle.codespan_core.proofs.Std.{refl}
 use Rattle.codespan_core.specs.declared.diagnostic.Severity.{Severity}
-use Rattle.codespan_core.specs.declared.diagnostic.Severity.TheVariants.{Help, Note, Warning, Error, Bug}
+use Rattle.codespan_core.specs.declared.diagnostic.Severity.TheVariants.{Help, Note, Warning, Error}
+use Rattle.codespan_core.specs.declared.diagnostic.Severity.TheVariants.{Bug}
 use Rattle.codespan_core.proofs.laws.severities_agree.Goals as goal
 
 -- what holds of the five severities holds of each severity

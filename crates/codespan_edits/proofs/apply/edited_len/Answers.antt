@@ -1,4 +1,4 @@
-use Rattle.std.proofs.Common.{◌+◌, length, drop, get_or, ap, ◌∙◌}
+use Rattle.codespan_core.proofs.Std.{◌+◌, length, drop, get_or, ap, ◌∙◌}
 use Rattle.codespan_edits.specs.Edits.{text_edits, edited_from}
 use Rattle.codespan_edits.specs.Private.Places.{edits_at, replacement_at}
 use Rattle.codespan_edits.specs.declared.order.Place.{Place}

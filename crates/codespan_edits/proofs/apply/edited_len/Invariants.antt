@@ -1,4 +1,4 @@
-use Rattle.std.proofs.Common.{◌≡◌, ◌+◌, length, drop}
+use Rattle.codespan_core.proofs.Std.{◌≡◌, ◌+◌, length, drop}
 use Rattle.codespan_edits.specs.Edits.{text_edits, edited_from}
 use Rattle.codespan_edits.specs.Private.Places.{edits_at, FitFrom}
 use Rattle.codespan_edits.proofs.apply.edited_len.Given as goal

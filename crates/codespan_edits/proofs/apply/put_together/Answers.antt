@@ -1,5 +1,4 @@
-use Rattle.std.proofs.Common.{◌≡◌, ◌+◌, drop, get_or, ◌∙◌}
-use Rattle.std.specs.Prelude.{string_bytes, slice_range}
+use Rattle.codespan_core.proofs.Std.{◌≡◌, ◌+◌, drop, get_or, ◌∙◌, string_bytes, slice_range}
 use Rattle.codespan_edits.specs.Edits.{text_edits, edited_from}
 use Rattle.codespan_edits.specs.Private.Places.{edits_at, replacement_at}
 use Rattle.codespan_edits.specs.declared.order.Place.{Place}

@@ -1,6 +1,4 @@
-use Rattle.std.proofs.Common.{◌≡◌, ◌++◌, ◌<◌, drop}
-use Rattle.std.specs.Prelude.{string_bytes}
-use Rattle.std.specs.Str.{IsCharBoundary}
+use Rattle.codespan_core.proofs.Std.{◌≡◌, ◌++◌, ◌<◌, drop, string_bytes, IsCharBoundary}
 use Rattle.codespan_edits.specs.Edits.{text_edits, edited_from}
 use Rattle.codespan_edits.specs.Private.Places.{edits_at, FitFrom}
 use Rattle.codespan_edits.proofs.apply.put_together.Given as goal

@@ -1,4 +1,4 @@
-use Rattle.std.proofs.Common.{sym, ◌∙◌}
+use Rattle.codespan_core.proofs.Std.{sym, ◌∙◌}
 use Rattle.codespan_edits.proofs.FaultLemmas.{neighbor-here, neighbor-more, neighbor-end}
 use Rattle.codespan_edits.proofs.order.check_neighbors.Goals as goal
 

@@ -1,4 +1,4 @@
-use Rattle.std.proofs.Common.{◌≡◌, ◌-◌, List, drop}
+use Rattle.codespan_core.proofs.Std.{◌≡◌, ◌-◌, List, drop}
 use Rattle.codespan_edits.specs.Edits.{TextEdit}
 use Rattle.codespan_edits.specs.Faults.{neighbor_fault}
 use Rattle.codespan_edits.specs.Private.Places.{edits_at}

@@ -1,6 +1,5 @@
-use Rattle.std.proofs.Common.{Err, ap, sym, ◌∙◌}
+use Rattle.codespan_core.proofs.Std.{Err, ap, sym, ◌∙◌, err_from_is_err_and}
 use Rattle.std.specs.Result.{result_err}
-use Rattle.std.proofs.lemmas.Result.{err_from_is_err_and}
 use Rattle.codespan_edits.proofs.FaultLemmas.{first-more, first-here}
 use Rattle.codespan_edits.proofs.order.check_ranges.Goals as goal
 

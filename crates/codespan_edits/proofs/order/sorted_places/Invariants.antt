@@ -1,4 +1,4 @@
-use Rattle.std.proofs.Common.{◌≡◌, ◌++◌, drop}
+use Rattle.codespan_core.proofs.Std.{◌≡◌, ◌++◌, drop}
 use Rattle.codespan_edits.specs.Edits.{text_edits, listed, listed_from}
 use Rattle.codespan_edits.specs.Private.Places.{edits_at}
 use Rattle.codespan_edits.proofs.order.sorted_places.Given as goal

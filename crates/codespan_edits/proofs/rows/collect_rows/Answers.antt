@@ -1,14 +1,11 @@
-use Rattle.std.proofs.Common.{[], append-nil, ◌≤◌, ◌≡◌, ◌+◌, ◌++◌, ◌∷◌}
-use Rattle.std.proofs.Common.{length, drop, get_or, map, sym, ap, ◌∙◌, refl}
-use Rattle.std.specs.Prelude.{slice_range}
+use Rattle.codespan_core.proofs.Std.{[], append-nil, ◌≤◌, ◌≡◌, ◌+◌, ◌++◌, ◌∷◌, length, drop, get_or}
+use Rattle.codespan_core.proofs.Std.{map, sym, ap, ◌∙◌, refl, slice_range, flat_map, drop_all}
+use Rattle.codespan_core.proofs.Std.{length-map, IfOk-weaker}
 use Rattle.codespan_edits.specs.Edits.{text_edits}
 use Rattle.codespan_edits.specs.Private.Places.{edits_at, replacement_at}
 use Rattle.codespan_edits.specs.Private.Differs.{all_rows, rows_view}
 use Rattle.codespan_edits.specs.Diffs.{Change, kept, lines, pieces_from, block_rows, blocks_from}
 use Rattle.codespan_edits.specs.Diffs.{no_change}
-use Rattle.std.specs.List.{flat_map}
-use Rattle.std.proofs.lemmas.List.{drop_all, length-map}
-use Rattle.std.proofs.lemmas.Result.{IfOk-weaker}
 use Rattle.codespan_edits.specs.declared.order.Place.{Place}
 use Rattle.codespan_edits.proofs.PartLemmas.{fit-here, replacement-is}
 use Rattle.codespan_edits.proofs.FaultLemmas.{at_place}

@@ -1,6 +1,4 @@
-use Rattle.std.proofs.Common.{◌≡◌, ◌<◌, drop}
-use Rattle.std.specs.List.{flat_map}
-use Rattle.std.specs.Str.{IsCharBoundary}
+use Rattle.codespan_core.proofs.Std.{◌≡◌, ◌<◌, drop, flat_map, IsCharBoundary}
 use Rattle.codespan_edits.specs.Edits.{text_edits}
 use Rattle.codespan_edits.specs.Diffs.{pieces_from, block_rows, blocks_from, no_change}
 use Rattle.codespan_edits.specs.Private.Places.{edits_at, FitFrom}

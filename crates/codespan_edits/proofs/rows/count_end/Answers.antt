@@ -1,5 +1,5 @@
-use Rattle.std.proofs.Common.{◌≡◌, ◌∙◌, arith, map, reverse}
-use Rattle.std.proofs.lemmas.List.{length-reverse, length-map}
+use Rattle.codespan_core.proofs.Std.{◌≡◌, ◌∙◌, arith, map, reverse, length-map}
+use Rattle.std.proofs.lemmas.List.{length-reverse}
 use Rattle.codespan_edits.proofs.DiffLoops.{line-from_end, start-more, start-here, start-end}
 use Rattle.codespan_edits.proofs.rows.count_end.Goals as goal
 

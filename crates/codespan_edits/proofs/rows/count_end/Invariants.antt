@@ -1,4 +1,4 @@
-use Rattle.std.proofs.Common.{◌≡◌, ◌+◌, drop, map, reverse}
+use Rattle.codespan_core.proofs.Std.{◌≡◌, ◌+◌, drop, map, reverse}
 use Rattle.codespan_edits.specs.Diffs.{common_start}
 use Rattle.codespan_edits.proofs.rows.count_end.Given as goal
 

@@ -1,5 +1,4 @@
-use Rattle.std.proofs.Common.{◌≡◌, ◌∙◌, arith, map}
-use Rattle.std.proofs.lemmas.List.{get_or-map, length-map}
+use Rattle.codespan_core.proofs.Std.{◌≡◌, ◌∙◌, arith, map, get_or-map, length-map}
 use Rattle.codespan_edits.proofs.DiffLoops.{start-more, start-here, start-end}
 use Rattle.codespan_edits.proofs.rows.count_start.Goals as goal
 

@@ -1,4 +1,4 @@
-use Rattle.std.proofs.Common.{length, arith}
+use Rattle.codespan_core.proofs.Std.{length, arith}
 use Rattle.std.proofs.Math.ListN.{length-map}
 use Rattle.codespan_edits.specs.Edits.{text_edits}
 use Rattle.codespan_edits.proofs.FitLemmas.{fit-in_order, places-listed}

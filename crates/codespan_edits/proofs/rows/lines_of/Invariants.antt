@@ -1,6 +1,5 @@
-use Rattle.std.proofs.Common.{◌≡◌, ◌≢◌, ◌++◌, ◌+◌, ◌<◌, ◌≤◌, ℕ}
-use Rattle.std.proofs.Common.{drop, map, get_or}
-use Rattle.std.specs.Str.{IsCharBoundary}
+use Rattle.codespan_core.proofs.Std.{◌≡◌, ◌≢◌, ◌++◌, ◌+◌, ◌<◌, ◌≤◌, ℕ, drop, map, get_or}
+use Rattle.codespan_core.proofs.Std.{IsCharBoundary}
 use Rattle.codespan_edits.specs.Diffs.{lines}
 use Rattle.codespan_edits.proofs.rows.lines_of.Given as goal
 

@@ -1,5 +1,4 @@
-use Rattle.std.proofs.Common.{◌-◌, length, take, drop}
-use Rattle.std.proofs.lemmas.List.{take_rest}
+use Rattle.codespan_core.proofs.Std.{◌-◌, length, take, drop, take_rest}
 use Rattle.codespan_edits.specs.Private.Differs.{rows_view}
 use Rattle.codespan_edits.proofs.DiffBlocks.{block-shown, rest-slice}
 use Rattle.codespan_edits.proofs.rows.push_block.Goals as goal

@@ -1,4 +1,4 @@
-use Rattle.std.proofs.Common.{◌≡◌, ◌++◌, drop, map}
+use Rattle.codespan_core.proofs.Std.{◌≡◌, ◌++◌, drop, map}
 use Rattle.codespan_edits.specs.Diffs.{rows_with}
 use Rattle.codespan_edits.specs.Private.Differs.{rows_view}
 use Rattle.codespan_edits.proofs.rows.push_rows.Given as goal

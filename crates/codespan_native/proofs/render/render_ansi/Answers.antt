@@ -2,8 +2,8 @@ use Rattle.std.proofs.Common.{◌∙◌, ◌++◌, ap, refl, ℕ, List, Vec, Glo
 use Rattle.codespan_base.specs.declared.term.config.ansi.Ansi.{Ansi}
 use Rattle.codespan_base.specs.Streams.{spelled}
 use Rattle.codespan_base.specs.StyleWriters.{ansi_inner}
-use Rattle.codespan_native.proofs.Rendered.{fresh_known, text_after}
 use Rattle.codespan_base.specs.StyleSpellings.{ansi_spelling}
+use Rattle.codespan_native.proofs.Rendered.{fresh_known, text_after}
 use Rattle.codespan_native.specs.SourceModel.{native_file_views}
 use Rattle.codespan_native.specs.RenderedStreams.{stream_of_output}
 use Rattle.codespan_native.proofs.render.render_ansi.Goals as goal

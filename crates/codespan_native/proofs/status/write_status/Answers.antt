@@ -1,5 +1,6 @@
 use Rattle.std.proofs.Common.{ne_eqb}
-use Rattle.codespan_native.proofs.status.write_status.Goals.{then-status-eq-INVALID, else-status-eq-INVALID}
+use Rattle.codespan_native.proofs.status.write_status.Goals.{then-status-eq-INVALID}
+use Rattle.codespan_native.proofs.status.write_status.Goals.{else-status-eq-INVALID}
 use Rattle.codespan_native.proofs.status.write_status.Goals as goal
 
 -- the text is that of the argument, or that of the status

@@ -1,5 +1,7 @@
 use Rattle.codespan_native.proofs.FirstInvalid.{by_index, by_test}
-use Rattle.codespan_native.specs.Validity.{HasValidStyle, HasValidMessage, HasValidName, HasValidSource, HasValidLines, HasValidLocations, HasValidFile, IsValidText}
+use Rattle.codespan_native.specs.Validity.{HasValidStyle, HasValidMessage, HasValidName}
+use Rattle.codespan_native.specs.Validity.{HasValidSource, HasValidLines, HasValidLocations}
+use Rattle.codespan_native.specs.Validity.{HasValidFile, IsValidText}
 use Rattle.codespan_native.proofs.validate.invalid_index.Goals as goal
 
 pub returns-in-Character : goal.returns-in-Character

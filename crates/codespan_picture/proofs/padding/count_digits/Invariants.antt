@@ -1,4 +1,4 @@
-use Rattle.std.proofs.Common.{◌≡◌, ◌+◌, length, decimal}
+use Rattle.codespan_core.proofs.Std.{◌≡◌, ◌+◌, length, decimal}
 use Rattle.codespan_picture.proofs.padding.count_digits.Given as goal
 
 abbrev pub invariant-loop-rest : goal.invariant-loop-rest

@@ -3,7 +3,9 @@ use Rattle.std.specs.Prelude.{if◌then◌else◌}
 use Rattle.codespan_styled.specs.Glyphs.{cells_of, follows, joined_cells}
 use Rattle.codespan_styled.specs.Svg.{text_tag}
 use Rattle.codespan_styled.proofs.Glyphs.{glyph-written}
-use Rattle.codespan_styled.proofs.svg.push_glyph.Goals.{In_ok-push_character, then-not-follows+in_ok-push_tag, else-not-follows}
+use Rattle.codespan_styled.proofs.svg.push_glyph.Goals.{In_ok-push_character}
+use Rattle.codespan_styled.proofs.svg.push_glyph.Goals.{then-not-follows+in_ok-push_tag}
+use Rattle.codespan_styled.proofs.svg.push_glyph.Goals.{else-not-follows}
 use Rattle.codespan_styled.proofs.svg.push_glyph.Goals as goal
 
 -- the tag of the text that begins with the glyph, if one does
@@ -13,7 +15,13 @@ tagged : (c : In_ok-push_character) → string_bytes c.if-not-follows.document
     (cells_of c.args.glyph + joined_cells c.args.glyph c.args.others.now) c.args.glyph.ink)
 tagged c = elim c.if-not-follows.branch [
   | then-not-follows+in_ok-push_tag w ↦
-      rw (← c.follows.ensures, w.if-not-follows.true, ← w.cells.ensures.value, ← w.joined_cells.ensures.value)
+      rw (
+        ← c.follows.ensures,
+        w.if-not-follows.true,
+        ← w.cells.ensures.value,
+        ←
+            w.joined_cells.ensures.value,
+      )
       (ap string_bytes w.document-is ∙ w.in_ok-push_tag.ensures)
   | else-not-follows w ↦ rw (← c.follows.ensures, w.if-not-follows.false)
       (ap string_bytes w.document-is ∙ sym (append-nil _))

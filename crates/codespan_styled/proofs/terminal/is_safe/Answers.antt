@@ -2,7 +2,8 @@ use Rattle.std.proofs.Common.{◌≡◌, ℕ, Bool, true, false, not, ◌||◌, 
 use Rattle.std.specs.Char.{is_control}
 use Rattle.std.proofs.lemmas.Bool.{eq-eqb, ne_eqb, or_left}
 use Rattle.codespan_styled.specs.Terminal.{is_directional_control, is_safe}
-use Rattle.codespan_styled.proofs.terminal.is_safe.Goals.{then-c-eq9, else-c-eq9, then-is_control, else-is_control}
+use Rattle.codespan_styled.proofs.terminal.is_safe.Goals.{then-c-eq9, else-c-eq9, then-is_control}
+use Rattle.codespan_styled.proofs.terminal.is_safe.Goals.{else-is_control}
 use Rattle.codespan_styled.proofs.terminal.is_safe.Goals as goal
 
 -- the value of `||` by its first test

@@ -1,4 +1,4 @@
-use Rattle.std.proofs.Common.{arith, rules}
+use Rattle.codespan_core.proofs.Std.{arith, rules}
 use Rattle.codespan_views.proofs.FileLengths.{file-between}
 use Rattle.codespan_views.proofs.annotation.count_in_file.Goals as goal
 

@@ -1,6 +1,5 @@
-use Rattle.std.proofs.Common.{◌≡◌, ◌-◌, ◌≤◌, ℕ, List, drop, length, sym, arith}
-use Rattle.std.proofs.lemmas.Grind.{common_steps}
-use Rattle.std.proofs.lemmas.List.{drop-drop, length-drop}
+use Rattle.codespan_core.proofs.Std.{◌≡◌, ◌-◌, ◌≤◌, ℕ, List, drop, length, sym, arith, common_steps}
+use Rattle.codespan_core.proofs.Std.{drop-drop, length-drop}
 use Rattle.codespan_views.proofs.SnippetLineViews.{IsNextGroup, later-are, later-fewer}
 use Rattle.codespan_views.proofs.SnippetLineViews.{views_of-hidden}
 use Rattle.codespan_views.proofs.annotation.skip_hidden.Given.{Over}
@@ -23,4 +22,5 @@ next g c =
     }
 
 pub loop-first-preserved : goal.loop-first-preserved
-loop-first-preserved g c = grind (arith, common_steps, next, later-fewer, later-are, drop-fewer, views_of-hidden)
+loop-first-preserved g c = grind
+    (arith, common_steps, next, later-fewer, later-are, drop-fewer, views_of-hidden)

@@ -1,6 +1,5 @@
-use Rattle.std.proofs.Common.{◌≡◌, ◌-◌, ◌≤◌, drop, length, map}
-use Rattle.codespan_views.specs.Private.AnnotationViews.{annotation_view}
-use Rattle.codespan_views.specs.Private.FilledLines.{HasSameLines}
+use Rattle.codespan_core.proofs.Std.{◌≡◌, ◌-◌, ◌≤◌, drop, length, map}
+use Rattle.codespan_views.specs.Private.{annotation_view, HasSameLines}
 use Rattle.codespan_views.proofs.annotation.skip_hidden.Given as goal
 
 -- the annotations that are left are the later ones, and make the same lines

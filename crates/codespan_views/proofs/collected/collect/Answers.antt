@@ -1,15 +1,10 @@
-use contract.Lifetimes.{Lfts}
-use Rattle.std.proofs.lemmas.Grind.{common_steps}
-use Rattle.std.proofs.Common.{◌≡◌, ◌<◌, ◌≤◌, rules, ◌+◌, Err, length, get_or, map, sym, ap, ◌∙◌}
-use Rattle.std.proofs.Common.{subst, arith}
-use Rattle.std.proofs.lemmas.Result.{err_from_is_err_and}
-use Rattle.codespan_views.specs.declared.labeled_files.LabeledFile.{LabeledFile as RustFile}
-use Rattle.codespan_views.specs.Private.LabelsToCollect.{FindsLabelAnnotations}
-use Rattle.codespan_views.specs.Private.LabeledFiles.{ids_view, with_file, without_locus}
-use Rattle.codespan_views.specs.Private.LocusBytes.{no_starts}
+use Rattle.codespan_core.proofs.Std.{common_steps, ◌≡◌, ◌<◌, ◌≤◌, rules, ◌+◌, Err, length, get_or}
+use Rattle.codespan_core.proofs.Std.{map, sym, ap, ◌∙◌, subst, arith, err_from_is_err_and}
 use Rattle.codespan_picture.specs.OutputStreams.{label_of}
 use Rattle.codespan_picture.specs.Snippets.{file_ids}
-use Rattle.codespan_views.specs.Private.FileIndices.{index_of_file}
+use Rattle.codespan_views.specs.Private.{RustFile, FindsLabelAnnotations, ids_view, with_file}
+use Rattle.codespan_views.specs.Private.{without_locus, no_starts, index_of_file}
+use contract.Lifetimes.{Lfts}
 use Rattle.codespan_views.proofs.CollectedInOrder.{collected-in_order}
 use Rattle.codespan_views.proofs.FileIndices.{first_seen-differ}
 use Rattle.codespan_views.proofs.FilesInOrder.{ids-of_labels}
@@ -22,8 +17,8 @@ use Rattle.codespan_views.proofs.LabelsCollected.{collected-all, collected-more,
 use Rattle.codespan_views.proofs.LabelsCollected.{lane-bound, index-inside}
 use Rattle.codespan_views.proofs.collected.collect.Given.{Over}
 use Rattle.codespan_views.proofs.collected.collect.Goals.{After-index-labels-index}
-use Rattle.codespan_views.proofs.collected.collect.Goals.{In_ok-file_index}
-use Rattle.codespan_views.proofs.collected.collect.Goals.{After-index_mut, After-loop-index}
+use Rattle.codespan_views.proofs.collected.collect.Goals.{In_ok-file_index, After-index_mut}
+use Rattle.codespan_views.proofs.collected.collect.Goals.{After-loop-index}
 use Rattle.codespan_views.proofs.collected.collect.Goals as goal
 
 -- the files are lawful, and equal ids name one file
@@ -37,7 +32,8 @@ equal_ids : (g : Over) (κs : Lfts 8) → g.claim κs → (files : g.row.F.Denot
 equal_ids g κs claim files = (g.met.F.Files κs claim).same_is_eq files
 
 pub get_or_insert_file-requires : goal.get_or_insert_file-requires
-get_or_insert_file-requires g c = grind (arith, common_steps, are_files, equal_ids, ids-of_labels, first_seen-differ)
+get_or_insert_file-requires g c = grind
+    (arith, common_steps, are_files, equal_ids, ids-of_labels, first_seen-differ)
 
 -- it is the label's turn
 turn : (g : Over) (c : After-index-labels-index g)
@@ -52,16 +48,19 @@ indexed : (g : Over) (c : In_ok-file_index g)
     let index = c.loop-index.index in
     AreCollected (g.F.Files.database c.args.files.now) c.args.config.now
     (file_ids same (before labels (index + 1))) (before labels index)
-    c.get_or_insert_file.new.files.items c.loop-index.collected.annotations.items c.loop-index.collected.padding
+    c.get_or_insert_file.new.files.items c.loop-index.collected.annotations.items
+    c.loop-index.collected.padding
 indexed g c at =
     let lawful = are_files g c.lifetimes (search rules) c.args.files.now in
     file-indexed lawful at c.loop-index.invariant
     (subst
     (λ same. map without_locus c.get_or_insert_file.new.files.items
-    ≡ with_file same (ids_view c.loop-index.collected.files.items) c.index-labels-index.result.file_id
+    ≡ with_file same (ids_view c.loop-index.collected.files.items)
+    c.index-labels-index.result.file_id
     (map without_locus c.loop-index.collected.files.items)
     (c.index-labels-index.result.file_id, no_starts, 0))
-    (sym (equal_ids g c.lifetimes (search rules) c.args.files.now)) c.in_ok-file_index.ensures.files)
+    (sym (equal_ids g c.lifetimes (search rules) c.args.files.now))
+    c.in_ok-file_index.ensures.files)
 
 -- and its index is the one that was found
 found_there : (g : Over) (c : In_ok-file_index g)
@@ -77,7 +76,8 @@ returns-in_err-span-clause-failed g c =
     c.from_residual-in_err-span.ensures.1 in
     rw (p.1 ∙ ap Err p.2)
     (λ known. collected-failed lawful at c.loop-index.invariant _
-    (failure-ends (g.F.Files.database c.args.files.now) c.args.config.now c.index-labels-index.result
+    (failure-ends (g.F.Files.database c.args.files.now) c.args.config.now
+    c.index-labels-index.result
     (c.in_err-span.ensures.failed known)))
 
 -- its index is one of the files'
@@ -94,12 +94,14 @@ index-requires g c = grind (arith, common_steps, turn, index_inside)
 pub returns-in_err-collect_lines-clause-failed : goal.returns-in_err-collect_lines-clause-failed
 returns-in_err-collect_lines-clause-failed g c =
     let lawful = are_files g c.lifetimes (search rules) c.args.files.now in
-    let at = turn g (goal.at.returns-in_err-collect_lines-clause-failed g c).After-index-labels-index in
+    let at = turn g (goal.at.returns-in_err-collect_lines-clause-failed g
+    c).After-index-labels-index in
     let p = err_from_is_err_and c.from_residual-in_err-collect_lines.result
     c.from_residual-in_err-collect_lines.ensures.1 in
     rw (p.1 ∙ ap Err p.2)
     (λ known. collected-failed lawful at c.loop-index.invariant _
-    (failure-lines (g.F.Files.database c.args.files.now) c.args.config.now c.index-labels-index.result
+    (failure-lines (g.F.Files.database c.args.files.now) c.args.config.now
+    c.index-labels-index.result
     c.in_ok-file_index.file_index c.loop-index.index c.index.result.now.num_multi_labels
     c.in_ok-span.ensures.failed
     ∙ c.in_err-collect_lines.ensures.failed known))
@@ -177,8 +179,10 @@ returns-clause-collected g c =
 
 pub returns-clause-padding : goal.returns-clause-padding
 returns-clause-padding g c =
-    (all_done g (goal.at.returns-clause-padding g c).After-loop-index c.loop-index-test.false).counted
+    (all_done g (goal.at.returns-clause-padding g c).After-loop-index
+    c.loop-index-test.false).counted
 
 pub returns-clause-failed : goal.returns-clause-failed
 returns-clause-failed g c =
-    (all_done g (goal.at.returns-clause-failed g c).After-loop-index c.loop-index-test.false).succeeded
+    (all_done g (goal.at.returns-clause-failed g c).After-loop-index
+    c.loop-index-test.false).succeeded

@@ -1,16 +1,13 @@
-use Rattle.std.proofs.lemmas.Grind.{common_steps}
-use Rattle.std.proofs.Common.{◌≡◌, ◌≤◌, ◌∷◌, [], Err, length, get_or, ap, sym, subst₂, ◌∙◌, arith}
-use Rattle.std.proofs.lemmas.Result.{err_from_is_err_and}
+use Rattle.codespan_core.proofs.Std.{common_steps, ◌≡◌, ◌≤◌, ◌∷◌, [], Err, length, get_or, ap, sym}
+use Rattle.codespan_core.proofs.Std.{◌∙◌, arith, err_from_is_err_and}
+use Rattle.std.proofs.Common.{subst₂}
 use Rattle.codespan_core.specs.FileModel.Lookup.{LocationAt, Name}
 use Rattle.codespan_picture.specs.Arguments.{locus_view}
 use Rattle.codespan_picture.specs.Lookups.{first_error, lookups_of_file}
-use Rattle.codespan_views.specs.declared.labeled_files.LabeledFile.{LabeledFile as RustFile}
-use Rattle.codespan_views.specs.Private.LabeledFiles.{without_locus}
-use Rattle.codespan_views.specs.Private.LocusBytes.{locus_byte}
-use Rattle.codespan_views.specs.Private.Utf8Loci.{IsUtf8Locus}
+use Rattle.codespan_views.specs.Private.{RustFile, without_locus, locus_byte, IsUtf8Locus}
 use Rattle.codespan_views.proofs.IndexedElements.{IsElementAt}
-use Rattle.codespan_views.proofs.LociFound.{element-same, loci-count, loci-failed}
-use Rattle.codespan_views.proofs.LociFound.{loci-more, loci-succeeded}
+use Rattle.codespan_views.proofs.LociFound.{element-same, loci-count, loci-failed, loci-more}
+use Rattle.codespan_views.proofs.LociFound.{loci-succeeded}
 use Rattle.codespan_views.proofs.collected.find_loci.Given.{Over}
 use Rattle.codespan_views.proofs.collected.find_loci.Goals.{After-locus, After-loop-index}
 use Rattle.codespan_views.proofs.collected.find_loci.Goals as goal

@@ -1,7 +1,7 @@
-use Rattle.std.proofs.Common.{◌≡◌, Vec, Global, Err, refl, ap, ◌∙◌, arith}
-use Rattle.std.proofs.lemmas.Grind.{common_steps}
-use Rattle.std.proofs.lemmas.Result.{err_from_is_err_and}
-use Rattle.codespan_views.specs.declared.annotation.Annotation.{Annotation as RustAnnotation}
+use Rattle.codespan_core.proofs.Std.{◌≡◌, Err, refl, ap, ◌∙◌, arith, common_steps}
+use Rattle.codespan_core.proofs.Std.{err_from_is_err_and}
+use Rattle.std.proofs.Common.{Vec, Global}
+use Rattle.codespan_views.specs.Private.{RustAnnotation}
 use Rattle.codespan_views.proofs.FileLengths.{rest-sorted}
 use Rattle.codespan_views.proofs.FileSlices.{from_file-first}
 use Rattle.codespan_views.proofs.FileTurns.{IsAtFile, next_inside, next_left, own_lines}
@@ -35,7 +35,8 @@ pub find_numbers_of_file-requires : goal.find_numbers_of_file-requires
 find_numbers_of_file-requires g c κs = (
   (refl, tt),
   own_lines (turn g (goal.at.find_numbers_of_file-requires g c).After-count_in_file-len)
-      (c.deref-in-loop-index.ensures.value ∙ items_are g c.loop-index.invariant.annotations) (g.F.Files.database c.args.files.now).file
+      (c.deref-in-loop-index.ensures.value ∙ items_are g c.loop-index.invariant.annotations)
+      (g.F.Files.database c.args.files.now).file
       c.requires.lines,
 )
 

@@ -1,6 +1,5 @@
-use Rattle.std.proofs.Common.{◌≡◌, ◌≤◌, length, map, take, drop}
-use Rattle.codespan_views.specs.Private.AnnotationViews.{annotation_view}
-use Rattle.codespan_views.specs.Private.LabeledFiles.{ids_view}
+use Rattle.codespan_core.proofs.Std.{◌≡◌, ◌≤◌, length, map, take, drop}
+use Rattle.codespan_views.specs.Private.{annotation_view, ids_view}
 use Rattle.codespan_views.proofs.FileSlices.{from_file}
 use Rattle.codespan_views.proofs.NumbersFound.{FilesFound}
 use Rattle.codespan_views.proofs.collected.find_numbers.Given as goal

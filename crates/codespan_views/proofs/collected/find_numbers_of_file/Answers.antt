@@ -1,14 +1,9 @@
-use Rattle.std.proofs.Common.{◌≡◌, List, [], ◌∷◌, ◌++◌, map, take, Err, Some, refl, sym, ap}
-use Rattle.std.proofs.lemmas.Grind.{common_steps}
-use Rattle.std.proofs.Common.{◌∙◌, append_assoc, arith}
-use Rattle.std.specs.Prelude.{All}
+use Rattle.codespan_core.proofs.Std.{◌≡◌, List, [], ◌∷◌, ◌++◌, map, take, Err, Some, refl, sym, ap}
+use Rattle.codespan_core.proofs.Std.{common_steps, ◌∙◌, append_assoc, arith, All}
+use Rattle.codespan_core.proofs.Std.{err_from_is_err_and}
 use Rattle.std.proofs.lemmas.Option.{get_or_from_slice_get, slice_get_within}
-use Rattle.std.proofs.lemmas.Result.{err_from_is_err_and}
-use Rattle.codespan_views.specs.Private.Annotations.{Annotation}
-use Rattle.codespan_views.specs.Private.AnnotationViews.{IsLineOf, annotation_view}
-use Rattle.codespan_views.specs.Private.FilledLines.{gap_lines}
-use Rattle.codespan_views.specs.Private.SnippetLines.{SnippetLine, Labeled}
-use Rattle.codespan_views.specs.Private.SourceFiles.{model_of}
+use Rattle.codespan_views.specs.Private.{Annotation, IsLineOf, annotation_view, gap_lines}
+use Rattle.codespan_views.specs.Private.{SnippetLine, Labeled, model_of}
 use Rattle.codespan_views.proofs.FilledNumbers.{gap-filled}
 use Rattle.codespan_views.proofs.NumbersFound.{found-gap, found-no_gap, found-shown, found-then}
 use Rattle.codespan_views.proofs.NumbersFound.{numbers-all, numbers-failed, numbers-more}

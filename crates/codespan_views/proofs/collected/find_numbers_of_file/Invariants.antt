@@ -1,9 +1,6 @@
-use Rattle.std.proofs.Common.{◌≤◌, List, length, map}
-use Rattle.std.specs.Prelude.{All}
-use Rattle.codespan_views.specs.declared.annotation.Annotation.{Annotation as RustAnnotation}
-use Rattle.codespan_views.specs.Private.AnnotationViews.{IsLineOf, annotation_view}
-use Rattle.codespan_views.specs.Private.SnippetLines.{lines_of}
-use Rattle.codespan_views.specs.Private.SourceFiles.{model_of}
+use Rattle.codespan_core.proofs.Std.{◌≤◌, List, length, map, All}
+use Rattle.codespan_views.specs.Private.{RustAnnotation, IsLineOf, annotation_view, lines_of}
+use Rattle.codespan_views.specs.Private.{model_of}
 use Rattle.codespan_views.proofs.NumbersFound.{NumbersLeft}
 use Rattle.codespan_views.proofs.SnippetLineViews.{lines_left}
 use Rattle.codespan_views.proofs.collected.find_numbers_of_file.Given as goal

@@ -1,4 +1,4 @@
-use Rattle.std.proofs.Common.{rules, ◌≡◌, ℕ, List, [], Some, ap, ◌∙◌}
+use Rattle.codespan_core.proofs.Std.{rules, ◌≡◌, ℕ, List, [], Some, ap, ◌∙◌}
 use Rattle.codespan_core.specs.LawfulFiles.{IsLawful}
 use Rattle.codespan_core.specs.Streams.{plain_spelling}
 use Rattle.codespan_core.specs.WriterLaw.{Sink}

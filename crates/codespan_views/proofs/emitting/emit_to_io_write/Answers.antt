@@ -1,4 +1,4 @@
-use Rattle.std.proofs.Common.{rules}
+use Rattle.codespan_core.proofs.Std.{rules}
 use Rattle.codespan_views.proofs.EmittedOutputs.{written_back}
 use Rattle.codespan_views.proofs.emitting.emit_to_io_write.Goals as goal
 

@@ -1,8 +1,6 @@
-use Rattle.std.proofs.Common.{get_or, sym, ap, ◌∙◌, arith}
-use Rattle.std.proofs.lemmas.Grind.{common_steps}
-use Rattle.std.specs.Option.{is_some}
-use Rattle.std.proofs.lemmas.Bool.{ltb-false, ltb-true}
-use Rattle.codespan_views.specs.Private.LabeledFiles.{ids_view}
+use Rattle.codespan_core.proofs.Std.{get_or, sym, ap, ◌∙◌, arith, common_steps, is_some, ltb-false}
+use Rattle.codespan_core.proofs.Std.{ltb-true}
+use Rattle.codespan_views.specs.Private.{ids_view}
 use Rattle.codespan_views.proofs.FileIndices.{same_id-index}
 use Rattle.codespan_views.proofs.FileSearch.{none-more, index-first, index-nowhere}
 use Rattle.codespan_views.proofs.FilesInOrder.{is-id}
@@ -16,7 +14,8 @@ use Rattle.codespan_views.proofs.labeled_files.find_file.Goals as goal
 pub returns : goal.returns
 returns g c =
     let found = c.in-Some.ensures.lookup in
-    same_id-index g.met.FileId.Eq.laws (ids_view c.args.files.now) c.in-Some.file.now.file_id c.args.id
+    same_id-index g.met.FileId.Eq.laws (ids_view c.args.files.now) c.in-Some.file.now.file_id
+    c.args.id
     c.requires
     (is-id (record { inside = ltb-true _ _ (sym found.0); is = found.1 }))
     (sym c.if-eq.ensures)

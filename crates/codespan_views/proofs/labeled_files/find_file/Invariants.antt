@@ -1,6 +1,5 @@
-use Rattle.std.proofs.Common.{◌≡◌, ◌≤◌, ◌-◌, false, length, take}
-use Rattle.std.specs.List.{AllByRecursion}
-use Rattle.codespan_views.specs.Private.LabeledFiles.{ids_view}
+use Rattle.codespan_core.proofs.Std.{◌≡◌, ◌≤◌, ◌-◌, false, length, take, AllByRecursion}
+use Rattle.codespan_views.specs.Private.{ids_view}
 use Rattle.codespan_views.proofs.labeled_files.find_file.Given as goal
 
 -- no file before this one is of the id

@@ -1,8 +1,5 @@
-use Rattle.std.proofs.Common.{◌≡◌, arith}
-use Rattle.std.proofs.lemmas.Grind.{common_steps}
-use Rattle.std.proofs.lemmas.List.{map-append}
-use Rattle.codespan_views.specs.Private.LabeledFiles.{ids_view}
-use Rattle.codespan_views.specs.Private.FileIndices.{index_of_file}
+use Rattle.codespan_core.proofs.Std.{◌≡◌, arith, common_steps, map-append}
+use Rattle.codespan_views.specs.Private.{ids_view, index_of_file}
 use Rattle.codespan_views.proofs.FileSearch.{file-added, file-unchanged}
 use Rattle.codespan_views.proofs.labeled_files.get_or_insert_file.Given.{Over}
 use Rattle.codespan_views.proofs.labeled_files.get_or_insert_file.Goals.{After-len}

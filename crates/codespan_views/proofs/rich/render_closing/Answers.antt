@@ -1,8 +1,6 @@
-use Rattle.std.proofs.Common.{Err, ap, sym, ◌∙◌}
-use Rattle.std.specs.Prelude.{string_bytes}
-use Rattle.std.proofs.lemmas.Result.{err_from_is_err_and}
-use Rattle.codespan_core.specs.declared.term.config.Config.{Config}
+use Rattle.codespan_core.proofs.Std.{Err, ap, sym, ◌∙◌, string_bytes, err_from_is_err_and}
 use Rattle.codespan_core.specs.Streams.{newline}
+use Rattle.codespan_picture.specs.Types.{Config}
 use Rattle.codespan_picture.specs.OutputStreams.{context_of}
 use Rattle.codespan_renderer.specs.Renderers.{config_of}
 use Rattle.codespan_views.proofs.NoteRows.{notes-empty}

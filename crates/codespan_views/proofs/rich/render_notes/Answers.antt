@@ -1,14 +1,11 @@
-use Rattle.std.proofs.Common.{◌≡◌, ℕ, List, ◌<◌, ◌+◌, Err, Result, length, drop, take, get_or, sym}
-use Rattle.std.proofs.Common.{ap, ◌∙◌, arith}
-use Rattle.std.specs.Prelude.{string_bytes}
+use Rattle.codespan_core.proofs.Std.{◌≡◌, ℕ, List, ◌<◌, ◌+◌, Err, Result, length, drop, take}
+use Rattle.codespan_core.proofs.Std.{get_or, sym, ap, ◌∙◌, arith, string_bytes, err_from_is_err_and}
 use Rattle.std.specs.Str.Lines.{lines}
-use Rattle.std.proofs.lemmas.Result.{err_from_is_err_and}
-use Rattle.codespan_core.specs.declared.files.Error.{Error}
-use Rattle.codespan_core.specs.declared.term.config.Config.{Config}
+use Rattle.codespan_picture.specs.Types.{Error, Config}
 use Rattle.codespan_picture.specs.OutputStreams.{context_of}
+use Rattle.codespan_picture.specs.RenderedRows.{note_stream, rendered_note}
 use Rattle.codespan_renderer.specs.declared.term.renderer.Renderer.{Renderer}
 use Rattle.codespan_renderer.specs.Renderers.{Renders, config_of}
-use Rattle.codespan_picture.specs.RenderedRows.{note_stream, rendered_note}
 use Rattle.codespan_views.proofs.NoteRows.{notes-cut, notes-next, stream_of_notes}
 use Rattle.codespan_views.proofs.RendererRuns.{renders_as, renders_cut, renders_nothing}
 use Rattle.codespan_views.proofs.RendererRuns.{renders_then}

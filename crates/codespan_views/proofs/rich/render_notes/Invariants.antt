@@ -1,5 +1,4 @@
-use Rattle.std.proofs.Common.{Ok, take}
-use Rattle.std.specs.Prelude.{string_bytes}
+use Rattle.codespan_core.proofs.Std.{Ok, take, string_bytes}
 use Rattle.codespan_picture.specs.OutputStreams.{context_of}
 use Rattle.codespan_renderer.specs.Renderers.{Renders, config_of}
 use Rattle.codespan_views.proofs.NoteRows.{stream_of_notes}

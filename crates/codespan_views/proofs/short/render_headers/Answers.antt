@@ -1,5 +1,4 @@
-use Rattle.std.proofs.Common.{Err, length, ◌≤◌, sym, ap, ◌∙◌, arith}
-use Rattle.std.proofs.lemmas.Result.{err_from_is_err_and}
+use Rattle.codespan_core.proofs.Std.{Err, length, ◌≤◌, sym, ap, ◌∙◌, arith, err_from_is_err_and}
 use Rattle.codespan_views.proofs.HeaderRuns.{after_primary, after_secondary, all_written}
 use Rattle.codespan_views.proofs.HeaderRuns.{bare_header, header_cut, headers_written}
 use Rattle.codespan_views.proofs.HeaderRuns.{lookup_failed, none_yet}

@@ -1,6 +1,7 @@
 use Rattle.std.proofs.Common.{◌∙◌, refl, sym, arith}
 use Rattle.std.specs.Char.{encode_utf8}
-use Rattle.gallery_cases.proofs.Escaping.{letter_read, letter_shorter, no_escape, number_read, number_shorter}
+use Rattle.gallery_cases.proofs.Escaping.{letter_read, letter_shorter, no_escape, number_read}
+use Rattle.gallery_cases.proofs.Escaping.{number_shorter}
 use Rattle.gallery_cases.proofs.escape.parse_escape.Goals as goal
 
 pub returns-in_default-clause-parsed : goal.returns-in_default-clause-parsed

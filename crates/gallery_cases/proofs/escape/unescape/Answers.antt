@@ -1,6 +1,7 @@
 use Rattle.std.specs.Prelude.{encode_utf8}
 use Rattle.std.proofs.Common.{rules, ◌++◌, ap, string_bytes, inr, refl, ◌∙◌}
-use Rattle.gallery_cases.proofs.Escaping.{none_unescaped, one_more, all_unescaped, nothing_unescaped}
+use Rattle.gallery_cases.proofs.Escaping.{none_unescaped, one_more, all_unescaped}
+use Rattle.gallery_cases.proofs.Escaping.{nothing_unescaped}
 use Rattle.gallery_cases.proofs.escape.unescape.Goals as goal
 
 pub escapes-init : goal.escapes-init
@@ -15,7 +16,12 @@ escapes-init c =
 
 pub returns-in_default-parse_escape : goal.returns-in_default-parse_escape
 returns-in_default-parse_escape c =
-    inr (refl, nothing_unescaped c.args.text.now (string_bytes c.escapes.unescaped) c.escapes.rest.now (c.in-Some.plain, c.in-Some.escape) c.escapes.invariant.continues c.in-Some.ensures.cases c.in_default-parse_escape.ensures.parsed)
+    inr (
+      refl,
+      nothing_unescaped c.args.text.now (string_bytes c.escapes.unescaped)
+          c.escapes.rest.now (c.in-Some.plain, c.in-Some.escape) c.escapes.invariant.continues
+          c.in-Some.ensures.cases c.in_default-parse_escape.ensures.parsed,
+    )
 
 pub escapes-preserved : goal.escapes-preserved
 escapes-preserved c = record {

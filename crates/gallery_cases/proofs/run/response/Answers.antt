@@ -1,4 +1,5 @@
-use Rattle.std.proofs.Common.{◌≡◌, ℕ, List, Option, Result, Ok, Err, IfOk, MatchResult, Vec, Global, string_bytes, subst, sym}
+use Rattle.std.proofs.Common.{◌≡◌, ℕ, List, Option, Result, Ok, Err, IfOk, MatchResult, Vec, Global}
+use Rattle.std.proofs.Common.{string_bytes, subst, sym}
 use Rattle.std.specs.Prelude.{IsOkAnd, IsSomeAnd}
 use Rattle.gallery_cases.specs.declared.case.Case.{Case}
 use Rattle.gallery_cases.specs.Cases.{case_named}

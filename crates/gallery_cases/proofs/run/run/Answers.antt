@@ -1,4 +1,5 @@
-use Rattle.program_io.proofs.Outcomes.{status_at_most, status_of_wrong, success_by_status, wrong_by_status}
+use Rattle.program_io.proofs.Outcomes.{status_at_most, status_of_wrong, success_by_status}
+use Rattle.program_io.proofs.Outcomes.{wrong_by_status}
 use Rattle.gallery_cases.proofs.Outcomes.{unchanged_at_error}
 use Rattle.gallery_cases.proofs.run.run.Goals as goal
 

@@ -1,8 +1,8 @@
 use Rattle.std.proofs.Common.{ℕ, List, ap, ◌∙◌, refl, subst, inl, inr}
 use Rattle.program_io.specs.Fields.{field_of, past_space}
 use Rattle.gallery_cases.specs.Numbers.{IsNumber}
-use Rattle.gallery_cases.specs.declared.words.Word.TheVariants as words
 use Rattle.gallery_cases.proofs.WrongLines.{number_missing, no_number, lacks_second, lacks_third}
+use Rattle.gallery_cases.specs.declared.words.Word.TheVariants as words
 use Rattle.gallery_cases.proofs.statement.parse_context.Goals as goal
 
 -- the four numbers follow one another

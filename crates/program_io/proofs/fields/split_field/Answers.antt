@@ -1,6 +1,5 @@
-use Rattle.std.proofs.Common.{◌≡◌, ◌+◌, lit<, length, Some, None, sym, arith}
-use Rattle.std.specs.List.{position_or_len}
-use Rattle.std.proofs.lemmas.List.{drop_all, take_all}
+use Rattle.codespan_core.proofs.Std.{◌≡◌, ◌+◌, lit<, length, Some, None, sym, arith}
+use Rattle.codespan_core.proofs.Std.{position_or_len, drop_all, take_all}
 use Rattle.std.proofs.lemmas.Str.Pattern.{split_once_first}
 use Rattle.program_io.specs.Fields.{is_space}
 use Rattle.program_io.proofs.fields.split_field.Goals as goal

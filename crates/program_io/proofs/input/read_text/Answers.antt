@@ -1,7 +1,7 @@
-use Rattle.std.proofs.Common.{◌≡◌, ℕ, false, List, [], ◌++◌, Option, Some, None, Result, Ok, Err, IfSome, IsOk, OnOk, subst, sym, ap, ◌∙◌}
+use Rattle.codespan_core.proofs.Std.{◌≡◌, ℕ, false, List, [], ◌++◌, Option, Some, None, Result, Ok}
+use Rattle.codespan_core.proofs.Std.{Err, IfSome, OnOk, subst, sym, ap, ◌∙◌, IsUtf8, IsUtf8-had}
+use Rattle.std.proofs.Common.{IsOk}
 use Rattle.std.specs.Result.{is_err}
-use Rattle.std.specs.Str.{IsUtf8}
-use Rattle.std.proofs.lemmas.Str.{IsUtf8-had}
 use Rattle.program_io.proofs.input.read_text.Goals as goal
 
 -- if the bytes that were read to the end are not UTF-8, the input was not

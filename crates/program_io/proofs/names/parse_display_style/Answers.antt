@@ -1,4 +1,4 @@
-use Rattle.std.proofs.Common.{refl}
+use Rattle.codespan_core.proofs.Std.{refl}
 use Rattle.program_io.specs.Names.{display_style_named}
 use Rattle.program_io.proofs.names.parse_display_style.Goals as goal
 

@@ -1,8 +1,8 @@
-use Rattle.std.proofs.Common.{[], ◌++◌, take, refl}
+use Rattle.codespan_core.proofs.Std.{[], ◌++◌, take, refl}
 use Rattle.std.proofs.KnownBytes.{Appends-kept, Appends-nil, Appends-trans}
 use Rattle.program_io.proofs.Received.{moved_range, prefix_received}
-use Rattle.program_io.proofs.output.write_all.Goals as goal
 use Rattle.program_io.proofs.output.write_all.Goals.{in-Ok, in-Err}
+use Rattle.program_io.proofs.output.write_all.Goals as goal
 
 pub loop-init : goal.loop-init
 loop-init g c = ([], refl, Appends-nil _)

@@ -1,4 +1,4 @@
-use Rattle.std.proofs.Common.{◌≡◌, map, take}
+use Rattle.codespan_core.proofs.Std.{◌≡◌, map, take}
 use Rattle.codespan_core.specs.Diagnostics.{label_view}
 use Rattle.report.specs.Scripts.{script_label_view}
 use Rattle.report.proofs.diagnostics.labels.Given as goal

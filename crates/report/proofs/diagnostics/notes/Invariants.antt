@@ -1,4 +1,4 @@
-use Rattle.std.proofs.Common.{◌≡◌, map, take, string_bytes}
+use Rattle.codespan_core.proofs.Std.{◌≡◌, map, take, string_bytes}
 use Rattle.report.proofs.diagnostics.notes.Given as goal
 
 abbrev pub invariant-loop-note : goal.invariant-loop-note

@@ -1,4 +1,4 @@
-use Rattle.std.proofs.Common.{ap, Bor, List, ℕ, string_bytes}
+use Rattle.codespan_core.proofs.Std.{ap, Bor, List, ℕ, string_bytes}
 use Rattle.codespan_core.specs.SimpleFileViews.{name_of, source_of}
 use Rattle.report.proofs.Rendered.{rendered_result}
 use Rattle.report.proofs.rendering.render_over.Goals as goal

@@ -1,4 +1,4 @@
-use Rattle.std.proofs.Common.{◌≡◌, sym, ◌∙◌, rules, tests}
+use Rattle.codespan_core.proofs.Std.{◌≡◌, sym, ◌∙◌, rules, tests}
 use Rattle.std.specs.Char.{is_ascii_digit}
 use Rattle.std.specs.Str.{all_ascii_digits}
 use Rattle.std.proofs.lemmas.Iterator.Search.{all_from_yields_List}

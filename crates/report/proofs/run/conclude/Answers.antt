@@ -1,4 +1,4 @@
-use Rattle.std.proofs.Common.{inr, refl}
+use Rattle.codespan_core.proofs.Std.{inr, refl}
 use Rattle.report.proofs.run.conclude.Goals as goal
 
 -- the status of a script's error

@@ -1,4 +1,6 @@
-use Rattle.report.proofs.Outcomes.{bad_script_status, unchanged_at_not_utf8, prefix_written, status_at_most, status_of_wrong, unchanged_unless_rendered, success_by_status, reported_at_bad_script, wrong_by_status}
+use Rattle.report.proofs.Outcomes.{bad_script_status, unchanged_at_not_utf8, prefix_written}
+use Rattle.report.proofs.Outcomes.{status_at_most, status_of_wrong, unchanged_unless_rendered}
+use Rattle.report.proofs.Outcomes.{success_by_status, reported_at_bad_script, wrong_by_status}
 use Rattle.report.proofs.run.run.Goals as goal
 
 pub returns-clause-status : goal.returns-clause-status

@@ -1,4 +1,4 @@
-use Rattle.std.proofs.Common.{rules}
+use Rattle.codespan_core.proofs.Std.{rules}
 use Rattle.report.specs.Scripts.{parsed_script}
 use Rattle.report.proofs.script.parse_script.Goals as goal
 

@@ -1,4 +1,4 @@
-use Rattle.std.proofs.Common.{◌∙◌}
+use Rattle.codespan_core.proofs.Std.{◌∙◌}
 use Rattle.codespan_core.proofs.ColumnLemmas.{column_in_line}
 use Rattle.codespan_base.proofs.files.defaults.default_column_number.Goals as goal
 

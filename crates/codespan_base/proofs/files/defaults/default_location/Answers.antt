@@ -1,5 +1,4 @@
-use Rattle.std.proofs.Common.{◌≡◌, ◌≢◌, ℕ, Option, Some, None, refl}
-use Rattle.std.proofs.lemmas.Result.{err_from_is_err_and}
+use Rattle.codespan_core.proofs.Std.{◌≡◌, ◌≢◌, ℕ, Option, Some, None, refl, err_from_is_err_and}
 use Rattle.codespan_core.specs.declared.files.error.Error.{Error}
 use Rattle.codespan_core.specs.declared.files.error.Error.TheVariants.{OutOfMemory}
 use Rattle.codespan_core.specs.FileModel.{Lookup, or_failure}
@@ -35,7 +34,13 @@ pub returns-in_err-column_number-clause-failed : goal.returns-in_err-column_numb
 returns-in_err-column_number-clause-failed g c =
     let p = err_from_is_err_and c.from_residual-in_err-column_number.result
     c.from_residual-in_err-column_number.ensures.1 in
-    rw (p.1, p.2, ← c.in_ok-line_index.ensures.value, c.in_ok-line_index.ensures.failed, c.in_ok-line_number.ensures.failed) c.in_err-column_number.ensures.failed
+    rw (
+      p.1,
+      p.2,
+      ← c.in_ok-line_index.ensures.value,
+      c.in_ok-line_index.ensures.failed,
+      c.in_ok-line_number.ensures.failed,
+    ) c.in_err-column_number.ensures.failed
 
 -- where no call fails there is no error
 no_failure : (failure : Lookup → Option Error) (byte i j : ℕ) → i ≡ j

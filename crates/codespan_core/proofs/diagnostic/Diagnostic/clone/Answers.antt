@@ -1,6 +1,6 @@
-use Rattle.std.proofs.Common.{◌≡◌, ℕ, List, Option, rules, refl}
+use Rattle.codespan_core.proofs.Std.{◌≡◌, ℕ, List, Option, rules, refl}
 use Rattle.codespan_core.specs.declared.diagnostic.Severity.{Severity}
-use Rattle.codespan_core.specs.Diagnostics.{DiagnosticView, LabelView}
+use Rattle.codespan_core.specs.{DiagnosticView, LabelView}
 use Rattle.codespan_core.proofs.diagnostic.Diagnostic.clone.Goals as goal
 
 -- views with equal fields are equal

@@ -1,4 +1,4 @@
-use Rattle.std.proofs.Common.{refl}
+use Rattle.codespan_core.proofs.Std.{refl}
 use Rattle.codespan_core.proofs.diagnostic.Diagnostic.new.Goals as goal
 
 -- the code is none

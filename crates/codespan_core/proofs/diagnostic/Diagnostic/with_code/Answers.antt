@@ -1,4 +1,4 @@
-use Rattle.std.proofs.Common.{refl, rules}
+use Rattle.codespan_core.proofs.Std.{refl, rules}
 use Rattle.codespan_core.proofs.diagnostic.Diagnostic.with_code.Goals as goal
 
 -- the code is set

@@ -1,4 +1,4 @@
-use Rattle.std.proofs.Common.{rules}
+use Rattle.codespan_core.proofs.Std.{rules}
 use Rattle.codespan_core.proofs.diagnostic.Diagnostic.with_label.Goals as goal
 
 -- the list after the call is the old one with the label at its end

@@ -1,4 +1,4 @@
-use Rattle.std.proofs.Common.{rules}
+use Rattle.codespan_core.proofs.Std.{rules}
 use Rattle.codespan_core.proofs.diagnostic.Diagnostic.with_message.Goals as goal
 
 -- the message is the text

@@ -1,4 +1,4 @@
-use Rattle.std.proofs.Common.{rules}
+use Rattle.codespan_core.proofs.Std.{rules}
 use Rattle.codespan_core.proofs.TextLemmas.{noted}
 use Rattle.codespan_core.proofs.diagnostic.Diagnostic.with_note.Goals as goal
 

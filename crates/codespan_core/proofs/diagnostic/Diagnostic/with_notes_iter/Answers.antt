@@ -1,5 +1,4 @@
-use Rattle.std.proofs.Common.{◌++◌, refl, ap, ◌∙◌}
-use Rattle.std.proofs.lemmas.Result.{err_from_is_err_and, IfOk-weaker}
+use Rattle.codespan_core.proofs.Std.{◌++◌, refl, ap, ◌∙◌, err_from_is_err_and, IfOk-weaker}
 use Rattle.codespan_core.proofs.diagnostic.Diagnostic.with_notes_iter.Goals as goal
 
 -- the run of `collect` is the run of the iterator

@@ -1,4 +1,4 @@
-use Rattle.std.proofs.Common.{refl}
+use Rattle.codespan_core.proofs.Std.{refl}
 use Rattle.codespan_core.proofs.diagnostic.Label.clone.Goals as goal
 
 -- the copied message is the same, and the other fields are copied

@@ -1,4 +1,4 @@
-use Rattle.std.proofs.Common.{refl}
+use Rattle.codespan_core.proofs.Std.{refl}
 use Rattle.codespan_core.proofs.diagnostic.Label.new.Goals as goal
 
 -- the range is the one that was given

@@ -1,6 +1,5 @@
-use Rattle.std.proofs.Common.{refl, arith}
-use Rattle.std.proofs.lemmas.Result.{err_from_is_err_and}
-use Rattle.codespan_core.specs.Diagnostics.{label_view}
+use Rattle.codespan_core.proofs.Std.{refl, arith, err_from_is_err_and}
+use Rattle.codespan_core.specs.{label_view}
 use Rattle.codespan_core.proofs.TextLemmas.{viewed_more}
 use Rattle.codespan_core.proofs.diagnostic.clones.clone_labels.Goals as goal
 

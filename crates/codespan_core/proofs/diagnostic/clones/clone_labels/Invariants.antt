@@ -1,5 +1,5 @@
-use Rattle.std.proofs.Common.{◌≡◌, map, take}
-use Rattle.codespan_core.specs.Diagnostics.{label_view}
+use Rattle.codespan_core.proofs.Std.{◌≡◌, map, take}
+use Rattle.codespan_core.specs.{label_view}
 use Rattle.codespan_core.proofs.diagnostic.clones.clone_labels.Given as goal
 
 abbrev pub invariant-loop-label : goal.invariant-loop-label

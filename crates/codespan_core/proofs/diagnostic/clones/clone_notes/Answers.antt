@@ -1,4 +1,4 @@
-use Rattle.std.proofs.Common.{arith, string_bytes}
+use Rattle.codespan_core.proofs.Std.{arith, string_bytes}
 use Rattle.codespan_core.proofs.TextLemmas.{viewed_more}
 use Rattle.codespan_core.proofs.diagnostic.clones.clone_notes.Goals as goal
 

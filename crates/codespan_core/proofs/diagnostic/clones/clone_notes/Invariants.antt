@@ -1,5 +1,4 @@
-use Rattle.std.proofs.Common.{◌≡◌, map, take}
-use Rattle.std.specs.Prelude.{string_bytes}
+use Rattle.codespan_core.proofs.Std.{◌≡◌, map, take, string_bytes}
 use Rattle.codespan_core.proofs.diagnostic.clones.clone_notes.Given as goal
 
 abbrev pub invariant-loop-note : goal.invariant-loop-note

@@ -1,5 +1,4 @@
-use Rattle.std.proofs.Common.{◌-◌, ◌^◌, refl}
-use Rattle.std.proofs.lemmas.Bool.{ne_eqb}
+use Rattle.codespan_core.proofs.Std.{◌-◌, ◌^◌, refl, ne_eqb}
 use Rattle.codespan_core.proofs.files.defaults.default_line_number.Goals as goal
 
 -- the greatest index fails, and no other one

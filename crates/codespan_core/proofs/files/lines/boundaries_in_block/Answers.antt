@@ -1,12 +1,12 @@
-use Rattle.std.proofs.Common.{◌≡◌, ℕ, ◌+◌, ◌%◌, ◌^◌, cond, map, leb, ltb, List, [], ◌∷◌, refl, replicate, ap, ◌∙◌, arith, w8}
-use Rattle.std.specs.Prelude.{count_by, nat_lt, nat_le}
+use Rattle.codespan_core.proofs.Std.{◌≡◌, ℕ, ◌+◌, ◌%◌, ◌^◌, cond, map, leb, ltb, List, [], ◌∷◌}
+use Rattle.codespan_core.proofs.Std.{refl, replicate, ap, ◌∙◌, arith, count_by, nat_lt, nat_le}
+use Rattle.codespan_core.proofs.Std.{nat_tests, length-map, sum_by-cons, count_by-le-length}
+use Rattle.std.proofs.Common.{w8}
 use Rattle.std.specs.Simd.Lanes.{chunk, mask_l}
+use Rattle.std.proofs.lemmas.Simd.{length-chunk, bitmask_splat, tops_compared, zip2_splat_left}
+use Rattle.std.proofs.lemmas.Simd.{mask_l-mod, ones-mask_l}
+use Rattle.codespan_core.specs.{begins_char}
 use lib.Count.{ones}
-use Rattle.std.proofs.lemmas.Bool.Decides.{nat_tests}
-use Rattle.std.proofs.lemmas.List.{length-map}
-use Rattle.std.proofs.lemmas.List.Sums.{sum_by-cons, count_by-le-length}
-use Rattle.std.proofs.lemmas.Simd.{length-chunk, bitmask_splat, tops_compared, zip2_splat_left, mask_l-mod, ones-mask_l}
-use Rattle.codespan_core.specs.Lines.{begins_char}
 use Rattle.codespan_core.proofs.files.lines.boundaries_in_block.Goals as goal
 
 -- a byte that begins a character is below 128 or at least 192, and not both

@@ -1,8 +1,9 @@
-use Rattle.std.proofs.Common.{◌+◌, ◌≤◌, length, ap, arith, sym, ◌∙◌}
-use Rattle.std.proofs.lemmas.Bool.{false≢true}
-use Rattle.codespan_core.specs.Lines.{is_char_boundary}
-use Rattle.codespan_core.proofs.ColumnLemmas.{count_block_step, count_range_step, is_char_boundary_yes, is_char_boundary_no}
-use Rattle.codespan_core.proofs.files.lines.column_index.Goals.{then-is_char_boundary, else-is_char_boundary}
+use Rattle.codespan_core.proofs.Std.{◌+◌, ◌≤◌, length, ap, arith, sym, ◌∙◌, false≢true}
+use Rattle.codespan_core.specs.{is_char_boundary}
+use Rattle.codespan_core.proofs.ColumnLemmas.{count_block_step, count_range_step}
+use Rattle.codespan_core.proofs.ColumnLemmas.{is_char_boundary_yes, is_char_boundary_no}
+use Rattle.codespan_core.proofs.files.lines.column_index.Goals.{then-is_char_boundary}
+use Rattle.codespan_core.proofs.files.lines.column_index.Goals.{else-is_char_boundary}
 use Rattle.codespan_core.proofs.files.lines.column_index.Goals as goal
 
 -- the boundaries of the next 16 indices are counted
@@ -46,7 +47,8 @@ loop-i-preserved c =
           arith,
           w.count-is,
           rw
-              (is_char_boundary_no _ _ (λ b. false≢true (sym w.if-is_char_boundary.false ∙ test.1 b)))
+              (is_char_boundary_no _ _
+              (λ b. false≢true (sym w.if-is_char_boundary.false ∙ test.1 b)))
               at step,
         )
       ];

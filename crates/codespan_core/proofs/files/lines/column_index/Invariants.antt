@@ -1,7 +1,5 @@
-use Rattle.std.proofs.Common.{◌≡◌, ◌≤◌, ◌-◌, ◌+◌}
-use Rattle.std.specs.Prelude.{count_by}
-use Rattle.std.specs.List.{range_with_len}
-use Rattle.codespan_core.specs.Lines.{is_char_boundary}
+use Rattle.codespan_core.proofs.Std.{◌≡◌, ◌≤◌, ◌-◌, ◌+◌, count_by, range_with_len}
+use Rattle.codespan_core.specs.{is_char_boundary}
 use Rattle.codespan_core.proofs.files.lines.column_index.Given as goal
 
 abbrev pub invariant-loop-at : goal.invariant-loop-at

@@ -1,4 +1,5 @@
-use Rattle.std.proofs.Common.{arith, w8, eqb}
+use Rattle.codespan_core.proofs.Std.{arith, eqb}
+use Rattle.std.proofs.Common.{w8}
 use Rattle.std.specs.Simd.Lanes.{chunk}
 use Rattle.std.proofs.lemmas.Simd.{length-chunk, bitmask_splat}
 use Rattle.codespan_core.proofs.files.newline.block_mask.Goals as goal

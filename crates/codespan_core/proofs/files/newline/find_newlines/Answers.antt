@@ -1,5 +1,4 @@
-use Rattle.std.proofs.Common.{◌+◌, ◌≤◌, length, arith, ◌∙◌, sym, inl, inr}
-use Rattle.std.proofs.lemmas.Bool.{cases_lt}
+use Rattle.codespan_core.proofs.Std.{◌+◌, ◌≤◌, length, arith, ◌∙◌, sym, inl, inr, cases_lt}
 use Rattle.codespan_core.proofs.NewlineLemmas.{no_newline_in_block}
 use Rattle.codespan_core.proofs.files.newline.find_newlines.Goals as goal
 

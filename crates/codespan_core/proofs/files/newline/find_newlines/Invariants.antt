@@ -1,5 +1,5 @@
-use Rattle.std.proofs.Common.{ℕ, ◌-◌, ◌<◌, ◌≤◌, length}
-use Rattle.std.specs.Prelude.{◌≢◌, slice_index}
+use Rattle.codespan_core.proofs.Std.{ℕ, ◌-◌, ◌<◌, ◌≤◌, length, ◌≢◌}
+use Rattle.std.specs.Prelude.{slice_index}
 use Rattle.codespan_core.proofs.files.newline.find_newlines.Given as goal
 
 abbrev pub invariant-loop-start : goal.invariant-loop-start

@@ -1,8 +1,8 @@
-use Rattle.std.proofs.Common.{◌≡◌, ℕ, ◌+◌, ◌^◌, ◌<◌, ◌≤◌, Bool, true, false, List, arith, map, length, drop}
-use mir.Val.{bool_byte}
+use Rattle.codespan_core.proofs.Std.{◌≡◌, ℕ, ◌+◌, ◌^◌, ◌<◌, ◌≤◌, Bool, true, false, List, arith}
+use Rattle.codespan_core.proofs.Std.{map, length, drop, length-drop}
 use Rattle.std.specs.Simd.Lanes.{mask_l}
-use Rattle.std.proofs.lemmas.List.{length-drop}
-use Rattle.codespan_core.specs.Lines.{is_newline}
+use Rattle.codespan_core.specs.{is_newline}
+use mir.Val.{bool_byte}
 use Rattle.codespan_core.proofs.NewlineLemmas.{newline_mask_lt}
 use Rattle.codespan_core.proofs.files.newline.tail_mask.Goals as goal
 

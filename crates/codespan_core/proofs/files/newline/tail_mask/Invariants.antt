@@ -1,6 +1,6 @@
-use Rattle.std.proofs.Common.{◌≡◌, ◌≤◌, length, map, drop}
+use Rattle.codespan_core.proofs.Std.{◌≡◌, ◌≤◌, length, map, drop}
 use Rattle.std.specs.Simd.Lanes.{mask_l}
-use Rattle.codespan_core.specs.Lines.{is_newline}
+use Rattle.codespan_core.specs.{is_newline}
 use Rattle.codespan_core.proofs.files.newline.tail_mask.Given as goal
 
 abbrev pub invariant-loop-i : goal.invariant-loop-i

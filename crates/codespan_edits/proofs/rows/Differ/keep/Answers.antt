@@ -1,5 +1,4 @@
-use Rattle.std.proofs.Common.{◌++◌, ◌+◌, drop, map, sym, ap, ◌∙◌}
-use Rattle.std.proofs.lemmas.List.{drop_more, drop_all}
+use Rattle.codespan_core.proofs.Std.{◌++◌, ◌+◌, drop, map, sym, ap, ◌∙◌, drop_more, drop_all}
 use Rattle.codespan_edits.specs.Diffs.{kept}
 use Rattle.codespan_edits.specs.Private.Differs.{all_rows}
 use Rattle.codespan_edits.proofs.rows.Differ.keep.Goals as goal

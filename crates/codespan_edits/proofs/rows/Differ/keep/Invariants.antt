@@ -1,4 +1,4 @@
-use Rattle.std.proofs.Common.{◌≡◌, ◌++◌, List, drop, map}
+use Rattle.codespan_core.proofs.Std.{◌≡◌, ◌++◌, List, drop, map}
 use Rattle.codespan_edits.specs.Diffs.{Change, kept}
 use Rattle.codespan_edits.specs.Private.Differs.{all_rows}
 use Rattle.codespan_edits.proofs.rows.Differ.keep.Given as goal

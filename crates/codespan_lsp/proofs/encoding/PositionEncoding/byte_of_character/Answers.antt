@@ -1,7 +1,9 @@
 use Rattle.std.proofs.Common.{◌+◌, ap, sym, ◌∙◌}
 use Rattle.std.specs.Prelude.{Some}
-use Rattle.codespan_base.specs.declared.files.Error.TheVariants.{ColumnTooLarge, InvalidCharBoundary}
-use Rattle.codespan_lsp.proofs.ErrorLemmas.{character_failure-none, character_failure-past, character_failure-inside}
+use Rattle.codespan_base.specs.declared.files.Error.TheVariants.{ColumnTooLarge}
+use Rattle.codespan_base.specs.declared.files.Error.TheVariants.{InvalidCharBoundary}
+use Rattle.codespan_lsp.proofs.ErrorLemmas.{character_failure-none, character_failure-past}
+use Rattle.codespan_lsp.proofs.ErrorLemmas.{character_failure-inside}
 use Rattle.codespan_lsp.proofs.encoding.PositionEncoding.byte_of_character.Goals as goal
 
 pub returns-then-prefix-character-clause-failed : goal.returns-then-prefix-character-clause-failed

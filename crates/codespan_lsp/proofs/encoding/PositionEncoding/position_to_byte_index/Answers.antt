@@ -14,7 +14,8 @@ returns-clause-value g c =
     let text = c.as_str.ensures ∙ c.in_ok-source.ensures.value in
     let line_is = c.range-text.ensures.value
     ∙ (ap (λ t. slice_range t line.start line.end) text
-    ∙ (ap (λ a. slice_range f.text a line.end) is.start_is ∙ ap (λ b. slice_range f.text (line_start f p.line) b) is.end_is)) in
+    ∙ (ap (λ a. slice_range f.text a line.end) is.start_is ∙ ap
+    (λ b. slice_range f.text (line_start f p.line) b) is.end_is)) in
     let found = c.byte_of_character.ensures in
     returned-is-at c.args.self f
     ((g.met.F.Files c.lifetimes (search rules)).lawful c.args.files.now c.args.id) p is.inside

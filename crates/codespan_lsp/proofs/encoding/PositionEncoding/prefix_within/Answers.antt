@@ -5,7 +5,8 @@ use Rattle.std.specs.Str.Iter.{chars_rest}
 use Rattle.std.proofs.lemmas.List.Sums.{sum_by-cons}
 use Rattle.std.proofs.lemmas.Str.{IsUtf8-past_char, length-encode}
 use Rattle.codespan_lsp.specs.Units.{char_units, total_units, prefix_within}
-use Rattle.codespan_lsp.proofs.UnitLemmas.{prefix_within-more, prefix_within-stop, prefix_within-empty}
+use Rattle.codespan_lsp.proofs.UnitLemmas.{prefix_within-more, prefix_within-stop}
+use Rattle.codespan_lsp.proofs.UnitLemmas.{prefix_within-empty}
 use Rattle.codespan_lsp.proofs.encoding.PositionEncoding.prefix_within.Goals as goal
 
 -- the next character does not fit

@@ -2,10 +2,13 @@ use Rattle.std.proofs.Common.{◌≡◌, ◌≤◌, length, Err, ap, sym, ◌∙
 use Rattle.std.specs.Prelude.{not}
 use Rattle.std.proofs.lemmas.Result.{err_from_is_err_and}
 use Rattle.codespan_base.specs.Labels.{is_primary_style}
-use Rattle.codespan_lsp.specs.LspDiagnostics.{related_view, related_information_for, label_range_failure}
+use Rattle.codespan_lsp.specs.LspDiagnostics.{related_view, related_information_for}
+use Rattle.codespan_lsp.specs.LspDiagnostics.{label_range_failure}
 use Rattle.codespan_lsp.specs.declared.diagnostics.RelatedInformation.{RelatedInformation}
-use Rattle.codespan_lsp.proofs.LabelLemmas.{passing-more, passing-skip, views-push, views-end, failure-more, failure-here, related-same}
-use Rattle.codespan_lsp.proofs.encoding.PositionEncoding.related_information.Goals.{then-not-is_primary+in_ok-range+in_ok-message+in_ok-push, else-not-is_primary}
+use Rattle.codespan_lsp.proofs.LabelLemmas.{passing-more, passing-skip, views-push, views-end}
+use Rattle.codespan_lsp.proofs.LabelLemmas.{failure-more, failure-here, related-same}
+use Rattle.codespan_lsp.proofs.encoding.PositionEncoding.related_information.Goals.{then-not-is_primary+in_ok-range+in_ok-message+in_ok-push}
+use Rattle.codespan_lsp.proofs.encoding.PositionEncoding.related_information.Goals.{else-not-is_primary}
 use Rattle.codespan_lsp.proofs.encoding.PositionEncoding.related_information.Goals as goal
 
 -- the lookup of the label's range failed

@@ -8,7 +8,8 @@ invariant-loop-label g l =
     let database = g.F.Files.database l.files in
     let left = drop l.label-index l.labels.items in
     record {
-      views : map related_view l.related.items ++ related_information_of l.self database left ≡ related_information_of
+      views : map related_view l.related.items ++ related_information_of l.self database left
+          ≡ related_information_of
           l.self database l.labels.items;
       failure : related_failure l.self database l.labels.items ≡ related_failure l.self database
           left;

@@ -2,8 +2,10 @@ use Rattle.std.proofs.Common.{◌≤◌, length, Err, ap, sym, ◌∙◌, arith}
 use Rattle.std.proofs.lemmas.Result.{err_from_is_err_and}
 use Rattle.codespan_base.specs.Labels.{is_primary_style}
 use Rattle.codespan_lsp.specs.LspDiagnostics.{lsp_view, lsp_diagnostic_for, lsp_failure}
-use Rattle.codespan_lsp.proofs.LabelLemmas.{passing-more, passing-skip, views-push, views-end, failure-more, failure-here}
-use Rattle.codespan_lsp.proofs.encoding.PositionEncoding.to_lsp_diagnostics.Goals.{then-is_primary+in_ok-lsp_diagnostic+in_ok-push, else-is_primary}
+use Rattle.codespan_lsp.proofs.LabelLemmas.{passing-more, passing-skip, views-push, views-end}
+use Rattle.codespan_lsp.proofs.LabelLemmas.{failure-more, failure-here}
+use Rattle.codespan_lsp.proofs.encoding.PositionEncoding.to_lsp_diagnostics.Goals.{then-is_primary+in_ok-lsp_diagnostic+in_ok-push}
+use Rattle.codespan_lsp.proofs.encoding.PositionEncoding.to_lsp_diagnostics.Goals.{else-is_primary}
 use Rattle.codespan_lsp.proofs.encoding.PositionEncoding.to_lsp_diagnostics.Goals as goal
 
 -- a lookup for the label failed
@@ -35,7 +37,8 @@ loop-label-preserved g c =
           c.label-item.is (sym c.is_primary.ensures ∙ w.if-is_primary.true) in
           record {
             views =
-                views-push lsp_view (lsp_diagnostic_for c.args.self database d) c.loop-label.found.items
+                views-push lsp_view (lsp_diagnostic_for c.args.self database d)
+                c.loop-label.found.items
                 c.if-is_primary.found.items _ x _ _ _
                 (ap (λ v. v.items) w.found-is ∙ w.in_ok-push.ensures.items)
                 w.in_ok-lsp_diagnostic.ensures.value more was.views;

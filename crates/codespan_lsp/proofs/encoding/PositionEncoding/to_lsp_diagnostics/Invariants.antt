@@ -1,6 +1,7 @@
 use Rattle.std.proofs.Common.{◌≡◌, ◌++◌, drop, map}
 use Rattle.codespan_lsp.specs.Positions.{first_failure}
-use Rattle.codespan_lsp.specs.LspDiagnostics.{lsp_view, lsp_diagnostic_for, lsp_failure, primary_labels}
+use Rattle.codespan_lsp.specs.LspDiagnostics.{lsp_view, lsp_diagnostic_for, lsp_failure}
+use Rattle.codespan_lsp.specs.LspDiagnostics.{primary_labels}
 use Rattle.codespan_lsp.proofs.encoding.PositionEncoding.to_lsp_diagnostics.Given as goal
 
 -- what is still to come makes the list whole, and fails as the whole does

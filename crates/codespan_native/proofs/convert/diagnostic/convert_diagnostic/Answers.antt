@@ -8,4 +8,10 @@ returns c =
     let notes : map string_bytes c.in_ok-notes_of.field-0.items
     ≡ map bytes_of c.args.raw.now.notes.now =
     c.in_ok-notes_of.ensures in
-    rw (c.severity_of.ensures, c.in_ok-code_of.ensures, c.in_ok-string_of.ensures, c.in_ok-labels_of.ensures, notes) refl
+    rw (
+      c.severity_of.ensures,
+      c.in_ok-code_of.ensures,
+      c.in_ok-string_of.ensures,
+      c.in_ok-labels_of.ensures,
+      notes,
+    ) refl

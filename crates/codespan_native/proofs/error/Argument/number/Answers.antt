@@ -3,7 +3,14 @@ use denote.Enum.Declared.{tag_of}
 use Rattle.codespan_native.specs.contracts.error.Argument.{the_type}
 use Rattle.codespan_native.specs.Validity.{argument_number}
 use Rattle.codespan_native.specs.declared.error.Argument.{Argument}
-use Rattle.codespan_native.specs.declared.error.Argument.TheVariants.{Abi, DisplayStyle, Layout, Spelling, Characters, SnippetStart, Character, Color, FileName, FileSource, FileLines, FileLocations, Severity, Code, Message, LabelStyle, LabelMessage, LabelFile, Note}
+use Rattle.codespan_native.specs.declared.error.Argument.TheVariants.{Abi, DisplayStyle, Layout}
+use Rattle.codespan_native.specs.declared.error.Argument.TheVariants.{Spelling, Characters}
+use Rattle.codespan_native.specs.declared.error.Argument.TheVariants.{SnippetStart, Character}
+use Rattle.codespan_native.specs.declared.error.Argument.TheVariants.{Color, FileName, FileSource}
+use Rattle.codespan_native.specs.declared.error.Argument.TheVariants.{FileLines, FileLocations}
+use Rattle.codespan_native.specs.declared.error.Argument.TheVariants.{Severity, Code, Message}
+use Rattle.codespan_native.specs.declared.error.Argument.TheVariants.{LabelStyle, LabelMessage}
+use Rattle.codespan_native.specs.declared.error.Argument.TheVariants.{LabelFile, Note}
 use Rattle.codespan_native.proofs.error.Argument.number.Goals as goal
 
 -- arguments count from 1, in their order

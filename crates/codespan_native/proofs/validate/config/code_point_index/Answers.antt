@@ -1,7 +1,7 @@
 use Rattle.std.proofs.Common.{rules}
 use Rattle.std.proofs.lemmas.Iterator.{IsFirst-from_position, YieldsList-from_slice}
-use borrow.Author.Tests.{tests}
 use Rattle.std.specs.Char.{InScalarRange}
+use borrow.Author.Tests.{tests}
 use Rattle.codespan_native.proofs.validate.config.code_point_index.Goals as goal
 
 pub returns : goal.returns

@@ -1,6 +1,6 @@
 use Rattle.std.proofs.Common.{◌≡◌, ◌∙◌, ℕ, Bool, false, IsTrue, List, [], ◌∷◌, length, sym}
-use borrow.Author.Tests.{clash}
 use Rattle.std.specs.Prelude.{◌==◌, ◌↔◌}
+use borrow.Author.Tests.{clash}
 use Rattle.codespan_native.specs.declared.raw.RawLine.{RawLine}
 use Rattle.codespan_native.specs.StatedLines.{are_lines}
 use Rattle.codespan_native.specs.Validity.{AreValidLines}

@@ -1,7 +1,7 @@
 use Rattle.std.proofs.Common.{ℕ, IsTrue, Option, None, Some, refl}
-use borrow.Author.Tests.{clash}
 use Rattle.std.specs.Prelude.{◌↔◌, is_some, IsSome, MatchOption}
 use Rattle.std.specs.Char.{InScalarRange, OutOfScalarRange}
+use borrow.Author.Tests.{clash}
 use Rattle.codespan_native.proofs.validate.values.is_scalar_value.Goals as goal
 
 -- a code point is one where a character of it is found

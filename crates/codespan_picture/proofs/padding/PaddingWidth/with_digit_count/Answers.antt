@@ -1,7 +1,9 @@
-use Rattle.std.proofs.Common.{arith}
+use Rattle.codespan_core.proofs.Std.{arith}
 use Rattle.codespan_picture.proofs.Digits.{few_digits}
+use Rattle.codespan_picture.proofs.padding.PaddingWidth.with_digit_count.Goals.{in-1, in-2, in-3}
+use Rattle.codespan_picture.proofs.padding.PaddingWidth.with_digit_count.Goals.{in-4, in-5, in-6}
+use Rattle.codespan_picture.proofs.padding.PaddingWidth.with_digit_count.Goals.{in_default}
 use Rattle.codespan_picture.proofs.padding.PaddingWidth.with_digit_count.Goals as goal
-use Rattle.codespan_picture.proofs.padding.PaddingWidth.with_digit_count.Goals.{in-1, in-2, in-3, in-4, in-5, in-6, in_default}
 
 pub invariant_of-result : goal.invariant_of-result
 invariant_of-result c = elim c.match-digit_count.branch [

@@ -1,8 +1,10 @@
-use Rattle.std.proofs.Common.{◌≡◌, Some, rules}
-use Rattle.codespan_picture.specs.Types.{Primary, Secondary}
+use Rattle.codespan_core.proofs.Std.{◌≡◌, Some, rules}
+use Rattle.codespan_picture.specs.{Primary, Secondary}
+use Rattle.codespan_picture.specs.Private.{caret_run}
 use Rattle.codespan_core.proofs.Chains.{failed-before, failed, writes-last}
-use Rattle.codespan_picture.specs.Private.Runs.{caret_run}
-use Rattle.codespan_picture.proofs.rows.carets.end_caret_run.Goals.{in-None+in_ok-write_spaces-in-None, in-Some-Primary+in_ok-write_repeated-in-Some-Primary, in-Some-Secondary+in_ok-write_repeated-in-Some-Secondary}
+use Rattle.codespan_picture.proofs.rows.carets.end_caret_run.Goals.{in-None+in_ok-write_spaces-in-None}
+use Rattle.codespan_picture.proofs.rows.carets.end_caret_run.Goals.{in-Some-Primary+in_ok-write_repeated-in-Some-Primary}
+use Rattle.codespan_picture.proofs.rows.carets.end_caret_run.Goals.{in-Some-Secondary+in_ok-write_repeated-in-Some-Secondary}
 use Rattle.codespan_picture.proofs.rows.carets.end_caret_run.Goals as goal
 
 pub returns-in_err-write_spaces-in-None : goal.returns-in_err-write_spaces-in-None

@@ -1,7 +1,6 @@
-use Rattle.std.proofs.Common.{◌≡◌, drop, max, fold}
+use Rattle.codespan_core.proofs.Std.{◌≡◌, drop, max, fold}
 use Rattle.codespan_core.specs.Labels.{LabelModel}
-use Rattle.codespan_picture.specs.Carets.{max_label_end}
-use Rattle.codespan_picture.specs.Arguments.{single_label_views}
+use Rattle.codespan_picture.specs.{max_label_end, single_label_views}
 use Rattle.codespan_picture.proofs.rows.carets.max_label_end.Given as goal
 
 -- the remaining labels decide

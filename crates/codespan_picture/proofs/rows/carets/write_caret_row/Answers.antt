@@ -1,12 +1,9 @@
-use Rattle.std.proofs.Common.{List, arith, refl, sym, ap, ◌∙◌}
-use Rattle.std.proofs.lemmas.Bool.Decides.{nat_tests}
+use Rattle.codespan_core.proofs.Std.{List, arith, refl, sym, ap, ◌∙◌, nat_tests}
+use Rattle.codespan_picture.specs.{SingleLabelTuple, single_label_views, trailing_label, caret_row}
+use Rattle.codespan_picture.specs.Private.{context_view, line_view}
 use Rattle.codespan_core.proofs.Chains.{written-then, failed-then, failed-before, failed}
 use Rattle.codespan_core.proofs.Chains.{writes-last}
 use Rattle.codespan_core.proofs.Writes.{with_written-nil}
-use Rattle.codespan_picture.specs.Arguments.{SingleLabelTuple, single_label_views}
-use Rattle.codespan_picture.specs.Private.LineViews.{context_view, line_view}
-use Rattle.codespan_picture.specs.Rows.{trailing_label}
-use Rattle.codespan_picture.specs.RowStreams.{caret_row}
 use Rattle.codespan_picture.proofs.RowEquations.{caret_rows_none, caret_rows_some}
 use Rattle.codespan_picture.proofs.rows.carets.write_caret_row.Goals as goal
 

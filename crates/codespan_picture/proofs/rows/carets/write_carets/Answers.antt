@@ -1,19 +1,20 @@
+use Rattle.codespan_core.proofs.Std.{rules, List, ◌≡◌, ◌+◌, ◌<◌, ◌≤◌, ◌∷◌, ◌++◌, None, length, refl}
+use Rattle.codespan_core.proofs.Std.{ap, subst, ◌∙◌, arith, err_from_is_err_and, IsUtf8-had}
+use Rattle.std.proofs.Common.{Fits}
+use Rattle.codespan_picture.specs.{max_label_end, style_under, style_change, SingleLabelTuple}
+use Rattle.codespan_picture.specs.{single_label_views}
+use Rattle.codespan_picture.specs.Private.{context_view, caret_run, CharInput, AreContiguous}
 use mir.Syntax.{w128}
-use Rattle.std.proofs.Common.{rules, Fits, List, ◌≡◌, ◌+◌, ◌<◌, ◌≤◌, ◌∷◌, ◌++◌, None, length, refl, ap, subst, ◌∙◌, arith}
-use Rattle.codespan_picture.specs.Carets.{max_label_end, style_under}
-use Rattle.codespan_picture.specs.RowParts.{style_change}
-use Rattle.std.proofs.lemmas.Result.{err_from_is_err_and}
-use Rattle.std.proofs.lemmas.Str.{IsUtf8-had}
-use Rattle.codespan_core.proofs.Loops.{StillToWrite-start, StillToWrite-more, StillToWrite-failed, StillToWrite-last}
-use Rattle.codespan_picture.specs.Arguments.{SingleLabelTuple, single_label_views}
-use Rattle.codespan_picture.specs.Private.LineViews.{context_view}
-use Rattle.codespan_picture.specs.Private.Runs.{caret_run}
-use Rattle.codespan_picture.proofs.CaretRuns.{caret_count, carets_left, carets-same, carets-turn, carets-end, carets-past, counts-all}
-use Rattle.codespan_picture.proofs.ScanState.{ScanState, consecutive_within-follow, scan_state-fits, scan_state-to_end, scan_state-more}
+use Rattle.codespan_core.proofs.Loops.{StillToWrite-start, StillToWrite-more, StillToWrite-failed}
+use Rattle.codespan_core.proofs.Loops.{StillToWrite-last}
+use Rattle.codespan_picture.proofs.CaretRuns.{caret_count, carets_left, carets-same, carets-turn}
+use Rattle.codespan_picture.proofs.CaretRuns.{carets-end, carets-past, counts-all}
+use Rattle.codespan_picture.proofs.ScanState.{ScanState, consecutive_within-follow, scan_state-fits}
+use Rattle.codespan_picture.proofs.ScanState.{scan_state-to_end, scan_state-more}
 use Rattle.codespan_picture.proofs.SkippedCells.{carets-prefix, scan_state-left}
-use Rattle.codespan_picture.specs.Private.LineCharacters.{CharInput}
-use Rattle.codespan_picture.proofs.rows.carets.write_carets.Goals.{then-ne+in_ok-end_caret_run, else-ne, in_default, in-Some+then-metrics-end}
-use Rattle.codespan_picture.specs.Private.CharCursors.{AreContiguous}
+use Rattle.codespan_picture.proofs.rows.carets.write_carets.Goals.{then-ne+in_ok-end_caret_run}
+use Rattle.codespan_picture.proofs.rows.carets.write_carets.Goals.{else-ne, in_default}
+use Rattle.codespan_picture.proofs.rows.carets.write_carets.Goals.{in-Some+then-metrics-end}
 use Rattle.codespan_picture.proofs.rows.carets.write_carets.Given.{Over}
 use Rattle.codespan_picture.proofs.rows.carets.write_carets.Goals as goal
 
@@ -124,7 +125,8 @@ returns g c =
     let at = c.loop-metrics in
     let context = context_view c.args.rows.now.context in
     let labels = single_label_views c.args.rows.now.line.labels.now in
-    let end : caret_run context.chars at.previous at.run ++ style_change context.severity at.previous None
+    let end : caret_run context.chars at.previous at.run ++ style_change context.severity
+    at.previous None
     ≡ carets_left context labels at.previous at.run (g.S.Cursor.CharCursor.remaining at.cursor) =
     elim c.match-next_metrics.branch [
       | in_default w ↦ carets-end context labels at.previous at.run _ w.in_default.ensures.next.0

@@ -1,9 +1,7 @@
-use Rattle.std.proofs.Common.{◌≡◌, ◌+◌, length}
+use Rattle.codespan_core.proofs.Std.{◌≡◌, ◌+◌, length}
+use Rattle.codespan_picture.specs.{char_metrics_to_end, single_label_views, carets}
+use Rattle.codespan_picture.specs.Private.{context_view}
 use Rattle.codespan_core.proofs.Loops.{StillToWrite}
-use Rattle.codespan_picture.specs.CharMetrics.{char_metrics_to_end}
-use Rattle.codespan_picture.specs.Arguments.{single_label_views}
-use Rattle.codespan_picture.specs.Private.LineViews.{context_view}
-use Rattle.codespan_picture.specs.RowParts.{carets}
 use Rattle.codespan_picture.proofs.CaretRuns.{carets_left}
 use Rattle.codespan_picture.proofs.ScanState.{ScanState}
 use Rattle.codespan_picture.proofs.rows.carets.write_carets.Given as goal

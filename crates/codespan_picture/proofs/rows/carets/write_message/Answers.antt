@@ -1,5 +1,6 @@
-use Rattle.codespan_core.proofs.Chains.{written-then, failed-then, failed-before, failed, writes-last}
-use Rattle.codespan_picture.specs.RowParts.{label_message}
+use Rattle.codespan_picture.specs.{label_message}
+use Rattle.codespan_core.proofs.Chains.{written-then, failed-then, failed-before, failed}
+use Rattle.codespan_core.proofs.Chains.{writes-last}
 use Rattle.codespan_picture.proofs.rows.carets.write_message.Goals as goal
 
 pub returns-in_err-put_mark : goal.returns-in_err-put_mark

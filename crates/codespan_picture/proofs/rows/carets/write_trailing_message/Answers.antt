@@ -1,5 +1,5 @@
+use Rattle.codespan_picture.specs.{trailing_message}
 use Rattle.codespan_core.proofs.Chains.{failed-before, failed, writes-last}
-use Rattle.codespan_picture.specs.RowParts.{trailing_message}
 use Rattle.codespan_picture.proofs.rows.carets.write_trailing_message.Goals as goal
 
 pub returns-in_err-put_all-in-Some : goal.returns-in_err-put_all-in-Some

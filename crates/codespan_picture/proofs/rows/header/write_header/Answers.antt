@@ -1,5 +1,6 @@
-use Rattle.codespan_core.proofs.Chains.{written-then, failed-then, failed-before, failed, writes-last}
-use Rattle.codespan_picture.specs.RowStreams.{header_row}
+use Rattle.codespan_picture.specs.{header_row}
+use Rattle.codespan_core.proofs.Chains.{written-then, failed-then, failed-before, failed}
+use Rattle.codespan_core.proofs.Chains.{writes-last}
 use Rattle.codespan_picture.proofs.rows.header.write_header.Goals as goal
 
 pub returns-in_err-write_header_locus : goal.returns-in_err-write_header_locus

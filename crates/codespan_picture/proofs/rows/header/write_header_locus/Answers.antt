@@ -1,5 +1,5 @@
+use Rattle.codespan_picture.specs.{header_locus}
 use Rattle.codespan_core.proofs.Chains.{failed-before, failed-then, failed}
-use Rattle.codespan_picture.specs.RowStreams.{header_locus}
 use Rattle.codespan_picture.proofs.rows.header.write_header_locus.Goals as goal
 
 pub returns-in_err-snippet_locus : goal.returns-in_err-snippet_locus

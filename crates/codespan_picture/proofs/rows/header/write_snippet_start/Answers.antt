@@ -1,8 +1,10 @@
-use Rattle.std.proofs.Common.{◌≡◌, refl, ◌∙◌}
+use Rattle.codespan_core.proofs.Std.{◌≡◌, refl, ◌∙◌}
 use Rattle.codespan_core.specs.SnippetStarts.{start_text}
-use Rattle.codespan_core.proofs.Chains.{written-then, failed-then, failed-before, failed, writes-last}
-use Rattle.codespan_picture.specs.RowStreams.{snippet_start_row}
-use Rattle.codespan_picture.proofs.rows.header.write_snippet_start.Goals.{After-as_bytes, in-Fixed, in-Owned}
+use Rattle.codespan_picture.specs.{snippet_start_row}
+use Rattle.codespan_core.proofs.Chains.{written-then, failed-then, failed-before, failed}
+use Rattle.codespan_core.proofs.Chains.{writes-last}
+use Rattle.codespan_picture.proofs.rows.header.write_snippet_start.Goals.{After-as_bytes, in-Fixed}
+use Rattle.codespan_picture.proofs.rows.header.write_snippet_start.Goals.{in-Owned}
 use Rattle.codespan_picture.proofs.rows.header.write_snippet_start.Given.{Over}
 use Rattle.codespan_picture.proofs.rows.header.write_snippet_start.Goals as goal
 

@@ -1,4 +1,4 @@
-use Rattle.std.proofs.Common.{refl, sym, ap, ◌∙◌, arith}
+use Rattle.codespan_core.proofs.Std.{refl, sym, ap, ◌∙◌, arith}
 use Rattle.codespan_core.specs.WriterLaw.{with_written}
 use Rattle.codespan_core.proofs.Writes.{with_written-nil}
 use Rattle.codespan_picture.proofs.LaneCursor.{cursor-end, cursor-lanes}

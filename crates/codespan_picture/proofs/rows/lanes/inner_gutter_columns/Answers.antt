@@ -1,7 +1,8 @@
-use Rattle.std.proofs.Common.{arith, drop}
-use Rattle.std.proofs.lemmas.Result.{err_from_is_err_and}
-use Rattle.codespan_core.proofs.Loops.{StillToWrite-start, StillToWrite-more, StillToWrite-failed, StillToWrite-end}
-use Rattle.codespan_picture.proofs.LaneCursor.{cursor-empty_lanes, cursor-next, cursor-end, cursor-lanes}
+use Rattle.codespan_core.proofs.Std.{arith, drop, err_from_is_err_and}
+use Rattle.codespan_core.proofs.Loops.{StillToWrite-start, StillToWrite-more, StillToWrite-failed}
+use Rattle.codespan_core.proofs.Loops.{StillToWrite-end}
+use Rattle.codespan_picture.proofs.LaneCursor.{cursor-empty_lanes, cursor-next, cursor-end}
+use Rattle.codespan_picture.proofs.LaneCursor.{cursor-lanes}
 use Rattle.codespan_picture.proofs.rows.lanes.inner_gutter_columns.Goals as goal
 
 pub loop-lane-init : goal.loop-lane-init

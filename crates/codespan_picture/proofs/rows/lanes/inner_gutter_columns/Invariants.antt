@@ -1,6 +1,6 @@
-use Rattle.std.proofs.Common.{◌-◌, drop}
+use Rattle.codespan_core.proofs.Std.{◌-◌, drop}
+use Rattle.codespan_picture.specs.Private.{context_view, lanes_view, row_lanes_stream}
 use Rattle.codespan_core.proofs.Loops.{StillToWrite}
-use Rattle.codespan_picture.specs.Private.LineViews.{context_view, lanes_view, row_lanes_stream}
 use Rattle.codespan_picture.proofs.LaneCursor.{cursor}
 use Rattle.codespan_picture.proofs.rows.lanes.inner_gutter_columns.Given as goal
 

@@ -1,4 +1,4 @@
-use Rattle.std.proofs.Common.{refl, arith, rules, le-ltb, ◌≤◌}
+use Rattle.codespan_core.proofs.Std.{refl, arith, rules, le-ltb, ◌≤◌}
 use Rattle.codespan_picture.proofs.rows.lanes.num_empty_lanes.Goals.{in-Source, in-Underline}
 use Rattle.codespan_picture.proofs.rows.lanes.num_empty_lanes.Goals as goal
 

@@ -1,5 +1,6 @@
-use Rattle.codespan_core.proofs.Chains.{written-then, failed-then, failed-before, failed, writes-last}
-use Rattle.codespan_picture.specs.Lanes.{crossing_characters}
+use Rattle.codespan_picture.specs.{crossing_characters}
+use Rattle.codespan_core.proofs.Chains.{written-then, failed-then, failed-before, failed}
+use Rattle.codespan_core.proofs.Chains.{writes-last}
 use Rattle.codespan_picture.proofs.rows.lanes.write_crossing_characters.Goals as goal
 
 pub returns-in-None : goal.returns-in-None

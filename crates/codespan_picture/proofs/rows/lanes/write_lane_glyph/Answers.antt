@@ -1,5 +1,5 @@
+use Rattle.codespan_picture.specs.{label_glyph}
 use Rattle.codespan_core.proofs.Chains.{failed-before, failed, writes-last}
-use Rattle.codespan_picture.specs.Lanes.{label_glyph}
 use Rattle.codespan_picture.proofs.rows.lanes.write_lane_glyph.Goals as goal
 
 pub returns-in_err-write_crossing_characters : goal.returns-in_err-write_crossing_characters

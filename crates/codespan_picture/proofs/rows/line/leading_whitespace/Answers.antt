@@ -1,6 +1,7 @@
-use Rattle.std.proofs.Common.{◌≡◌, ℕ, length, length-append, ap, sym, ◌∙◌, arith}
+use Rattle.codespan_core.proofs.Std.{◌≡◌, ℕ, length, length-append, ap, sym, ◌∙◌, arith}
+use Rattle.codespan_core.proofs.Std.{length-encode}
 use Rattle.std.specs.Str.Iter.{chars_rest}
-use Rattle.std.proofs.lemmas.Str.{IsUtf8-past_char, length-encode}
+use Rattle.std.proofs.lemmas.Str.{IsUtf8-past_char}
 use Rattle.codespan_picture.proofs.CharSteps.{leading-more, leading-stop, leading-end}
 use Rattle.codespan_picture.proofs.rows.line.leading_whitespace.Goals as goal
 

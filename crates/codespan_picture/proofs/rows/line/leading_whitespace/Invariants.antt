@@ -1,7 +1,6 @@
-use Rattle.std.proofs.Common.{◌≡◌, ◌+◌, length}
-use Rattle.std.specs.Str.{IsUtf8}
+use Rattle.codespan_core.proofs.Std.{◌≡◌, ◌+◌, length, IsUtf8}
 use Rattle.std.specs.Str.Iter.{chars_rest}
-use Rattle.codespan_picture.specs.CharMetrics.{leading_whitespace}
+use Rattle.codespan_picture.specs.{leading_whitespace}
 use Rattle.codespan_picture.proofs.rows.line.leading_whitespace.Given as goal
 
 abbrev pub invariant-loop-c : goal.invariant-loop-c

@@ -1,7 +1,6 @@
-use Rattle.std.proofs.Common.{◌≡◌, ◌+◌, ◌≤◌, length, take}
+use Rattle.codespan_core.proofs.Std.{◌≡◌, ◌+◌, ◌≤◌, length, take, IsCharBoundary}
 use Rattle.std.specs.List.{suffix_len}
-use Rattle.std.specs.Str.{IsCharBoundary}
-use Rattle.codespan_picture.specs.CharMetrics.{is_line_end}
+use Rattle.codespan_picture.specs.{is_line_end}
 use Rattle.codespan_picture.proofs.rows.line.text_without_line_end.Given as goal
 
 abbrev pub invariant-loop-end : goal.invariant-loop-end

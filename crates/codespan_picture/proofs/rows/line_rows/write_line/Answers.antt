@@ -1,5 +1,6 @@
-use Rattle.codespan_core.proofs.Chains.{written-then, failed-then, failed-before, failed, writes-last}
-use Rattle.codespan_picture.specs.Private.LineViews.{context_view, line_view}
+use Rattle.codespan_picture.specs.Private.{context_view, line_view}
+use Rattle.codespan_core.proofs.Chains.{written-then, failed-then, failed-before, failed}
+use Rattle.codespan_core.proofs.Chains.{writes-last}
 use Rattle.codespan_picture.proofs.RowEquations.{line_rows}
 use Rattle.codespan_picture.proofs.rows.line_rows.write_line.Goals as goal
 

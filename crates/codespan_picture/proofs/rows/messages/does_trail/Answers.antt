@@ -1,8 +1,7 @@
-use Rattle.std.proofs.Common.{arith}
-use Rattle.std.proofs.lemmas.Grind.{common_steps}
-use Rattle.std.proofs.lemmas.Bool.Decides.{nat_tests}
+use Rattle.codespan_core.proofs.Std.{arith, common_steps, nat_tests}
 use Rattle.codespan_picture.proofs.TrailingLabel.{trails_at}
-use Rattle.codespan_picture.proofs.rows.messages.does_trail.Goals.{then-not-is_empty, else-not-is_empty}
+use Rattle.codespan_picture.proofs.rows.messages.does_trail.Goals.{then-not-is_empty}
+use Rattle.codespan_picture.proofs.rows.messages.does_trail.Goals.{else-not-is_empty}
 use Rattle.codespan_picture.proofs.rows.messages.does_trail.Goals as goal
 
 pub returns-then-not-overlaps_any : goal.returns-then-not-overlaps_any

@@ -1,4 +1,4 @@
-use Rattle.std.proofs.Common.{arith, sym, ◌∙◌}
+use Rattle.codespan_core.proofs.Std.{arith, sym, ◌∙◌}
 use Rattle.codespan_picture.proofs.TrailingLabel.{any_from}
 use Rattle.codespan_picture.proofs.rows.messages.has_any_message.Goals as goal
 

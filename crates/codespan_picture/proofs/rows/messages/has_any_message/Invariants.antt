@@ -1,7 +1,6 @@
-use Rattle.std.proofs.Common.{◌≡◌, drop}
-use Rattle.std.specs.List.{list_any}
+use Rattle.codespan_core.proofs.Std.{◌≡◌, drop, list_any}
 use Rattle.codespan_core.specs.Labels.{has_message}
-use Rattle.codespan_picture.specs.Arguments.{single_label_views}
+use Rattle.codespan_picture.specs.{single_label_views}
 use Rattle.codespan_picture.proofs.rows.messages.has_any_message.Given as goal
 
 -- the remaining labels decide

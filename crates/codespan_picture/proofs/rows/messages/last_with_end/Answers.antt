@@ -1,4 +1,4 @@
-use Rattle.std.proofs.Common.{arith}
+use Rattle.codespan_core.proofs.Std.{arith}
 use Rattle.codespan_picture.proofs.TrailingLabel.{last_here, none_ends}
 use Rattle.codespan_picture.proofs.rows.messages.last_with_end.Goals as goal
 

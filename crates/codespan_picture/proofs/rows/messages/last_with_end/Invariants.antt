@@ -1,4 +1,4 @@
-use Rattle.std.proofs.Common.{drop}
+use Rattle.codespan_core.proofs.Std.{drop}
 use Rattle.codespan_picture.proofs.TrailingLabel.{NoneEnds}
 use Rattle.codespan_picture.proofs.rows.messages.last_with_end.Given as goal
 

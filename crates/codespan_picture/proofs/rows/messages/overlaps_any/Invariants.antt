@@ -1,6 +1,5 @@
-use Rattle.std.proofs.Common.{◌≡◌, drop}
-use Rattle.codespan_picture.specs.Arguments.{single_label_view, single_label_views}
-use Rattle.codespan_picture.specs.Rows.{overlaps_any}
+use Rattle.codespan_core.proofs.Std.{◌≡◌, drop}
+use Rattle.codespan_picture.specs.{single_label_view, single_label_views, overlaps_any}
 use Rattle.codespan_picture.proofs.rows.messages.overlaps_any.Given as goal
 
 -- the remaining others decide

@@ -1,7 +1,7 @@
-use Rattle.codespan_core.proofs.Chains.{written-then, failed-then, failed-before, failed, writes-last}
+use Rattle.codespan_picture.specs.{break_row, border_left_break}
+use Rattle.codespan_core.proofs.Chains.{written-then, failed-then, failed-before, failed}
+use Rattle.codespan_core.proofs.Chains.{writes-last}
 use Rattle.codespan_picture.proofs.RowEquations.{plain_lanes_are}
-use Rattle.codespan_picture.specs.RowStreams.{break_row}
-use Rattle.codespan_picture.specs.RowParts.{border_left_break}
 use Rattle.codespan_picture.proofs.rows.notes.write_break.Goals as goal
 
 pub returns-in_err-outer_gutter : goal.returns-in_err-outer_gutter

@@ -1,8 +1,8 @@
-use Rattle.std.proofs.Common.{ap, refl}
+use Rattle.codespan_core.proofs.Std.{ap, refl, err_from_is_err_and}
 use Rattle.std.proofs.lemmas.Iterator.Splits.{YieldsList-from_lines}
-use Rattle.std.proofs.lemmas.Result.{err_from_is_err_and}
-use Rattle.codespan_core.proofs.Loops.{StillToWrite-start, StillToWrite-more, StillToWrite-failed, StillToWrite-end}
-use Rattle.codespan_picture.specs.RenderedRows.{later_note_rows_stream, note_stream}
+use Rattle.codespan_picture.specs.{later_note_rows_stream, note_stream}
+use Rattle.codespan_core.proofs.Loops.{StillToWrite-start, StillToWrite-more, StillToWrite-failed}
+use Rattle.codespan_core.proofs.Loops.{StillToWrite-end}
 use Rattle.codespan_picture.proofs.UnderlineRows.{first-note, later-note, lines-next, lines-none}
 use Rattle.codespan_picture.proofs.rows.notes.write_note.Goals as goal
 

@@ -1,5 +1,5 @@
 use Rattle.std.specs.Str.Lines.{lines}
-use Rattle.codespan_picture.specs.RenderedRows.{note_stream}
+use Rattle.codespan_picture.specs.{note_stream}
 use Rattle.codespan_picture.proofs.UnderlineRows.{NotesToWrite}
 use Rattle.codespan_picture.proofs.rows.notes.write_note.Given as goal
 

@@ -1,7 +1,10 @@
-use Rattle.codespan_core.proofs.Chains.{WroteStream, written-then, failed-then, failed-before, failed, writes-last}
-use Rattle.codespan_picture.specs.Private.WrittenParts.{note_bullet}
+use Rattle.codespan_picture.specs.Private.{note_bullet}
+use Rattle.codespan_core.proofs.Chains.{WroteStream, written-then, failed-then, failed-before}
+use Rattle.codespan_core.proofs.Chains.{failed, writes-last}
 use Rattle.codespan_picture.proofs.rows.notes.write_note_row.Given.{Over}
-use Rattle.codespan_picture.proofs.rows.notes.write_note_row.Goals.{After-put_all-2, in-Some+in_ok-write_glyph-in-Some, in-None+in_ok-put_all-in-None}
+use Rattle.codespan_picture.proofs.rows.notes.write_note_row.Goals.{After-put_all-2}
+use Rattle.codespan_picture.proofs.rows.notes.write_note_row.Goals.{in-Some+in_ok-write_glyph-in-Some}
+use Rattle.codespan_picture.proofs.rows.notes.write_note_row.Goals.{in-None+in_ok-put_all-in-None}
 use Rattle.codespan_picture.proofs.rows.notes.write_note_row.Goals as goal
 
 -- the bullet was written, or a space

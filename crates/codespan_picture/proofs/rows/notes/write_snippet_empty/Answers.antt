@@ -1,7 +1,7 @@
-use Rattle.codespan_core.proofs.Chains.{written-then, failed-then, failed-before, failed, writes-last}
+use Rattle.codespan_picture.specs.{empty_row, border_left}
+use Rattle.codespan_core.proofs.Chains.{written-then, failed-then, failed-before, failed}
+use Rattle.codespan_core.proofs.Chains.{writes-last}
 use Rattle.codespan_picture.proofs.RowEquations.{plain_lanes_are}
-use Rattle.codespan_picture.specs.RowStreams.{empty_row}
-use Rattle.codespan_picture.specs.RowParts.{border_left}
 use Rattle.codespan_picture.proofs.rows.notes.write_snippet_empty.Goals as goal
 
 pub returns-in_err-outer_gutter : goal.returns-in_err-outer_gutter

@@ -1,5 +1,5 @@
+use Rattle.codespan_picture.specs.{snippet_locus}
 use Rattle.codespan_core.proofs.Chains.{written-then, failed-then, failed-before, failed}
-use Rattle.codespan_picture.specs.RowParts.{snippet_locus}
 use Rattle.codespan_picture.proofs.rows.parts.snippet_locus.Goals as goal
 
 pub returns-in_err-put_all : goal.returns-in_err-put_all

@@ -1,4 +1,5 @@
-use Rattle.codespan_core.proofs.Chains.{written-then, failed-then, failed-before, failed, writes-last}
+use Rattle.codespan_core.proofs.Chains.{written-then, failed-then, failed-before, failed}
+use Rattle.codespan_core.proofs.Chains.{writes-last}
 use Rattle.codespan_picture.proofs.rows.parts.write_glyph.Goals as goal
 
 pub returns-in_err-put_mark : goal.returns-in_err-put_mark

@@ -1,7 +1,7 @@
-use Rattle.codespan_core.proofs.Chains.{written-then, failed-then, failed-before, failed, writes-last}
+use Rattle.codespan_picture.specs.{row_start, border_left}
+use Rattle.codespan_core.proofs.Chains.{written-then, failed-then, failed-before, failed}
+use Rattle.codespan_core.proofs.Chains.{writes-last}
 use Rattle.codespan_picture.proofs.RowEquations.{below_lanes_are}
-use Rattle.codespan_picture.specs.RowStreams.{row_start}
-use Rattle.codespan_picture.specs.RowParts.{border_left}
 use Rattle.codespan_picture.proofs.rows.parts.write_row_start.Goals as goal
 
 pub returns-in_err-outer_gutter : goal.returns-in_err-outer_gutter

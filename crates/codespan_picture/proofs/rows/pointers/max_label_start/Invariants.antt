@@ -1,7 +1,6 @@
-use Rattle.std.proofs.Common.{◌≡◌, fold, drop, max}
+use Rattle.codespan_core.proofs.Std.{◌≡◌, fold, drop, max}
 use Rattle.codespan_core.specs.Labels.{LabelModel}
-use Rattle.codespan_picture.specs.Arguments.{single_label_views}
-use Rattle.codespan_picture.specs.RowParts.{max_label_start}
+use Rattle.codespan_picture.specs.{single_label_views, max_label_start}
 use Rattle.codespan_picture.proofs.rows.pointers.max_label_start.Given as goal
 
 -- the remaining labels decide

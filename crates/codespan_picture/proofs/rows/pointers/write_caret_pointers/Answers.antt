@@ -1,13 +1,10 @@
-use Rattle.std.proofs.Common.{◌≡◌, ◌-◌, ap, ◌∙◌}
-use Rattle.std.proofs.lemmas.Result.{err_from_is_err_and}
+use Rattle.codespan_core.proofs.Std.{◌≡◌, ◌-◌, ap, ◌∙◌, err_from_is_err_and}
 use Rattle.codespan_core.specs.Streams.{spaces}
+use Rattle.codespan_picture.specs.{label_glyph}
+use Rattle.codespan_picture.specs.Private.{pointers_of, context_view, pointers_before, spaced}
 use Rattle.codespan_core.proofs.Chains.{failed-before, failed-then, written-then}
 use Rattle.codespan_core.proofs.Loops.{StillToWrite-start, StillToWrite-more, StillToWrite-failed}
 use Rattle.codespan_core.proofs.Loops.{StillToWrite-last}
-use Rattle.codespan_picture.specs.Lanes.{label_glyph}
-use Rattle.codespan_picture.specs.Private.LineCharacters.{pointers_of}
-use Rattle.codespan_picture.specs.Private.LineViews.{context_view}
-use Rattle.codespan_picture.specs.Private.PointerLists.{pointers_before, spaced}
 use Rattle.codespan_picture.proofs.SpacedPointers.{spaced-next, spaced-stop, spaced-end}
 use Rattle.codespan_picture.proofs.rows.pointers.write_caret_pointers.Goals.{in-Some+then-pointer-byte_index}
 use Rattle.codespan_picture.proofs.rows.pointers.write_caret_pointers.Goals.{in_default}

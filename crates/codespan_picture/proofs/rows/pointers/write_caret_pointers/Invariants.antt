@@ -1,8 +1,7 @@
-use Rattle.std.proofs.Common.{length}
+use Rattle.codespan_core.proofs.Std.{length}
+use Rattle.codespan_picture.specs.Private.{context_view, pointers_before, spaced}
+use Rattle.codespan_picture.specs.Private.{pointers_before_stream}
 use Rattle.codespan_core.proofs.Loops.{StillToWrite}
-use Rattle.codespan_picture.specs.Private.LineViews.{context_view}
-use Rattle.codespan_picture.specs.Private.PointerLists.{pointers_before, spaced}
-use Rattle.codespan_picture.specs.Private.WrittenParts.{pointers_before_stream}
 use Rattle.codespan_picture.proofs.rows.pointers.write_caret_pointers.Given as goal
 
 -- the remaining pointers are still to be written

@@ -1,12 +1,9 @@
-use Rattle.std.proofs.Common.{◌≡◌}
-use Rattle.std.specs.Str.{chars}
-use Rattle.codespan_core.proofs.Chains.{written-then, failed-then, failed-before, failed, writes-last}
-use Rattle.codespan_picture.specs.Arguments.{single_label_views}
-use Rattle.codespan_picture.specs.CharMetrics.{char_metrics}
-use Rattle.codespan_picture.specs.Private.LineViews.{context_view}
-use Rattle.codespan_picture.specs.Private.WrittenParts.{pointers_before_stream}
-use Rattle.codespan_picture.specs.RowParts.{metrics_before, pointers}
-use Rattle.codespan_picture.specs.RowStreams.{hanging_row}
+use Rattle.codespan_core.proofs.Std.{◌≡◌, chars}
+use Rattle.codespan_picture.specs.{single_label_views, char_metrics, metrics_before, pointers}
+use Rattle.codespan_picture.specs.{hanging_row}
+use Rattle.codespan_picture.specs.Private.{context_view, pointers_before_stream}
+use Rattle.codespan_core.proofs.Chains.{written-then, failed-then, failed-before, failed}
+use Rattle.codespan_core.proofs.Chains.{writes-last}
 use Rattle.codespan_picture.proofs.Consecutive.{char_metrics-consecutive}
 use Rattle.codespan_picture.proofs.PointersBefore.{spaced-near}
 use Rattle.codespan_picture.proofs.rows.pointers.write_hanging_row.Given.{Over}

@@ -1,6 +1,6 @@
-use Rattle.std.proofs.Common.{◌≡◌, refl}
-use Rattle.std.proofs.lemmas.Result.{err_from_is_err_and}
-use Rattle.codespan_core.proofs.Loops.{StillToWrite-start, StillToWrite-more, StillToWrite-same, StillToWrite-failed, StillToWrite-end}
+use Rattle.codespan_core.proofs.Std.{◌≡◌, refl, err_from_is_err_and}
+use Rattle.codespan_core.proofs.Loops.{StillToWrite-start, StillToWrite-more, StillToWrite-same}
+use Rattle.codespan_core.proofs.Loops.{StillToWrite-failed, StillToWrite-end}
 use Rattle.codespan_picture.proofs.Hanging.{hanging_first, hanging_skip, hanging_end}
 use Rattle.codespan_picture.proofs.Pieces.{near-last}
 use Rattle.codespan_picture.proofs.rows.pointers.write_hanging_rows.Goals as goal
@@ -8,11 +8,16 @@ use Rattle.codespan_picture.proofs.rows.pointers.write_hanging_rows.Goals as goa
 pub loop-label-init : goal.loop-label-init
 loop-label-init g c =
     let all : c.into_iter-label-iterator.result.iter.rest.now ≡ c.args.labels.now = cc in
-    rw all record { with_written = StillToWrite-start _ _ _ refl; within_max_start = c.requires.within_max_start }
+    rw all record {
+      with_written = StillToWrite-start _ _ _ refl;
+      within_max_start =
+          c.requires.within_max_start;
+    }
 
 pub write_hanging_row-requires : goal.write_hanging_row-requires
 write_hanging_row-requires g c = record {
-  within_max_start = (near-last _ _ _ _ c.in-Some.ensures.steps c.loop-label.invariant.within_max_start).here;
+  within_max_start = (near-last _ _ _ _ c.in-Some.ensures.steps
+      c.loop-label.invariant.within_max_start).here;
 }
 
 pub loop-label-preserved-then-is_empty : goal.loop-label-preserved-then-is_empty
@@ -21,7 +26,8 @@ loop-label-preserved-then-is_empty g c = record {
       StillToWrite-same _ _ _ _ _
       (hanging_skip _ _ _ _ _ _ c.in-Some.ensures.steps c.is_empty.ensures c.if-is_empty.true)
       c.loop-label.invariant.with_written;
-  within_max_start = (near-last _ _ _ _ c.in-Some.ensures.steps c.loop-label.invariant.within_max_start).others;
+  within_max_start = (near-last _ _ _ _ c.in-Some.ensures.steps
+      c.loop-label.invariant.within_max_start).others;
 }
 
 pub returns-in_err-write_hanging_row : goal.returns-in_err-write_hanging_row
@@ -38,7 +44,8 @@ loop-label-preserved g c = record {
       StillToWrite-more _ _ _ _ _ _ _ c.loop-label.invariant.with_written
       c.in_ok-write_hanging_row.ensures
       (hanging_first _ _ _ _ _ _ c.in-Some.ensures.steps c.is_empty.ensures c.if-is_empty.false);
-  within_max_start = (near-last _ _ _ _ c.in-Some.ensures.steps c.loop-label.invariant.within_max_start).others;
+  within_max_start = (near-last _ _ _ _ c.in-Some.ensures.steps
+      c.loop-label.invariant.within_max_start).others;
 }
 
 pub returns : goal.returns

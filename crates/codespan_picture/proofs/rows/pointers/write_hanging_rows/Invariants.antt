@@ -1,10 +1,8 @@
-use Rattle.std.specs.Prelude.{filter, ◌≤◌}
+use Rattle.codespan_core.proofs.Std.{filter, ◌≤◌}
 use Rattle.codespan_core.specs.Labels.{has_message}
+use Rattle.codespan_picture.specs.{single_label_views, max_label_start}
+use Rattle.codespan_picture.specs.Private.{context_view, line_view, hanging_stream}
 use Rattle.codespan_core.proofs.Loops.{StillToWrite}
-use Rattle.codespan_picture.specs.Arguments.{single_label_views}
-use Rattle.codespan_picture.specs.Private.LineViews.{context_view, line_view}
-use Rattle.codespan_picture.specs.RowParts.{max_label_start}
-use Rattle.codespan_picture.specs.Private.RowLabels.{hanging_stream}
 use Rattle.codespan_picture.proofs.rows.pointers.write_hanging_rows.Given as goal
 
 -- the remaining labels are the first ones
@@ -16,6 +14,7 @@ invariant-loop-label g l = record {
       (hanging_stream (context_view l.rows.context) (line_view l.rows.line)
       (filter has_message (single_label_views l.label-iterator.iter.rest.now)))
       (g.W.PutStyle.sink l.w);
-  within_max_start : max_label_start (single_label_views l.label-iterator.iter.rest.now) ≤ max_label_start
+  within_max_start : max_label_start (single_label_views l.label-iterator.iter.rest.now)
+      ≤ max_label_start
       (single_label_views l.rows.line.labels.now);
 }

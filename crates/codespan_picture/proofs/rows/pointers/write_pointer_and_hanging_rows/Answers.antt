@@ -1,15 +1,17 @@
-use Rattle.std.proofs.Common.{◌≡◌, ◌++◌, refl, sym, ◌∙◌, inl, inr}
-use Rattle.codespan_core.proofs.Chains.{written-then, failed-then, failed-before, failed, writes-last}
-use Rattle.codespan_core.proofs.Loops.{StillToWrite-start, StillToWrite-end}
+use Rattle.codespan_core.proofs.Std.{◌≡◌, ◌++◌, refl, sym, ◌∙◌, inl, inr}
 use Rattle.codespan_core.specs.Streams.{newline}
-use Rattle.codespan_picture.specs.Private.LineViews.{context_view, line_view}
-use Rattle.codespan_picture.specs.Private.WrittenParts.{hanging_rows_stream, pointer_and_hanging_rows_stream}
-use Rattle.codespan_picture.specs.RowStreams.{pointer_row}
+use Rattle.codespan_picture.specs.Private.{context_view, line_view, hanging_rows_stream}
+use Rattle.codespan_picture.specs.Private.{pointer_and_hanging_rows_stream}
+use Rattle.codespan_picture.specs.{pointer_row}
+use Rattle.codespan_core.proofs.Chains.{written-then, failed-then, failed-before, failed}
+use Rattle.codespan_core.proofs.Chains.{writes-last}
+use Rattle.codespan_core.proofs.Loops.{StillToWrite-start, StillToWrite-end}
 use Rattle.codespan_picture.proofs.Hanging.{nothing_hangs, all_hanging}
 use Rattle.codespan_picture.proofs.Pieces.{before-near, after-near}
 use Rattle.codespan_picture.proofs.rows.pointers.write_pointer_and_hanging_rows.Given.{Over}
 use Rattle.codespan_picture.proofs.rows.pointers.write_pointer_and_hanging_rows.Goals.{After-write_pointer_row}
-use Rattle.codespan_picture.proofs.rows.pointers.write_pointer_and_hanging_rows.Goals.{else-not-has_any_message-via-then-not-has_any_message+else-not-has_any_message-2, else-not-has_any_message-via-else-not-has_any_message}
+use Rattle.codespan_picture.proofs.rows.pointers.write_pointer_and_hanging_rows.Goals.{else-not-has_any_message-via-then-not-has_any_message+else-not-has_any_message-2}
+use Rattle.codespan_picture.proofs.rows.pointers.write_pointer_and_hanging_rows.Goals.{else-not-has_any_message-via-else-not-has_any_message}
 use Rattle.codespan_picture.proofs.rows.pointers.write_pointer_and_hanging_rows.Goals as goal
 
 -- where a message hangs, the rows are the pointer row and those of the messages

@@ -1,13 +1,8 @@
-use Rattle.std.proofs.Common.{◌≡◌, ◌-◌, ◌^◌, arith}
-use Rattle.std.specs.Str.{chars}
-use Rattle.std.proofs.lemmas.Str.{IsUtf8-had}
-use Rattle.codespan_core.proofs.Chains.{written-then, failed-then, failed-before, failed, writes-last}
-use Rattle.codespan_picture.specs.Arguments.{single_label_views}
-use Rattle.codespan_picture.specs.CharMetrics.{char_metrics}
-use Rattle.codespan_picture.specs.Private.LineViews.{context_view}
-use Rattle.codespan_picture.specs.Private.WrittenParts.{pointers_before_stream}
-use Rattle.codespan_picture.specs.RowParts.{pointers}
-use Rattle.codespan_picture.specs.RowStreams.{pointer_row}
+use Rattle.codespan_core.proofs.Std.{◌≡◌, ◌-◌, ◌^◌, arith, chars, IsUtf8-had}
+use Rattle.codespan_picture.specs.{single_label_views, char_metrics, pointers, pointer_row}
+use Rattle.codespan_picture.specs.Private.{context_view, pointers_before_stream}
+use Rattle.codespan_core.proofs.Chains.{written-then, failed-then, failed-before, failed}
+use Rattle.codespan_core.proofs.Chains.{writes-last}
 use Rattle.codespan_picture.proofs.Consecutive.{char_metrics-consecutive}
 use Rattle.codespan_picture.proofs.PointersBefore.{spaced-all}
 use Rattle.codespan_picture.proofs.RowEquations.{all_before}

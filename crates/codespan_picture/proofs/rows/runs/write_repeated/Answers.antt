@@ -1,6 +1,6 @@
-use Rattle.std.proofs.Common.{arith, refl, ◌-◌, ◌^◌}
-use Rattle.std.proofs.lemmas.Result.{err_from_is_err_and}
-use Rattle.codespan_core.proofs.Loops.{StillToWrite-start, StillToWrite-more, StillToWrite-failed, StillToWrite-last}
+use Rattle.codespan_core.proofs.Std.{arith, refl, ◌-◌, ◌^◌, err_from_is_err_and}
+use Rattle.codespan_core.proofs.Loops.{StillToWrite-start, StillToWrite-more, StillToWrite-failed}
+use Rattle.codespan_core.proofs.Loops.{StillToWrite-last}
 use Rattle.codespan_picture.proofs.RowEquations.{repeated-past}
 use Rattle.codespan_picture.proofs.rows.runs.write_repeated.Goals as goal
 

@@ -1,7 +1,7 @@
-use Rattle.codespan_core.proofs.Chains.{written-then, failed-then, failed-before, failed, writes-last}
+use Rattle.codespan_picture.specs.{source_row, border_left}
+use Rattle.codespan_core.proofs.Chains.{written-then, failed-then, failed-before, failed}
+use Rattle.codespan_core.proofs.Chains.{writes-last}
 use Rattle.codespan_picture.proofs.RowEquations.{source_lanes_are}
-use Rattle.codespan_picture.specs.RowStreams.{source_row}
-use Rattle.codespan_picture.specs.RowParts.{border_left}
 use Rattle.codespan_picture.proofs.rows.source.write_source_row.Goals as goal
 
 pub returns-in_err-outer_gutter_number : goal.returns-in_err-outer_gutter_number

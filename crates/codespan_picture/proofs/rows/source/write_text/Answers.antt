@@ -1,27 +1,30 @@
-use Rattle.std.proofs.Common.{rules, None, drop, ◌≡◌, ◌+◌, ◌-◌, ◌++◌, ap, sym, ◌∙◌, arith}
-use Rattle.std.specs.Char.{encode_utf8}
-use Rattle.std.proofs.lemmas.Result.{err_from_is_err_and}
-use Rattle.std.proofs.lemmas.Str.{IsUtf8-had, length-encode, len_utf8_bounds}
+use Rattle.codespan_core.proofs.Std.{rules, None, drop, ◌≡◌, ◌+◌, ◌-◌, ◌++◌, ap, sym, ◌∙◌, arith}
+use Rattle.codespan_core.proofs.Std.{encode_utf8, err_from_is_err_and, IsUtf8-had, length-encode}
+use Rattle.codespan_core.proofs.Std.{len_utf8_bounds}
 use Rattle.codespan_core.specs.Streams.{byte_stream}
+use Rattle.codespan_picture.specs.Private.{CharInput, metrics_of, context_view, line_view}
+use Rattle.codespan_picture.specs.{style_change}
 use Rattle.codespan_core.proofs.Chains.{failed-before, failed-then, written-then}
-use Rattle.codespan_core.proofs.Loops.{StillToWrite-start, StillToWrite-more, StillToWrite-failed, StillToWrite-last}
-use Rattle.codespan_picture.specs.Private.LineCharacters.{CharInput, metrics_of}
-use Rattle.codespan_picture.specs.Private.LineViews.{context_view, line_view}
-use Rattle.codespan_picture.specs.RowParts.{style_change}
-use Rattle.codespan_picture.proofs.TextRuns.{over-start, over-next, piece, piece-grows, text-start, text-turn, text-same, text-tab, text_rest}
+use Rattle.codespan_core.proofs.Loops.{StillToWrite-start, StillToWrite-more, StillToWrite-failed}
+use Rattle.codespan_core.proofs.Loops.{StillToWrite-last}
+use Rattle.codespan_picture.proofs.TextRuns.{over-start, over-next, piece, piece-grows, text-start}
+use Rattle.codespan_picture.proofs.TextRuns.{text-turn, text-same, text-tab, text_rest}
 use Rattle.codespan_picture.proofs.PlainText.{tail-taken, text-over, text-past, text-plain}
 use Rattle.codespan_picture.proofs.rows.source.write_text.Given.{Over}
-use Rattle.codespan_picture.proofs.rows.source.write_text.Goals.{After-end_text_run-2, in-Some+then-end-plain, in_default}
+use Rattle.codespan_picture.proofs.rows.source.write_text.Goals.{After-end_text_run-2}
+use Rattle.codespan_picture.proofs.rows.source.write_text.Goals.{in-Some+then-end-plain, in_default}
 use Rattle.codespan_picture.proofs.rows.source.write_text.Goals as goal
 
 pub loop-metrics-init : goal.loop-metrics-init
-loop-metrics-init g c = rw (c.characters-cursor.ensures.remaining ∙ ap metrics_of c.args.rows.now.input) record {
-  written_so_far = StillToWrite-start _ _ _ (text-start _ _);
-  over = over-start _ _ (IsUtf8-had _ c.args.rows.now.line.utf8);
-  same = c.characters-cursor.ensures.labels ∙ ap (λ (x : CharInput). x.labels) c.args.rows.now.input;
-  ordered = omega arith;
-  within = omega arith;
-}
+loop-metrics-init g c = rw (c.characters-cursor.ensures.remaining
+    ∙ ap metrics_of c.args.rows.now.input) record {
+      written_so_far = StillToWrite-start _ _ _ (text-start _ _);
+      over = over-start _ _ (IsUtf8-had _ c.args.rows.now.line.utf8);
+      same = c.characters-cursor.ensures.labels ∙ ap (λ (x : CharInput). x.labels)
+          c.args.rows.now.input;
+      ordered = omega arith;
+      within = omega arith;
+    }
 
 pub source_style-style-requires-clause-has_byte : goal.source_style-style-requires-clause-has_byte
 source_style-style-requires-clause-has_byte g c =
@@ -39,7 +42,8 @@ returns-in_err-end_text_run g c =
     rw p.1
     (StillToWrite-failed _ _ _ _ _ _ _ c.loop-metrics.invariant.written_so_far
     (failed-before _ c.in_err-end_text_run.ensures)
-    (text-tab (context_view c.args.rows.now.context) (line_view c.args.rows.now.line) _ _ _ c.in-Some.metrics _
+    (text-tab (context_view c.args.rows.now.context) (line_view c.args.rows.now.line) _ _ _
+    c.in-Some.metrics _
     (g.S.Cursor.CharCursor.remaining c.next_metrics.new.self) c.in-Some.ensures.next
     c.source_style-style.ensures.style c.if-metrics-eq9.true))
 
@@ -50,7 +54,8 @@ returns-in_err-put_spaces g c =
     rw p.1
     (StillToWrite-failed _ _ _ _ _ _ _ c.loop-metrics.invariant.written_so_far
     (failed-then _ c.in_ok-end_text_run.ensures c.in_err-put_spaces.ensures)
-    (text-tab (context_view c.args.rows.now.context) (line_view c.args.rows.now.line) _ _ _ c.in-Some.metrics _
+    (text-tab (context_view c.args.rows.now.context) (line_view c.args.rows.now.line) _ _ _
+    c.in-Some.metrics _
     (g.S.Cursor.CharCursor.remaining c.next_metrics.new.self) c.in-Some.ensures.next
     c.source_style-style.ensures.style c.if-metrics-eq9.true))
 
@@ -61,7 +66,8 @@ returns-in_err-end_text_run-2 g c =
     rw p.1
     (StillToWrite-failed _ _ _ _ _ _ _ c.loop-metrics.invariant.written_so_far
     c.in_err-end_text_run-2.ensures
-    (text-turn (context_view c.args.rows.now.context) (line_view c.args.rows.now.line) _ _ _ c.in-Some.metrics _
+    (text-turn (context_view c.args.rows.now.context) (line_view c.args.rows.now.line) _ _ _
+    c.in-Some.metrics _
     (g.S.Cursor.CharCursor.remaining c.next_metrics.new.self) c.in-Some.ensures.next
     c.source_style-style.ensures.style c.if-metrics-eq9.false))
 
@@ -76,7 +82,8 @@ loop-metrics-preserved-in_ok-put_spaces g c =
           rw none
           (StillToWrite-more _ _ _ _ _ _ _ c.loop-metrics.invariant.written_so_far
           (written-then _ _ _ c.in_ok-end_text_run.ensures c.in_ok-put_spaces.ensures)
-          (text-tab (context_view c.args.rows.now.context) (line_view c.args.rows.now.line) _ _ _ c.in-Some.metrics _
+          (text-tab (context_view c.args.rows.now.context) (line_view c.args.rows.now.line) _ _ _
+          c.in-Some.metrics _
           (g.S.Cursor.CharCursor.remaining c.next_metrics.new.self) c.in-Some.ensures.next
           c.source_style-style.ensures.style c.if-metrics-eq9.true));
       over = n.over;
@@ -100,7 +107,8 @@ loop-metrics-preserved-in_ok-end_text_run-2 g c =
           rw (grows, none)
           (StillToWrite-more _ _ _ _ _ _ _ c.loop-metrics.invariant.written_so_far
           c.in_ok-end_text_run-2.ensures
-          (text-turn (context_view c.args.rows.now.context) (line_view c.args.rows.now.line) _ _ _ c.in-Some.metrics _
+          (text-turn (context_view c.args.rows.now.context) (line_view c.args.rows.now.line) _ _ _
+          c.in-Some.metrics _
           (g.S.Cursor.CharCursor.remaining c.next_metrics.new.self) c.in-Some.ensures.next
           c.source_style-style.ensures.style c.if-metrics-eq9.false));
       over = n.over;
@@ -120,7 +128,8 @@ loop-metrics-preserved g c =
     (rw c.as_bytes-text.ensures.value n.text_left)
     (n.bytes ∙ sym (length-encode c.in-Some.metrics.ch)) in
     let rest =
-    text-same (context_view c.args.rows.now.context) (line_view c.args.rows.now.line) c.loop-metrics.previous
+    text-same (context_view c.args.rows.now.context) (line_view c.args.rows.now.line)
+    c.loop-metrics.previous
     c.source_style-style.result
     (piece c.as_bytes-text.result.now c.loop-metrics.start c.loop-metrics.end) c.in-Some.metrics
     _ (g.S.Cursor.CharCursor.remaining c.next_metrics.new.self) c.in-Some.ensures.next
@@ -141,7 +150,8 @@ rest : (g : Over) (c : After-end_text_run-2 g)
     let context = context_view c.args.rows.now.context in
     let line = line_view c.args.rows.now.line in
     let run = piece c.as_bytes-text.result.now at.start at.end in
-    (byte_stream run ++ style_change context.severity at.previous None) ++ byte_stream (drop at.end line.text)
+    (byte_stream run ++ style_change context.severity at.previous None)
+    ++ byte_stream (drop at.end line.text)
     ≡ text_rest context line at.previous run (g.S.Cursor.CharCursor.remaining at.cursor)
 rest g c =
     let at = c.loop-metrics in
@@ -165,7 +175,8 @@ returns g c =
     tail-taken at.end c.args.rows.now.line.text.now c.as_bytes-text.result.now
     c.as_bytes-text.ensures.value in
     let last =
-    ap (λ l. (byte_stream run ++ style_change context.severity at.previous None) ++ byte_stream l) taken
+    ap (λ l. (byte_stream run ++ style_change context.severity at.previous None) ++ byte_stream l)
+    taken
     ∙ rest g (goal.at.returns g c).After-end_text_run-2 in
     StillToWrite-last _ _ _ _ _ _
     (StillToWrite-more _ _ _ _ _ _ _ at.invariant.written_so_far c.in_ok-end_text_run-3.ensures

@@ -1,7 +1,7 @@
-use Rattle.std.proofs.Common.{◌≡◌, ◌≤◌, length}
+use Rattle.codespan_core.proofs.Std.{◌≡◌, ◌≤◌, length}
+use Rattle.codespan_picture.specs.Private.{context_view, line_view}
+use Rattle.codespan_picture.specs.{colored_text}
 use Rattle.codespan_core.proofs.Loops.{StillToWrite}
-use Rattle.codespan_picture.specs.Private.LineViews.{context_view, line_view}
-use Rattle.codespan_picture.specs.RowParts.{colored_text}
 use Rattle.codespan_picture.proofs.TextRuns.{IsOver, piece, text_rest}
 use Rattle.codespan_picture.proofs.rows.source.write_text.Given as goal
 

@@ -1,8 +1,6 @@
-use Rattle.std.proofs.Common.{◌≡◌, drop, max, fold}
-use Rattle.std.specs.Prelude.{filter}
+use Rattle.codespan_core.proofs.Std.{◌≡◌, drop, max, fold, filter}
 use Rattle.codespan_core.specs.Labels.{LabelModel, is_primary}
-use Rattle.codespan_picture.specs.Carets.{max_label_end}
-use Rattle.codespan_picture.specs.Arguments.{single_label_views}
+use Rattle.codespan_picture.specs.{max_label_end, single_label_views}
 use Rattle.codespan_picture.proofs.rows.text_styles.max_primary_end.Given as goal
 
 -- the remaining labels decide

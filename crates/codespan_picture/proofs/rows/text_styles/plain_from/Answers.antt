@@ -1,6 +1,5 @@
-use Rattle.std.proofs.Common.{◌≤◌, ◌==◌, length, ap, arith, sym, ◌∙◌}
-use Rattle.std.specs.List.{list_any}
-use Rattle.codespan_picture.specs.Private.LineViews.{line_view}
+use Rattle.codespan_core.proofs.Std.{◌≤◌, ◌==◌, length, ap, arith, sym, ◌∙◌, list_any}
+use Rattle.codespan_picture.specs.Private.{line_view}
 use Rattle.codespan_picture.proofs.PlainText.{no-style-past, tail-taken}
 use Rattle.codespan_picture.proofs.rows.text_styles.plain_from.Goals as goal
 

@@ -1,15 +1,11 @@
-use Rattle.std.proofs.Common.{◌≡◌, Bool, true, false, None, Some, refl, sym, ◌∙◌}
-use Rattle.std.specs.Prelude.{◌||◌, ◌&&◌, if◌then◌else◌}
-use Rattle.std.specs.List.{list_any}
+use Rattle.codespan_core.proofs.Std.{◌≡◌, Bool, true, false, None, Some, refl, sym, ◌∙◌, ◌||◌, ◌&&◌}
+use Rattle.codespan_core.proofs.Std.{if◌then◌else◌, list_any, false≢true}
 use Rattle.std.specs.Option.{option_eq}
-use Rattle.std.proofs.lemmas.Bool.{false≢true}
 use Rattle.codespan_core.specs.Labels.{LaneMark, is_primary, is_primary_style}
-use Rattle.codespan_picture.specs.declared.char_metrics.Metrics.{Metrics}
-use Rattle.codespan_picture.specs.Carets.{covers}
-use Rattle.codespan_picture.specs.RowParts.{multi_label_covers, source_style}
-use Rattle.codespan_picture.specs.Rows.{Line}
-use Rattle.codespan_picture.specs.Types.{LabelStyle, Primary, Secondary}
-use Rattle.codespan_picture.specs.Private.LineViews.{line_view}
+use Rattle.codespan_picture.specs.Types.{Metrics}
+use Rattle.codespan_picture.specs.{covers, multi_label_covers, source_style, Line, LabelStyle}
+use Rattle.codespan_picture.specs.{Primary, Secondary}
+use Rattle.codespan_picture.specs.Private.{line_view}
 use Rattle.codespan_picture.proofs.rows.text_styles.source_style.Goals.{then-eq, else-eq}
 use Rattle.codespan_picture.proofs.rows.text_styles.source_style.Goals as goal
 

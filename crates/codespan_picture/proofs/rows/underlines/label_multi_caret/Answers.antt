@@ -1,5 +1,6 @@
-use Rattle.codespan_core.proofs.Chains.{written-then, failed-then, failed-before, failed, writes-last}
-use Rattle.codespan_picture.specs.Private.Underlines.{underline_by_width}
+use Rattle.codespan_picture.specs.Private.{underline_by_width}
+use Rattle.codespan_core.proofs.Chains.{written-then, failed-then, failed-before, failed}
+use Rattle.codespan_core.proofs.Chains.{writes-last}
 use Rattle.codespan_picture.proofs.rows.underlines.label_multi_caret.Goals as goal
 
 pub returns-in_err-write_repeated-in-Top : goal.returns-in_err-write_repeated-in-Top

@@ -1,5 +1,4 @@
-use Rattle.std.proofs.Common.{◌<◌, length, arith}
-use Rattle.std.proofs.lemmas.Bool.Decides.{nat_tests}
+use Rattle.codespan_core.proofs.Std.{◌<◌, length, arith, nat_tests}
 use Rattle.codespan_core.proofs.Chains.{failed-before, failed, writes-last}
 use Rattle.codespan_picture.proofs.UnderlineRows.{underline_message-some}
 use Rattle.codespan_picture.proofs.rows.underlines.write_underline_message.Goals as goal

@@ -1,8 +1,6 @@
-use Rattle.codespan_core.proofs.Chains.{written-then, failed-then, failed-before, failed, writes-last}
-use Rattle.codespan_picture.specs.RowStreams.{underline_row}
-use Rattle.codespan_picture.specs.RowParts.{border_left}
-use Rattle.codespan_picture.specs.CharMetrics.{char_metrics}
-use Rattle.codespan_picture.specs.Arguments.{multi_label_view}
+use Rattle.codespan_picture.specs.{underline_row, border_left, char_metrics, multi_label_view}
+use Rattle.codespan_core.proofs.Chains.{written-then, failed-then, failed-before, failed}
+use Rattle.codespan_core.proofs.Chains.{writes-last}
 use Rattle.codespan_picture.proofs.UnderlineRows.{underline_lanes_are, underline-runs}
 use Rattle.codespan_picture.proofs.rows.underlines.write_underline_row.Goals as goal
 

@@ -1,9 +1,11 @@
-use Rattle.std.proofs.Common.{◌≡◌, [], arith, refl, sym, drop}
-use Rattle.std.proofs.lemmas.Grind.{common_steps}
-use Rattle.std.proofs.lemmas.Result.{err_from_is_err_and}
-use Rattle.codespan_core.proofs.Loops.{StillToWrite-start, StillToWrite-more, StillToWrite-same, StillToWrite-failed, StillToWrite-end}
-use Rattle.codespan_picture.proofs.UnderlineRows.{underlines-in, underlines-out, width-some, width-none}
-use Rattle.codespan_picture.proofs.rows.underlines.write_underlines.Goals.{in-Some+in_ok-write_underline_row, in_default}
+use Rattle.codespan_core.proofs.Std.{◌≡◌, [], arith, refl, sym, drop, common_steps}
+use Rattle.codespan_core.proofs.Std.{err_from_is_err_and}
+use Rattle.codespan_core.proofs.Loops.{StillToWrite-start, StillToWrite-more, StillToWrite-same}
+use Rattle.codespan_core.proofs.Loops.{StillToWrite-failed, StillToWrite-end}
+use Rattle.codespan_picture.proofs.UnderlineRows.{underlines-in, underlines-out, width-some}
+use Rattle.codespan_picture.proofs.UnderlineRows.{width-none}
+use Rattle.codespan_picture.proofs.rows.underlines.write_underlines.Goals.{in-Some+in_ok-write_underline_row}
+use Rattle.codespan_picture.proofs.rows.underlines.write_underlines.Goals.{in_default}
 use Rattle.codespan_picture.proofs.rows.underlines.write_underlines.Goals as goal
 
 pub loop-lane_mark-init : goal.loop-lane_mark-init

@@ -1,8 +1,7 @@
-use Rattle.std.proofs.Common.{drop}
+use Rattle.codespan_core.proofs.Std.{drop}
+use Rattle.codespan_picture.specs.Private.{context_view, line_view}
+use Rattle.codespan_picture.specs.{underline_rows, stream_of_rows}
 use Rattle.codespan_core.proofs.Loops.{StillToWrite}
-use Rattle.codespan_picture.specs.Private.LineViews.{context_view, line_view}
-use Rattle.codespan_picture.specs.Rows.{underline_rows}
-use Rattle.codespan_picture.specs.RowStreams.{stream_of_rows}
 use Rattle.codespan_picture.proofs.UnderlineRows.{underlines_of}
 use Rattle.codespan_picture.proofs.rows.underlines.write_underlines.Given as goal
 

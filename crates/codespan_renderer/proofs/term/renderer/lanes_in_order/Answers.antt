@@ -1,4 +1,5 @@
-use Rattle.std.proofs.Common.{◌≡◌, ℕ, ◌+◌, ◌<◌, ◌≤◌, List, ◌∷◌, map, length, get_or, drop, refl, ◌∙◌, add-one, drop-cons, le-leb, lt-ltb}
+use Rattle.codespan_core.proofs.Std.{◌≡◌, ℕ, ◌+◌, ◌<◌, ◌≤◌, List, ◌∷◌, map, length, get_or, drop}
+use Rattle.codespan_core.proofs.Std.{refl, ◌∙◌, add-one, drop-cons, le-leb, lt-ltb}
 use Rattle.codespan_picture.specs.Arguments.{LaneMarkTuple, lane_mark_view, ascend_from}
 use Rattle.codespan_renderer.proofs.term.renderer.lanes_in_order.Goals as goal
 
@@ -11,7 +12,12 @@ ascends : (count least : ℕ) (lane_marks : List LaneMarkTuple) (i : ℕ) (d : L
 ascends count least lane_marks i d within low high =
     let step : drop i lane_marks ≡ get_or lane_marks i d ∷ drop (i + 1) lane_marks =
     rw (add-one, drop-cons lane_marks i d) refl in
-    rw (step, le-leb least (get_or lane_marks i d).0 low, lt-ltb (get_or lane_marks i d).0 count high) refl
+    rw (
+      step,
+      le-leb least (get_or lane_marks i d).0 low,
+      lt-ltb (get_or lane_marks i d).0 count
+          high,
+    ) refl
 
 pub loop-lane-preserved : goal.loop-lane-preserved
 loop-lane-preserved c =

@@ -1,4 +1,4 @@
-use Rattle.std.proofs.Common.{◌≡◌, drop, map}
+use Rattle.codespan_core.proofs.Std.{◌≡◌, drop, map}
 use Rattle.codespan_picture.specs.Arguments.{lanes_in_order, lane_mark_view, ascend_from}
 use Rattle.codespan_renderer.proofs.term.renderer.lanes_in_order.Given as goal
 

@@ -2,7 +2,8 @@ use Rattle.std.proofs.Common.{rules, ◌≡◌, ◌++◌, map, refl, ap, ◌∙�
 use Rattle.codespan_styled.specs.declared.text.Run.{Run}
 use Rattle.codespan_styled.specs.Private.Recorded.{recorded_run, recorded_runs}
 use Rattle.codespan_styled.specs.Runs.{run_view}
-use Rattle.codespan_styled.proofs.Recording.{contents-ended, nothing_appended, recorded-failed, recorded-started}
+use Rattle.codespan_styled.proofs.Recording.{contents-ended, nothing_appended, recorded-failed}
+use Rattle.codespan_styled.proofs.Recording.{recorded-started}
 use Rattle.codespan_styled.proofs.recorder.Recorder.push_run.Goals as goal
 
 pub returns-in_default-clause-appends : goal.returns-in_default-clause-appends

@@ -1,7 +1,6 @@
-use Rattle.std.proofs.Common.{◌∙◌, sym, arith}
+use Rattle.codespan_core.proofs.Std.{◌∙◌, sym, arith}
+use Rattle.codespan_views.specs.Private.{is_before, annotation_view}
 use Rattle.codespan_picture.proofs.SortedLists.{sorted-map}
-use Rattle.codespan_views.specs.Private.Annotations.{is_before}
-use Rattle.codespan_views.specs.Private.AnnotationViews.{annotation_view}
 use Rattle.codespan_views.proofs.AnnotationOrder.{sorted-join}
 use Rattle.codespan_views.proofs.annotation.order.are_in_order.Goals as goal
 

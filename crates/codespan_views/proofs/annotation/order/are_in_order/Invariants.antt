@@ -1,7 +1,5 @@
-use Rattle.std.proofs.Common.{◌≤◌, ◌-◌, length}
-use Rattle.std.specs.List.Sorted.{IsSortedWithin}
-use Rattle.codespan_views.specs.Private.Annotations.{is_before}
-use Rattle.codespan_views.specs.Private.AnnotationViews.{annotation_view}
+use Rattle.codespan_core.proofs.Std.{◌≤◌, ◌-◌, length, IsSortedWithin}
+use Rattle.codespan_views.specs.Private.{is_before, annotation_view}
 use Rattle.codespan_views.proofs.annotation.order.are_in_order.Given as goal
 
 -- the annotations so far are in order

@@ -1,9 +1,8 @@
-use Rattle.std.proofs.Common.{◌≡◌, ℕ, Ordering, Less, Equal, Greater, nat_cmp, refl, sym, ap, ap₂}
-use Rattle.std.proofs.Common.{◌∙◌}
-use Rattle.std.specs.Ordering.{ordering_then}
+use Rattle.codespan_core.proofs.Std.{◌≡◌, ℕ, nat_cmp, refl, sym, ap, ap₂, ◌∙◌, ordering_then}
+use Rattle.std.proofs.Common.{Ordering, Less, Equal, Greater}
 use Rattle.codespan_core.specs.Labels.{LabelModel, from_line_start}
 use Rattle.codespan_picture.specs.OutputStreams.{label_of}
-use Rattle.codespan_views.specs.Private.Annotations.{Single, kind_cmp}
+use Rattle.codespan_views.specs.Private.{Single, kind_cmp}
 use Rattle.codespan_views.proofs.annotation.order.compare_kinds.Goals as goal
 
 -- a comparison that nothing follows

@@ -1,7 +1,5 @@
-use Rattle.std.proofs.Common.{◌≡◌, ℕ, List, ◌<◌, ◌+◌, ◌==◌, ◌∙◌, ap, Bool, false, refl, sym, subst}
-use Rattle.std.proofs.Common.{arith, get_or, set, length}
-use Rattle.std.proofs.lemmas.Bool.{ne_eqb}
-use Rattle.std.proofs.lemmas.List.{length-append}
+use Rattle.codespan_core.proofs.Std.{◌≡◌, ℕ, List, ◌<◌, ◌+◌, ◌==◌, ◌∙◌, ap, Bool, false, refl, sym}
+use Rattle.codespan_core.proofs.Std.{subst, arith, get_or, set, length, ne_eqb, length-append}
 use Rattle.codespan_views.specs.declared.annotation.order.TheConstants.{MOVED}
 use Rattle.codespan_views.proofs.KeptElements.{AreKept, AreKept-all, AreKept-more, AreKept-room}
 use Rattle.codespan_views.proofs.annotation.order.follow_chains.Goals as goal

@@ -1,4 +1,4 @@
-use Rattle.std.proofs.Common.{◌≤◌, ◌-◌, ◌==◌, length}
+use Rattle.codespan_core.proofs.Std.{◌≤◌, ◌-◌, ◌==◌, length}
 use Rattle.std.specs.Vec.{vec_capacity}
 use Rattle.codespan_views.specs.declared.annotation.order.TheConstants.{MOVED}
 use Rattle.codespan_views.proofs.KeptElements.{AreKept}

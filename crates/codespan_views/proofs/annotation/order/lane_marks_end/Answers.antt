@@ -1,7 +1,5 @@
-use Rattle.std.proofs.Common.{◌+◌, ◌-◌, ◌∙◌, get_or, ap, subst, arith}
-use Rattle.std.proofs.lemmas.List.{get_or_default}
-use Rattle.codespan_views.specs.Private.Annotations.{IsLaneMarkOn, is_before}
-use Rattle.codespan_views.specs.Private.AnnotationViews.{annotation_view}
+use Rattle.codespan_core.proofs.Std.{◌+◌, ◌-◌, ◌∙◌, get_or, ap, subst, arith, get_or_default}
+use Rattle.codespan_views.specs.Private.{IsLaneMarkOn, is_before, annotation_view}
 use Rattle.codespan_views.proofs.AnnotationOrder.{mark_rises, sorted-join}
 use Rattle.codespan_views.proofs.annotation.order.lane_marks_end.Goals as goal
 
@@ -14,7 +12,8 @@ loop-end-init g c =
       within = omega (arith, c.requires);
       sorted = λ k d from below. absurd (omega arith);
       last =
-          subst (λ e. IsLaneMarkOn first.file_index first.line.index c.in-Some.lane (annotation_view e))
+          subst (λ e. IsLaneMarkOn first.file_index first.line.index c.in-Some.lane
+          (annotation_view e))
           (c.index-annotations-start.is ∙ ap (λ i. get_or xs i first) (omega arith))
           c.in-Some.ensures;
     }
@@ -43,7 +42,8 @@ loop-end-preserved g c =
           c.loop-end.invariant.sorted (λ k d from below. absurd (omega arith));
       last =
           subst
-          (λ e. IsLaneMarkOn first.file_index first.line.index c.in-Some-lane_on.next (annotation_view e))
+          (λ e. IsLaneMarkOn first.file_index first.line.index c.in-Some-lane_on.next
+          (annotation_view e))
           (c.index-annotations-end.is ∙ get_or_default xs end new first (omega arith)
           ∙ ap (λ i. get_or xs i first) (omega arith))
           mark;

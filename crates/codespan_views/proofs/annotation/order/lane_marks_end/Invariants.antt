@@ -1,7 +1,5 @@
-use Rattle.std.proofs.Common.{◌<◌, ◌≤◌, ◌-◌, length, get_or}
-use Rattle.std.specs.List.Sorted.{IsSortedWithin}
-use Rattle.codespan_views.specs.Private.Annotations.{IsLaneMarkOn, is_before}
-use Rattle.codespan_views.specs.Private.AnnotationViews.{annotation_view}
+use Rattle.codespan_core.proofs.Std.{◌<◌, ◌≤◌, ◌-◌, length, get_or, IsSortedWithin}
+use Rattle.codespan_views.specs.Private.{IsLaneMarkOn, is_before, annotation_view}
 use Rattle.codespan_views.proofs.annotation.order.lane_marks_end.Given as goal
 
 -- the annotations so far are in order, and the last one is a lane mark in this lane

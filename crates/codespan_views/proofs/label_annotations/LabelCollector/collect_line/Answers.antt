@@ -1,13 +1,8 @@
-use Rattle.std.proofs.Common.{◌≡◌, ◌∙◌, false, true, rules, ap, sym, [], Bool}
-use Rattle.std.proofs.Common.{arith}
-use Rattle.std.proofs.lemmas.Grind.{common_steps}
-use Rattle.std.specs.Prelude.{if◌then◌else◌}
-use Rattle.codespan_views.specs.Private.LabelAnnotations.{line_annotations}
-use Rattle.codespan_views.specs.Private.LabelsToCollect.{label_of_collector}
-use Rattle.codespan_views.specs.Private.LabelSpans.{spans_line}
+use Rattle.codespan_core.proofs.Std.{◌≡◌, ◌∙◌, false, true, rules, ap, sym, [], Bool, arith}
+use Rattle.codespan_core.proofs.Std.{common_steps, if◌then◌else◌}
 use Rattle.codespan_picture.specs.Lookups.{is_looked_up}
 use Rattle.codespan_picture.specs.OutputStreams.{label_of}
-use Rattle.codespan_views.specs.Private.SourceFiles.{model_of}
+use Rattle.codespan_views.specs.Private.{line_annotations, label_of_collector, spans_line, model_of}
 use Rattle.codespan_views.proofs.Collecting.{AppendsAnnotations-none, AppendsAnnotations-as}
 use Rattle.codespan_views.proofs.CollectedLines.{far-spans, looked_up-around, looked_up-spanned}
 use Rattle.codespan_views.proofs.CollectedLines.{succeeded-looked_up}
@@ -28,7 +23,9 @@ returns-then-not-is_around-clause-added g c =
     let not_looked_up : is_looked_up c.args.self.now.config.now f x c.args.index ≡ false =
     search rules in
     λ _. AppendsAnnotations-as
-    (ap (λ (b : Bool). if b then line_annotations c.args.self.now.config.now f c.args.self.now.file_index c.args.self.now.index c.args.self.now.lane x c.args.index else []) not_looked_up)
+    (ap (λ (b : Bool). if b then line_annotations c.args.self.now.config.now f
+    c.args.self.now.file_index c.args.self.now.index c.args.self.now.lane x c.args.index else [])
+    not_looked_up)
     AppendsAnnotations-none
 
 -- whether the label spans the line

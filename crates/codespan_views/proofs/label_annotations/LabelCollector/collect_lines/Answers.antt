@@ -1,15 +1,12 @@
-use contract.Lifetimes.{Lfts}
-use Rattle.std.proofs.lemmas.Grind.{common_steps}
-use Rattle.std.proofs.Common.{rules, ◌≡◌, ℕ, Bool, true, ◌&&◌, ◌+◌, ◌<◌, ◌≤◌, Some, Err, refl, ap}
-use Rattle.std.proofs.Common.{◌∙◌, arith}
-use Rattle.std.proofs.lemmas.Bool.Decides.{nat_tests}
-use Rattle.std.proofs.lemmas.Result.{err_from_is_err_and}
+use Rattle.codespan_core.proofs.Std.{common_steps, rules, ◌≡◌, ℕ, Bool, true, ◌&&◌, ◌+◌, ◌<◌, ◌≤◌}
+use Rattle.codespan_core.proofs.Std.{Some, Err, refl, ap, ◌∙◌, arith, nat_tests}
+use Rattle.codespan_core.proofs.Std.{err_from_is_err_and, nat_cmp}
+use Rattle.std.specs.Ordering.{partial_le, partial_lt}
 use Rattle.codespan_core.specs.Lemmas.Lines.{line_of_below}
 use Rattle.codespan_views.specs.declared.label_annotations.LabelCollector.{LabelCollector}
-use Rattle.codespan_views.specs.Private.LabelsToCollect.{label_of_collector}
-use Rattle.std.specs.Ordering.{nat_cmp, partial_le, partial_lt}
-use Rattle.codespan_views.specs.Private.LabelSpans.{IsFarInside}
-use Rattle.codespan_views.specs.Private.SourceFiles.{line_failure_unless_past_end}
+use Rattle.codespan_views.specs.Private.{label_of_collector, IsFarInside}
+use Rattle.codespan_views.specs.Private.{line_failure_unless_past_end}
+use contract.Lifetimes.{Lfts}
 use Rattle.codespan_views.proofs.Contexts.{CollectsLabel, CollectsLines, HasEnds, collected-start}
 use Rattle.codespan_views.proofs.Contexts.{collected-context, collected-reach, collected-failed}
 use Rattle.codespan_views.proofs.Contexts.{collected-line}
@@ -37,13 +34,19 @@ pub loop-index-init : goal.loop-index-init
 loop-index-init g c = record {
   lines = collected-start (has_ends g c.lifetimes (search rules) c.args.self.now)
       (omega (arith, c.min-index-counter.ensures, c.requires.last))
-      (omega (arith, c.min-index-counter.ensures, c.saturating_sub-first.ensures, c.requires.first));
+      (omega (
+        arith,
+        c.min-index-counter.ensures,
+        c.saturating_sub-first.ensures,
+        c.requires.first,
+      ));
   files = refl;
 }
 
 -- the test of a range
 in_range : (a b k : ℕ) (is_in : Bool)
-    → is_in ≡ (partial_le (λ x y. Some (nat_cmp x y)) a k && partial_lt (λ x y. Some (nat_cmp x y)) k b)
+    → is_in ≡ (partial_le (λ x y. Some (nat_cmp x y)) a k && partial_lt (λ x y. Some (nat_cmp x y))
+    k b)
     → is_in ≡ true → (a ≤ k) × (k < b)
 in_range a b k is_in is is_true = grind (arith, nat_tests)
 
@@ -69,7 +72,8 @@ returns-in_err-collect_line-clause-failed g c =
     rw (p.1 ∙ ap Err p.2) (λ known. let failed = c.in_err-collect_line.ensures.failed known in
     collected-failed {x = x} c.loop-index.invariant.lines
     (has_ends g c.lifetimes (search rules) collector) failed.0
-    (ap (λ k. line_failure_unless_past_end x.file (x.failure x.file_id) k c.loop-index.index-counter) c.requires.last
+    (ap (λ k. line_failure_unless_past_end x.file (x.failure x.file_id) k
+    c.loop-index.index-counter) c.requires.last
     ∙ failed.1))
 
 -- the file has no more lines
@@ -98,7 +102,8 @@ returns-then-not-branch-clause-failed g c = (no_more g c).succeeded
 one_more : (g : Over) (c : goal.Else-not-branch g)
     → CollectsLines (label_of_collector g.F.Files.database c.args.self.now)
     c.args.collected.now.annotations.items c.collect_line.new.collected.annotations.items
-    c.args.collected.now.padding c.collect_line.new.collected.padding (c.loop-index.index-counter + 1)
+    c.args.collected.now.padding c.collect_line.new.collected.padding
+    (c.loop-index.index-counter + 1)
 one_more g c =
     let x = label_of_collector g.F.Files.database c.args.self.now in
     let on = c.if-not-branch.false in
@@ -122,7 +127,8 @@ loop-index-preserved g c = record {
 }
 
 -- the last line is done with
-all_done : (g : Over) (c : goal.Else-not-branch g) → c.max-index-end.result ≤ c.loop-index.index-counter
+all_done : (g : Over) (c : goal.Else-not-branch g) → c.max-index-end.result
+    ≤ c.loop-index.index-counter
     → CollectsLabel (label_of_collector g.F.Files.database c.args.self.now)
     c.args.collected.now.annotations.items c.collect_line.new.collected.annotations.items
     c.args.collected.now.padding c.collect_line.new.collected.padding

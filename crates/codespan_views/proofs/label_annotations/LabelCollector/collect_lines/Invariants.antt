@@ -1,5 +1,5 @@
-use Rattle.std.proofs.Common.{◌≡◌}
-use Rattle.codespan_views.specs.Private.LabelsToCollect.{label_of_collector}
+use Rattle.codespan_core.proofs.Std.{◌≡◌}
+use Rattle.codespan_views.specs.Private.{label_of_collector}
 use Rattle.codespan_views.proofs.Contexts.{CollectsLines}
 use Rattle.codespan_views.proofs.label_annotations.LabelCollector.collect_lines.Given as goal
 

@@ -1,8 +1,7 @@
-use Rattle.std.proofs.Common.{ap}
+use Rattle.codespan_core.proofs.Std.{ap, option_map}
 use Rattle.codespan_core.specs.Labels.{lane_mark_of}
-use Rattle.std.specs.Option.{option_map}
 use Rattle.codespan_picture.specs.OutputStreams.{label_of}
-use Rattle.codespan_views.specs.Private.Annotations.{Multi}
+use Rattle.codespan_views.specs.Private.{Multi}
 use Rattle.codespan_views.proofs.label_annotations.LabelCollector.multi_kind_on_line.Goals as goal
 
 -- a label without a multi-line label mark there has no lane mark

@@ -1,6 +1,5 @@
-use Rattle.std.proofs.Common.{sym, subst}
-use Rattle.codespan_views.specs.Private.LabelsToCollect.{label_of_collector}
-use Rattle.codespan_views.specs.Private.AnnotationViews.{IsLineOf}
+use Rattle.codespan_core.proofs.Std.{sym, subst}
+use Rattle.codespan_views.specs.Private.{label_of_collector, IsLineOf}
 use Rattle.codespan_views.proofs.Collecting.{AppendsAnnotations-as, AppendsAnnotations-both}
 use Rattle.codespan_views.proofs.Collecting.{AppendsAnnotations-weaker, annotation_if_any-line}
 use Rattle.codespan_views.proofs.Collecting.{far-kind, far-multi_label}
@@ -14,9 +13,11 @@ returns-then-is_far-clause-added g c =
     let span = collector.span in
     let line = c.args.line in
     let far = c.requires.far c.if-is_far.true in
-    AppendsAnnotations-as (annotation_if_any-line x c.requires.lines.first c.requires.lines.last c.requires.line
+    AppendsAnnotations-as (annotation_if_any-line x c.requires.lines.first c.requires.lines.last
+    c.requires.line
     (far-kind x.config x.index span.first span.last line.index line.start x.label far)
-    (far-multi_label x.config x.lane span.first span.last line.index line.start collector.label far))
+    (far-multi_label x.config x.lane span.first span.last line.index line.start collector.label
+    far))
     (AppendsAnnotations-weaker (λ e same. subst (IsLineOf x.file) (sym same) c.requires.line)
     c.in_ok-push_annotation.ensures.added)
 
@@ -27,4 +28,5 @@ returns-clause-added g c =
     (annotation_if_any-line x c.requires.lines.first c.requires.lines.last c.requires.line
     c.kind_on_line.ensures c.multi_kind_on_line-lane_mark.ensures)
     (AppendsAnnotations-weaker (λ e same. subst (IsLineOf x.file) (sym same) c.requires.line)
-    (AppendsAnnotations-both c.in_ok-push_annotation-2.ensures.added c.in_ok-push_annotation-3.ensures.added))
+    (AppendsAnnotations-both c.in_ok-push_annotation-2.ensures.added
+    c.in_ok-push_annotation-3.ensures.added))

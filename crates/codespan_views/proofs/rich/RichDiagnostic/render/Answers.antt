@@ -1,11 +1,10 @@
-use Rattle.std.proofs.Common.{Err, rules, refl, sym, ap, ◌∙◌, arith}
-use Rattle.std.proofs.lemmas.Bool.Decides.{nat_tests}
-use Rattle.std.proofs.lemmas.Result.{err_from_is_err_and}
-use Rattle.codespan_core.proofs.Chains.{failed-before}
+use Rattle.codespan_core.proofs.Std.{Err, rules, refl, sym, ap, ◌∙◌, arith, nat_tests}
+use Rattle.codespan_core.proofs.Std.{err_from_is_err_and}
 use Rattle.codespan_picture.specs.OutputStreams.{context_of}
 use Rattle.codespan_picture.specs.RowStreams.{stream_of_rows}
-use Rattle.codespan_views.specs.Private.ViewRendering.{closing_rows}
-use Rattle.codespan_views.specs.Views.{diagnostic_of, view_config_of}
+use Rattle.codespan_views.specs.Private.{closing_rows}
+use Rattle.codespan_views.specs.{diagnostic_of, view_config_of}
+use Rattle.codespan_core.proofs.Chains.{failed-before}
 use Rattle.codespan_views.proofs.CollectedFiles.{failure-is, looked-up}
 use Rattle.codespan_views.proofs.LabelIndexing.{AreFiles, are-files}
 use Rattle.codespan_views.proofs.RendererRuns.{renders_then}

@@ -1,14 +1,10 @@
-use Rattle.std.proofs.Common.{◌≡◌, ◌==◌, ◌+◌, ◌<◌, ◌||◌, not, rules, List, [], ◌∷◌, length, map}
-use Rattle.std.proofs.Common.{get_or, Ok, Err, refl, sym, ap, subst, ◌∙◌, arith}
-use Rattle.std.specs.Prelude.{nat_lt, string_bytes, true, false, Bool}
-use Rattle.std.proofs.lemmas.Bool.{ne_eqb}
-use Rattle.std.proofs.lemmas.Result.{err_from_is_err_and}
+use Rattle.codespan_core.proofs.Std.{◌≡◌, ◌==◌, ◌+◌, ◌<◌, ◌||◌, not, rules, List, [], ◌∷◌, length}
+use Rattle.codespan_core.proofs.Std.{map, get_or, Ok, Err, refl, sym, ap, subst, ◌∙◌, arith, nat_lt}
+use Rattle.codespan_core.proofs.Std.{string_bytes, true, false, Bool, ne_eqb, err_from_is_err_and}
 use Rattle.codespan_picture.specs.OutputStreams.{labels_of, notes_of}
 use Rattle.codespan_picture.specs.Snippets.{has_any, labeled_file_model}
-use Rattle.codespan_views.specs.Private.AnnotationViews.{annotation_view}
-use Rattle.codespan_views.specs.Private.EarlyLookups.{known_numbers_of_labels}
-use Rattle.codespan_views.specs.Private.SnippetLines.{lines_of}
-use Rattle.codespan_views.specs.Views.{diagnostic_of, view_config_of}
+use Rattle.codespan_views.specs.Private.{annotation_view, known_numbers_of_labels, lines_of}
+use Rattle.codespan_views.specs.{diagnostic_of, view_config_of}
 use Rattle.codespan_views.proofs.CollectedFiles.{IsFileOfLabels, file-at}
 use Rattle.codespan_views.proofs.FileLengths.{rest-sorted}
 use Rattle.codespan_views.proofs.FileSlices.{from_file-first, next_slice}

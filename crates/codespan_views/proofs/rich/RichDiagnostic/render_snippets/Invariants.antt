@@ -1,12 +1,10 @@
-use Rattle.std.proofs.Common.{◌≡◌, ◌≤◌, drop, length, map}
+use Rattle.codespan_core.proofs.Std.{◌≡◌, ◌≤◌, drop, length, map}
 use Rattle.std.specs.Slice.Iter.{iter_rest}
 use Rattle.codespan_picture.specs.OutputStreams.{labels_of}
 use Rattle.codespan_picture.specs.Private.LineViews.{context_view}
 use Rattle.codespan_renderer.specs.Private.RowWriters.{row_writer_sink}
-use Rattle.codespan_views.specs.Private.AnnotationViews.{annotation_view}
-use Rattle.codespan_views.specs.Private.EarlyLookups.{known_numbers_of_labels}
-use Rattle.codespan_views.specs.Private.LabeledFiles.{ids_view}
-use Rattle.codespan_views.specs.Views.{diagnostic_of, view_config_of}
+use Rattle.codespan_views.specs.Private.{annotation_view, known_numbers_of_labels, ids_view}
+use Rattle.codespan_views.specs.{diagnostic_of, view_config_of}
 use Rattle.codespan_views.proofs.FileSlices.{from_file}
 use Rattle.codespan_views.proofs.SnippetsRendered.{SnippetsLeft}
 use Rattle.codespan_views.proofs.rich.RichDiagnostic.render_snippets.Given as goal

@@ -1,5 +1,4 @@
-use Rattle.std.proofs.Common.{Err, ap, ◌∙◌}
-use Rattle.std.proofs.lemmas.Result.{err_from_is_err_and}
+use Rattle.codespan_core.proofs.Std.{Err, ap, ◌∙◌, err_from_is_err_and}
 use Rattle.codespan_views.proofs.HeaderRuns.{cut_before_notes, medium_written, not_rich}
 use Rattle.codespan_views.proofs.short.ShortDiagnostic.render.Goals as goal
 

@@ -1,8 +1,7 @@
-use Rattle.std.proofs.Common.{◌≡◌, Err, append-nil, sym, ap, ◌∙◌}
-use Rattle.std.specs.Prelude.{slice_get}
+use Rattle.codespan_core.proofs.Std.{◌≡◌, Err, append-nil, sym, ap, ◌∙◌, slice_get}
+use Rattle.codespan_core.proofs.Std.{err_from_is_err_and}
 use Rattle.std.specs.Slice.Iter.{iter_rest}
-use Rattle.std.proofs.lemmas.Result.{err_from_is_err_and}
-use Rattle.codespan_views.specs.Private.SourceFiles.{failure_of, lookups_of_filled}
+use Rattle.codespan_views.specs.Private.{failure_of, lookups_of_filled}
 use Rattle.codespan_views.proofs.FilledNumbers.{next-number}
 use Rattle.codespan_views.proofs.LookupRuns.{run_failed}
 use Rattle.codespan_views.proofs.snippet.Snippet.render_filled.Given.{Over}

@@ -1,5 +1,4 @@
-use Rattle.std.proofs.Common.{Err, ap, ◌∙◌}
-use Rattle.std.proofs.lemmas.Result.{err_from_is_err_and}
+use Rattle.codespan_core.proofs.Std.{Err, ap, ◌∙◌, err_from_is_err_and}
 use Rattle.codespan_core.proofs.Chains.{failed-before, writes-last}
 use Rattle.codespan_renderer.proofs.RowWriters.{writes_as}
 use Rattle.codespan_views.proofs.snippet.Snippet.render_first_rows.Goals as goal

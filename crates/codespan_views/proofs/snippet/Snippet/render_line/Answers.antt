@@ -1,4 +1,4 @@
-use Rattle.std.proofs.lemmas.Result.{err_from_is_err_and}
+use Rattle.codespan_core.proofs.Std.{err_from_is_err_and}
 use Rattle.codespan_views.proofs.LookupRuns.{out_of_memory, run_out_of_memory}
 use Rattle.codespan_views.proofs.snippet.Snippet.render_line.Goals as goal
 

@@ -1,15 +1,10 @@
-use Rattle.std.proofs.Common.{Some, ◌≡◌, List, ◌∷◌, ◌++◌, map, Err, refl, sym, ap, subst, ◌∙◌}
-use Rattle.std.proofs.Common.{arith}
-use Rattle.codespan_views.specs.declared.annotation.Annotation.{Annotation as RustAnnotation}
-use Rattle.std.specs.Prelude.{All, IfSome, IsTrue}
+use Rattle.codespan_core.proofs.Std.{Some, ◌≡◌, List, ◌∷◌, ◌++◌, map, Err, refl, sym, ap, subst}
+use Rattle.codespan_core.proofs.Std.{◌∙◌, arith, All, IfSome, IsTrue, err_from_is_err_and}
 use Rattle.std.specs.Slice.Iter.{iter_rest}
 use Rattle.std.proofs.lemmas.List.Elements.{All-drop}
-use Rattle.std.proofs.lemmas.Result.{err_from_is_err_and}
 use Rattle.codespan_renderer.specs.Private.RowWriters.{row_writer_sink}
-use Rattle.codespan_views.specs.Private.Annotations.{shows_line}
-use Rattle.codespan_views.specs.Private.AnnotationViews.{IsLineOf, annotation_view}
-use Rattle.codespan_views.specs.Private.SnippetLines.{SnippetLine, lines_of}
-use Rattle.codespan_views.specs.Private.SourceFiles.{model_of}
+use Rattle.codespan_views.specs.Private.{RustAnnotation, shows_line, IsLineOf, annotation_view}
+use Rattle.codespan_views.specs.Private.{SnippetLine, lines_of, model_of}
 use Rattle.codespan_views.proofs.FilledNumbers.{gap-break, gap-filled, gap-none}
 use Rattle.codespan_views.proofs.LinesRendered.{LinesLeft, left-cut, left-first, left-more}
 use Rattle.codespan_views.proofs.LinesRendered.{left-none, left-same}

@@ -1,11 +1,7 @@
-use Rattle.std.proofs.Common.{◌≤◌, length, map}
-use Rattle.std.specs.Prelude.{All, IfSome, IsTrue, slice_get}
+use Rattle.codespan_core.proofs.Std.{◌≤◌, length, map, All, IfSome, IsTrue, slice_get}
 use Rattle.std.specs.Slice.Iter.{iter_rest}
 use Rattle.codespan_renderer.specs.Private.RowWriters.{row_writer_sink}
-use Rattle.codespan_views.specs.Private.Annotations.{shows_line}
-use Rattle.codespan_views.specs.Private.AnnotationViews.{IsLineOf, annotation_view}
-use Rattle.codespan_views.specs.Private.SnippetLines.{lines_of}
-use Rattle.codespan_views.specs.Private.SourceFiles.{model_of}
+use Rattle.codespan_views.specs.Private.{shows_line, IsLineOf, annotation_view, lines_of, model_of}
 use Rattle.codespan_views.proofs.LinesRendered.{LinesLeft}
 use Rattle.codespan_views.proofs.SnippetLineViews.{lines_left}
 use Rattle.codespan_views.proofs.snippet.Snippet.render_lines.Given as goal

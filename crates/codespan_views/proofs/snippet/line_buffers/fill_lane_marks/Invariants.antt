@@ -1,7 +1,6 @@
-use Rattle.std.proofs.Common.{◌≡◌, ◌++◌, map, drop}
+use Rattle.codespan_core.proofs.Std.{◌≡◌, ◌++◌, map, drop}
 use Rattle.codespan_picture.specs.Arguments.{lane_mark_view}
-use Rattle.codespan_views.specs.Private.AnnotationViews.{annotation_view}
-use Rattle.codespan_views.specs.Private.SnippetLines.{lane_marks_in}
+use Rattle.codespan_views.specs.Private.{annotation_view, lane_marks_in}
 use Rattle.codespan_views.proofs.snippet.line_buffers.fill_lane_marks.Given as goal
 
 -- what is taken and what is left make the whole

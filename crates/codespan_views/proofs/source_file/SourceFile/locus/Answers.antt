@@ -1,6 +1,5 @@
-use Rattle.std.proofs.Common.{◌≡◌, sym}
-use Rattle.std.specs.Prelude.{IfSome, string_bytes}
-use Rattle.codespan_views.specs.Private.SourceFiles.{model_of}
+use Rattle.codespan_core.proofs.Std.{◌≡◌, sym, IfSome, string_bytes}
+use Rattle.codespan_views.specs.Private.{model_of}
 use Rattle.codespan_views.proofs.Utf8Loci.{locus_located}
 use Rattle.codespan_views.proofs.source_file.SourceFile.locus.Goals as goal
 

@@ -1,4 +1,4 @@
-use Rattle.std.proofs.Common.{◌∙◌, subst}
+use Rattle.codespan_core.proofs.Std.{◌∙◌, subst}
 use Rattle.std.specs.Io.KnownBytes.{Appends}
 use Rattle.program_io.proofs.ErrorLines.{line_of_error}
 use Rattle.program_io.proofs.Received.{prefix_after, received_after}

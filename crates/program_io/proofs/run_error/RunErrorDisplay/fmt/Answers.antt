@@ -1,4 +1,4 @@
-use Rattle.std.proofs.Common.{sym}
+use Rattle.codespan_core.proofs.Std.{sym}
 use Rattle.program_io.proofs.run_error.RunErrorDisplay.fmt.Goals as goal
 
 -- what was written is the line of the error, which begins with the name of the program

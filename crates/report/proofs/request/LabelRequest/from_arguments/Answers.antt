@@ -1,9 +1,10 @@
-use Rattle.std.proofs.Common.{◌≡◌, string_bytes, Some, None, inl, inr, refl, ap, ◌∙◌, arith, rules, tests}
-use Rattle.std.specs.Option.{option_map}
+use Rattle.codespan_core.proofs.Std.{◌≡◌, string_bytes, Some, None, inl, inr, refl, ap, ◌∙◌, arith}
+use Rattle.codespan_core.proofs.Std.{rules, tests, option_map}
 use Rattle.program_io.specs.Names.{display_style_named}
 use Rattle.report.proofs.Arguments.{not_five_arguments, five_arguments}
 use Rattle.report.specs.Requests.{number_of, label_request_view}
-use Rattle.report.proofs.request.LabelRequest.from_arguments.Goals.{in_default-via-then-args-lt5, in_default-via-else-args-lt5+else-args-lt6}
+use Rattle.report.proofs.request.LabelRequest.from_arguments.Goals.{in_default-via-then-args-lt5}
+use Rattle.report.proofs.request.LabelRequest.from_arguments.Goals.{in_default-via-else-args-lt5+else-args-lt6}
 use Rattle.report.proofs.request.LabelRequest.from_arguments.Goals as goal
 
 pub returns-in_default : goal.returns-in_default
@@ -11,7 +12,8 @@ returns-in_default c =
     elim c.in_default.branch [
       | in_default-via-then-args-lt5 w ↦ not_five_arguments string_bytes c.args.args.now
           (inl (grind arith))
-      | in_default-via-else-args-lt5+else-args-lt6 w ↦ not_five_arguments string_bytes c.args.args.now
+      | in_default-via-else-args-lt5+else-args-lt6 w ↦ not_five_arguments string_bytes
+          c.args.args.now
           (inr (search (rules, tests)))
     ]
 

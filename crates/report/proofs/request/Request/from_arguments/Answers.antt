@@ -1,10 +1,11 @@
-use Rattle.std.proofs.Common.{◌⊎◌, ◌<◌, ◌≤◌, length, string_bytes, Some, None, inl, inr, ap, sym, ◌∙◌, arith, rules, tests}
-use Rattle.std.specs.Option.{option_map}
+use Rattle.codespan_core.proofs.Std.{◌⊎◌, ◌<◌, ◌≤◌, length, string_bytes, Some, None, inl, inr, ap}
+use Rattle.codespan_core.proofs.Std.{sym, ◌∙◌, arith, rules, tests, option_map}
 use Rattle.program_io.specs.Names.{display_style_named}
 use Rattle.report.proofs.Arguments.{other_arguments, two_arguments}
 use Rattle.report.specs.Requests.{request_view}
 use Rattle.report.specs.Requests.RequestView.{OneLabel, OfScript}
-use Rattle.report.proofs.request.Request.from_arguments.Goals.{in_default-via-then-args-lt2, in_default-via-else-args-lt2+else-args-lt3}
+use Rattle.report.proofs.request.Request.from_arguments.Goals.{in_default-via-then-args-lt2}
+use Rattle.report.proofs.request.Request.from_arguments.Goals.{in_default-via-else-args-lt2+else-args-lt3}
 use Rattle.report.proofs.request.Request.from_arguments.Goals as goal
 
 pub returns-in_err-parse_display_style-in-len2 : goal.returns-in_err-parse_display_style-in-len2

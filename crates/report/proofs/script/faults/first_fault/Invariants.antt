@@ -1,4 +1,4 @@
-use Rattle.std.proofs.Common.{◌≡◌, ◌≤◌, [], map, drop, take, length}
+use Rattle.codespan_core.proofs.Std.{◌≡◌, ◌≤◌, [], map, drop, take, length}
 use Rattle.report.specs.ScriptFaults.{fault_from}
 use Rattle.report.specs.ScriptLines.{script_line_view}
 use Rattle.report.proofs.script.faults.first_fault.Given as goal

@@ -1,4 +1,5 @@
-use Rattle.std.proofs.Common.{◌≡◌, ◌⊎◌, false, List, Some, inl, inr, ap, refl, rules, sym, ◌∙◌}
+use Rattle.codespan_core.proofs.Std.{◌≡◌, ◌⊎◌, false, List, Some, inl, inr, ap, refl, rules, sym}
+use Rattle.codespan_core.proofs.Std.{◌∙◌}
 use Rattle.report.specs.declared.script.Fault.{Fault}
 use Rattle.report.specs.declared.script.words.Word.{Word}
 use Rattle.report.specs.declared.script.words.Word.TheVariants.{Severity, Code, Message}

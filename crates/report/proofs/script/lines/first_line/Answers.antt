@@ -1,4 +1,4 @@
-use Rattle.std.proofs.Common.{lit<, Some, None}
+use Rattle.codespan_core.proofs.Std.{lit<, Some, None}
 use Rattle.std.proofs.lemmas.Str.Pattern.{split_parts}
 use Rattle.report.proofs.ScriptCuts.{first_then, last_line}
 use Rattle.report.proofs.script.lines.first_line.Goals as goal

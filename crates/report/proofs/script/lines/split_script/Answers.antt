@@ -1,6 +1,7 @@
-use Rattle.std.proofs.Common.{◌≡◌, ◌-◌, ◌++◌, ap, drop, length, map, sym, ◌∙◌, arith}
-use Rattle.std.specs.List.{slice_split}
-use Rattle.report.specs.ScriptLines.{body, is_newline, script_line_view, script_lines_from, script_lines, script_source}
+use Rattle.codespan_core.proofs.Std.{◌≡◌, ◌-◌, ◌++◌, ap, drop, length, map, sym, ◌∙◌, arith}
+use Rattle.codespan_core.proofs.Std.{slice_split}
+use Rattle.report.specs.ScriptLines.{body, is_newline, script_line_view, script_lines_from}
+use Rattle.report.specs.ScriptLines.{script_lines, script_source}
 use Rattle.report.proofs.script.lines.split_script.Goals as goal
 
 pub lines-init : goal.lines-init

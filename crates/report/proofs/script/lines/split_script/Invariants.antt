@@ -1,6 +1,7 @@
-use Rattle.std.proofs.Common.{◌≡◌, ◌≤◌, ◌+◌, ◌-◌, ◌++◌, map, drop, length, IfSome}
-use Rattle.std.specs.Option.{option_map, option_map_or}
-use Rattle.report.specs.ScriptLines.{body, script_line_view, lines_left, script_lines, script_source}
+use Rattle.codespan_core.proofs.Std.{◌≡◌, ◌≤◌, ◌+◌, ◌-◌, ◌++◌, map, drop, length, IfSome}
+use Rattle.codespan_core.proofs.Std.{option_map, option_map_or}
+use Rattle.report.specs.ScriptLines.{body, script_line_view, lines_left, script_lines}
+use Rattle.report.specs.ScriptLines.{script_source}
 use Rattle.report.proofs.script.lines.split_script.Given as goal
 
 abbrev pub invariant-lines : goal.invariant-lines

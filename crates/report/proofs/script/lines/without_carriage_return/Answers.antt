@@ -1,4 +1,4 @@
-use Rattle.std.proofs.Common.{lit<, Some, None}
+use Rattle.codespan_core.proofs.Std.{lit<, Some, None}
 use Rattle.std.proofs.lemmas.Str.Pattern.{strip_suffix_char}
 use Rattle.report.proofs.ScriptCuts.{no_carriage_return, return_dropped}
 use Rattle.report.proofs.script.lines.without_carriage_return.Goals as goal

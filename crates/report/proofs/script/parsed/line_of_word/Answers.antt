@@ -1,7 +1,6 @@
-use Rattle.std.proofs.Common.{◌≡◌, ℕ, true, false, cond, List, [], ◌∷◌, Some, map, refl, ap, ◌∙◌, rules, tests}
+use Rattle.codespan_core.proofs.Std.{◌≡◌, ℕ, true, false, cond, List, [], ◌∷◌, Some, map, refl, ap}
+use Rattle.codespan_core.proofs.Std.{◌∙◌, rules, tests, option_map, bytes_eq}
 use Rattle.std.specs.List.{find}
-use Rattle.std.specs.Option.{option_map}
-use Rattle.std.specs.Str.{bytes_eq}
 use Rattle.std.proofs.lemmas.Iterator.{YieldsList-from_slice}
 use Rattle.std.proofs.lemmas.Iterator.Search.{find_from_yields_List}
 use Rattle.report.specs.declared.script.line.Line.{Line}

@@ -1,4 +1,4 @@
-use Rattle.std.proofs.Common.{◌≡◌, ◌++◌, map, drop}
+use Rattle.codespan_core.proofs.Std.{◌≡◌, ◌++◌, map, drop}
 use Rattle.report.specs.ScriptLines.{script_line_view}
 use Rattle.report.specs.Scripts.{script_label_view, parsed_labels}
 use Rattle.report.proofs.script.parsed.parsed_labels.Given as goal

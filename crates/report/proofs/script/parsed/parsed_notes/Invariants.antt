@@ -1,4 +1,4 @@
-use Rattle.std.proofs.Common.{◌≡◌, ◌++◌, map, drop}
+use Rattle.codespan_core.proofs.Std.{◌≡◌, ◌++◌, map, drop}
 use Rattle.report.specs.ScriptLines.{script_line_view}
 use Rattle.report.specs.Scripts.{parsed_notes}
 use Rattle.report.proofs.script.parsed.parsed_notes.Given as goal

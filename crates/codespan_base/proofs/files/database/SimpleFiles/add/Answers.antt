@@ -1,6 +1,4 @@
-use Rattle.std.proofs.Common.{refl, sym, ◌∙◌}
-use Rattle.std.proofs.lemmas.List.{length-map}
-use Rattle.std.proofs.lemmas.Result.{err_from_is_err_and}
+use Rattle.codespan_core.proofs.Std.{refl, sym, ◌∙◌, length-map, err_from_is_err_and}
 use Rattle.codespan_base.proofs.files.database.SimpleFiles.add.Goals as goal
 
 -- the id is the number of the files before

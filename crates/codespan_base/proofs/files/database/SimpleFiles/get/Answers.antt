@@ -1,8 +1,9 @@
-use Rattle.std.proofs.Common.{◌≡◌, ℕ, ◌<◌, ◌≤◌, ◌↔◌, List, length, map, slice_get, Option, Some, None, ok_or, option_map, Result, IsOk, IfOk, IfErr, Bor, refl, ap, ◌∙◌, arith}
+use Rattle.codespan_core.proofs.Std.{◌≡◌, ℕ, ◌<◌, ◌≤◌, List, length, map, slice_get, Option, Some}
+use Rattle.codespan_core.proofs.Std.{None, option_map, Result, IfOk, IfErr, Bor, refl, ap, ◌∙◌}
+use Rattle.codespan_core.proofs.Std.{arith, false≢true, length-map, slice_get-map}
+use Rattle.std.proofs.Common.{◌↔◌, ok_or, IsOk}
 use Rattle.std.specs.Slice.{IsItemAt}
-use Rattle.std.proofs.lemmas.Bool.{false≢true}
-use Rattle.std.proofs.lemmas.List.{length-map}
-use Rattle.std.proofs.lemmas.Option.{slice_get-map, slice_get_past, slice_get_read}
+use Rattle.std.proofs.lemmas.Option.{slice_get_past, slice_get_read}
 use Rattle.codespan_core.specs.declared.files.Error.{Error}
 use Rattle.codespan_core.specs.declared.files.Error.TheVariants.{FileMissing}
 use Rattle.codespan_base.proofs.files.database.SimpleFiles.get.Goals as goal

@@ -1,4 +1,4 @@
-use Rattle.std.specs.Prelude.{slice_get}
+use Rattle.codespan_core.proofs.Std.{slice_get}
 use Rattle.codespan_base.specs.SimpleFilesViews.{entries}
 use Rattle.codespan_base.proofs.SimpleFilesNumbers.{numbered, number_fails}
 use Rattle.codespan_base.proofs.files.database.SimpleFilesFiles.line_number.Goals as goal

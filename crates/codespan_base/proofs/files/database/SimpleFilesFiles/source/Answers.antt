@@ -1,4 +1,4 @@
-use Rattle.std.proofs.Common.{ap, ◌∙◌, rules}
+use Rattle.codespan_core.proofs.Std.{ap, ◌∙◌, rules}
 use Rattle.codespan_base.proofs.files.database.SimpleFilesFiles.source.Goals as goal
 
 -- the file of the id is the one that was found

@@ -1,4 +1,4 @@
-use Rattle.std.proofs.Common.{◌∙◌, ap}
+use Rattle.codespan_core.proofs.Std.{◌∙◌, ap}
 use Rattle.codespan_base.specs.MappedFileViews.{mapped_file_of}
 use Rattle.codespan_core.proofs.ColumnLemmas.{column_in_line}
 use Rattle.codespan_base.proofs.files.mapped.MappedFileFiles.column_number.Goals as goal

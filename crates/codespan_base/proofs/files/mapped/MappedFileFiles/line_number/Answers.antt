@@ -1,5 +1,4 @@
-use Rattle.std.proofs.Common.{◌≡◌, ℕ, suc, ◌+◌, ◌-◌, ◌^◌, ◌<◌, Some, refl, arith}
-use Rattle.std.proofs.lemmas.Bool.{lt-leb}
+use Rattle.codespan_core.proofs.Std.{◌≡◌, ℕ, suc, ◌+◌, ◌-◌, ◌^◌, ◌<◌, Some, refl, arith, lt-leb}
 use Rattle.codespan_core.specs.declared.files.error.Error.TheVariants.{LineTooLarge}
 use Rattle.codespan_base.specs.MappedModel.{number_failure}
 use Rattle.codespan_base.proofs.files.mapped.MappedFileFiles.line_number.Goals as goal
@@ -13,4 +12,5 @@ too_large s i past = rw (lt-leb (suc (s.1 + (i - s.0))) (2 ^ 64) (omega (arith, 
 pub returns-in-None-clause-failed : goal.returns-in-None-clause-failed
 returns-in-None-clause-failed g c =
     λ _. rw (← c.in-Some.ensures.value)
-    (too_large (c.in-Some.nearest.line_index, c.in-Some.nearest.number) c.args.line_index c.in-None.ensures)
+    (too_large (c.in-Some.nearest.line_index, c.in-Some.nearest.number) c.args.line_index
+    c.in-None.ensures)

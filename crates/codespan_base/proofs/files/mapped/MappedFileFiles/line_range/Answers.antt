@@ -1,8 +1,8 @@
-use Rattle.std.proofs.Common.{◌+◌, ◌<◌, length, arith}
-use Rattle.codespan_base.specs.MappedFileViews.{mapped_text_of}
-use Rattle.codespan_base.specs.Lemmas.Mapped.{mapped_end_before_last, next_above}
+use Rattle.codespan_core.proofs.Std.{◌+◌, ◌<◌, length, arith}
 use Rattle.codespan_core.specs.Lemmas.Simple.{end_before_last}
 use Rattle.codespan_core.specs.Lines.{line_starts_of}
+use Rattle.codespan_base.specs.MappedFileViews.{mapped_text_of}
+use Rattle.codespan_base.specs.Lemmas.Mapped.{mapped_end_before_last, next_above}
 use Rattle.codespan_base.proofs.files.mapped.MappedFileFiles.line_range.Goals as goal
 
 -- the next line starts after a newline

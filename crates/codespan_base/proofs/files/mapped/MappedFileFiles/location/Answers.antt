@@ -1,4 +1,4 @@
-use Rattle.std.proofs.lemmas.Result.{err_from_is_err_and}
+use Rattle.codespan_core.proofs.Std.{err_from_is_err_and}
 use Rattle.codespan_base.specs.MappedFileViews.{mapped_file_of, mapped_text_of}
 use Rattle.codespan_core.proofs.ColumnLemmas.{location_in_file}
 use Rattle.codespan_core.proofs.PastLastLineFailures.{byte_line_exists, never}

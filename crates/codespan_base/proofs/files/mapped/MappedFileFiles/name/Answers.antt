@@ -1,4 +1,4 @@
-use Rattle.std.proofs.Common.{refl}
+use Rattle.codespan_core.proofs.Std.{refl}
 use Rattle.codespan_base.proofs.files.mapped.MappedFileFiles.name.Goals as goal
 
 -- the call does not fail

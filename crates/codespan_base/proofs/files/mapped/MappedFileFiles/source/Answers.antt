@@ -1,4 +1,4 @@
-use Rattle.std.proofs.Common.{ap, ◌∙◌}
+use Rattle.codespan_core.proofs.Std.{ap, ◌∙◌}
 use Rattle.codespan_base.proofs.files.mapped.MappedFileFiles.source.Goals as goal
 
 -- the text is that of the file's source

@@ -1,4 +1,4 @@
-use Rattle.std.proofs.Common.{refl}
+use Rattle.codespan_core.proofs.Std.{refl}
 use Rattle.codespan_core.proofs.files.error.ErrorFromAllocError.from.Goals as goal
 
 -- the error is `OutOfMemory`

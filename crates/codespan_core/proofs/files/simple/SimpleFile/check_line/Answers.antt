@@ -1,5 +1,6 @@
-use Rattle.std.proofs.Common.{arith}
-use Rattle.codespan_core.proofs.PastLastLineFailures.{past_last_line_failure_late, past_last_line_failure_early}
+use Rattle.codespan_core.proofs.Std.{arith}
+use Rattle.codespan_core.proofs.PastLastLineFailures.{past_last_line_failure_late}
+use Rattle.codespan_core.proofs.PastLastLineFailures.{past_last_line_failure_early}
 use Rattle.codespan_core.proofs.files.simple.SimpleFile.check_line.Goals as goal
 
 -- a line past the last fails with the index of the last

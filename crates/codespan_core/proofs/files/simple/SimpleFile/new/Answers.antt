@@ -1,8 +1,7 @@
-use Rattle.std.proofs.Common.{ℕ, Ok, ap, ◌∙◌, rules}
+use Rattle.codespan_core.proofs.Std.{ℕ, Ok, ap, ◌∙◌, rules}
 use Rattle.std.proofs.lemmas.Iterator.{items_from_collect}
 use Rattle.std.proofs.lemmas.Iterator.Consumers.{YieldsList-from_first}
-use Rattle.codespan_core.specs.Lines.{line_starts_of}
-use Rattle.codespan_core.specs.LineStarts.{remaining_starts}
+use Rattle.codespan_core.specs.{line_starts_of, remaining_starts}
 use Rattle.codespan_core.proofs.files.simple.SimpleFile.new.Goals as goal
 
 pub invariant_of-result-clause-utf8 : goal.invariant_of-result-clause-utf8

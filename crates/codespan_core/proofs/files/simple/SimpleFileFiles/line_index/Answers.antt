@@ -1,4 +1,4 @@
-use Rattle.std.proofs.Common.{◌∙◌}
+use Rattle.codespan_core.proofs.Std.{◌∙◌}
 use Rattle.codespan_core.specs.Lemmas.Simple.{line_found_at_start, line_found_inside}
 use Rattle.codespan_core.proofs.files.simple.SimpleFileFiles.line_index.Goals as goal
 

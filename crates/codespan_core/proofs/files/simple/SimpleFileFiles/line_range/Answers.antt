@@ -1,9 +1,7 @@
-use Rattle.std.proofs.Common.{◌≡◌, ℕ, ◌+◌, ◌<◌, List, Option, length, get_or, sym, ◌∙◌, arith}
-use Rattle.std.proofs.lemmas.List.{get_or_default}
-use Rattle.codespan_core.specs.LawfulFiles.{IsLineRange}
+use Rattle.codespan_core.proofs.Std.{◌≡◌, ℕ, ◌+◌, ◌<◌, List, Option, length, get_or, sym, ◌∙◌}
+use Rattle.codespan_core.proofs.Std.{arith, get_or_default}
+use Rattle.codespan_core.specs.{IsLineRange, line_starts_of, simple_file}
 use Rattle.codespan_core.specs.Lemmas.Simple.{end_before_last}
-use Rattle.codespan_core.specs.Lines.{line_starts_of}
-use Rattle.codespan_core.specs.SimpleModel.{simple_file}
 use Rattle.codespan_core.proofs.files.simple.SimpleFileFiles.line_range.Goals as goal
 
 -- the range between two starts that follow each other is that of a line

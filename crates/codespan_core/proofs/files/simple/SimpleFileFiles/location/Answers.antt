@@ -1,5 +1,5 @@
-use Rattle.std.proofs.Common.{arith}
-use Rattle.codespan_core.specs.SimpleFileViews.{file_of}
+use Rattle.codespan_core.proofs.Std.{arith}
+use Rattle.codespan_core.specs.{file_of}
 use Rattle.codespan_core.proofs.ColumnLemmas.{location_in_file}
 use Rattle.codespan_core.proofs.PastLastLineFailures.{byte_line_exists, byte_line_numbered, never}
 use Rattle.codespan_core.proofs.files.simple.SimpleFileFiles.location.Goals as goal

@@ -1,4 +1,4 @@
-use Rattle.std.proofs.Common.{refl}
+use Rattle.codespan_core.proofs.Std.{refl}
 use Rattle.codespan_core.proofs.files.simple.SimpleFileFiles.name.Goals as goal
 
 -- the call does not fail

@@ -1,4 +1,4 @@
-use Rattle.std.proofs.Common.{◌≤◌, length, arith, sym, ◌∙◌}
+use Rattle.codespan_core.proofs.Std.{◌≤◌, length, arith, sym, ◌∙◌}
 use Rattle.codespan_core.specs.Lemmas.Lines.{starts_after_run, starts_after_end}
 use Rattle.codespan_core.proofs.NewlineLemmas.{no_start_in_block}
 use Rattle.codespan_core.proofs.files.starts.LineStarts.search.Goals as goal

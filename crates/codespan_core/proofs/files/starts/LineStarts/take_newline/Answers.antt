@@ -1,4 +1,5 @@
-use Rattle.std.proofs.Common.{◌+◌, ◌/◌, ◌^◌, arith, ap, shr-shr, ◌∙◌}
+use Rattle.codespan_core.proofs.Std.{◌+◌, ◌/◌, ◌^◌, arith, ap, ◌∙◌}
+use Rattle.std.proofs.Common.{shr-shr}
 use lib.Count.{count_trailing_zeros}
 use Rattle.codespan_core.proofs.NewlineLemmas.{mask_of_rest, first_in_block, starts_from_first}
 use Rattle.codespan_core.proofs.files.starts.LineStarts.take_newline.Goals as goal

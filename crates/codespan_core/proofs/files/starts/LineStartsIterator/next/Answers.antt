@@ -1,5 +1,6 @@
-use Rattle.std.proofs.Common.{ap, sym, ◌∙◌}
-use Rattle.codespan_core.proofs.files.starts.LineStartsIterator.next.Goals.{then-self-eq0+else-self-eq0-2, else-self-eq0}
+use Rattle.codespan_core.proofs.Std.{ap, sym, ◌∙◌}
+use Rattle.codespan_core.proofs.files.starts.LineStartsIterator.next.Goals.{then-self-eq0+else-self-eq0-2}
+use Rattle.codespan_core.proofs.files.starts.LineStartsIterator.next.Goals.{else-self-eq0}
 use Rattle.codespan_core.proofs.files.starts.LineStartsIterator.next.Goals as goal
 
 -- a search keeps the line starts that are left, and the first of them is returned

@@ -1,4 +1,4 @@
-use Rattle.std.proofs.Common.{refl}
+use Rattle.codespan_core.proofs.Std.{refl}
 use Rattle.codespan_core.proofs.term.config.ConfigDefault.default.Goals as goal
 
 -- the characters are those of box drawing, and each other field is that of the definition

@@ -1,4 +1,6 @@
-use Rattle.std.proofs.Common.{arith, sym, ap, ◌∙◌, ◌≡◌, ◌≤◌, ◌*◌, ◌+◌, ◌++◌, ℕ, List, length, take, mul-le-mul_right}
+use Rattle.codespan_core.proofs.Std.{arith, sym, ap, ◌∙◌, ◌≡◌, ◌≤◌, ◌*◌, ◌+◌, ◌++◌, ℕ, List, length}
+use Rattle.codespan_core.proofs.Std.{take}
+use Rattle.std.proofs.Common.{mul-le-mul_right}
 use Rattle.std.proofs.lemmas.Slice.{take-put_mid}
 use Rattle.codespan_core.proofs.Repeats.{repeat-push, add-one_mul}
 use Rattle.codespan_core.proofs.term.config.writing.fill.Goals as goal

@@ -1,5 +1,4 @@
-use Rattle.std.proofs.Common.{◌≡◌, ◌*◌, length, take}
-use Rattle.std.specs.List.{repeat}
+use Rattle.codespan_core.proofs.Std.{◌≡◌, ◌*◌, length, take, repeat}
 use Rattle.codespan_core.proofs.term.config.writing.fill.Given as goal
 
 abbrev pub invariant-loop-i : goal.invariant-loop-i

@@ -1,8 +1,8 @@
-use Rattle.std.proofs.Common.{arith, length, ◌<◌, refl, sym}
-use Rattle.std.proofs.lemmas.Bool.Decides.{nat_tests}
+use Rattle.codespan_core.proofs.Std.{arith, length, ◌<◌, refl, sym, nat_tests}
 use Rattle.codespan_core.proofs.Put.{after_put-none, after_put-some, known-appends, known-keeps}
+use Rattle.codespan_core.proofs.term.config.writing.forward_put.Goals.{else-count-eq0-via-then-count-eq0+else-not-is_empty}
+use Rattle.codespan_core.proofs.term.config.writing.forward_put.Goals.{else-count-eq0-via-else-count-eq0}
 use Rattle.codespan_core.proofs.term.config.writing.forward_put.Goals as goal
-use Rattle.codespan_core.proofs.term.config.writing.forward_put.Goals.{else-count-eq0-via-then-count-eq0+else-not-is_empty, else-count-eq0-via-else-count-eq0}
 
 pub returns-then-not-is_empty-clause-took : goal.returns-then-not-is_empty-clause-took
 returns-then-not-is_empty-clause-took g c = λ f.

@@ -1,10 +1,10 @@
-use Rattle.std.proofs.Common.{arith, refl, sym, ◌≡◌, ◌-◌, ◌<◌, length, take, drop, [], append-nil, length-drop, take_all}
-use Rattle.std.proofs.lemmas.Result.{err_from_is_err_and}
-use Rattle.std.proofs.lemmas.Grind.{common_steps}
-use Rattle.std.proofs.lemmas.Bool.Decides.{nat_tests}
-use Rattle.codespan_core.specs.Streams.{byte_stream}
+use Rattle.codespan_core.proofs.Std.{arith, refl, sym, ◌≡◌, ◌-◌, ◌<◌, length, take, drop, []}
+use Rattle.codespan_core.proofs.Std.{append-nil, length-drop, take_all, err_from_is_err_and}
+use Rattle.codespan_core.proofs.Std.{common_steps, nat_tests}
+use Rattle.codespan_core.specs.{byte_stream}
 use Rattle.codespan_core.proofs.Put.{put-with_written, put-none, put-failed, byte_stream-take}
-use Rattle.codespan_core.proofs.Loops.{StillToWrite-start, StillToWrite-more, StillToWrite-failed, StillToWrite-end}
+use Rattle.codespan_core.proofs.Loops.{StillToWrite-start, StillToWrite-more, StillToWrite-failed}
+use Rattle.codespan_core.proofs.Loops.{StillToWrite-end}
 use Rattle.codespan_core.proofs.term.config.writing.put_all.Goals as goal
 
 pub loop-rest-init : goal.loop-rest-init

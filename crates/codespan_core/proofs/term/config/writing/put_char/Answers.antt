@@ -1,4 +1,4 @@
-use Rattle.std.proofs.Common.{◌∙◌}
+use Rattle.codespan_core.proofs.Std.{◌∙◌}
 use Rattle.codespan_core.proofs.term.config.writing.put_char.Goals as goal
 
 -- the bytes that were written are those of the character in UTF-8

@@ -1,4 +1,4 @@
-use Rattle.std.proofs.Common.{arith, ◌≡◌, ◌-◌, take, drop, length-drop, take_all}
+use Rattle.codespan_core.proofs.Std.{arith, ◌≡◌, ◌-◌, take, drop, length-drop, take_all}
 use Rattle.codespan_core.proofs.term.config.writing.put_number.Goals as goal
 
 -- the digits that were written are those of the number

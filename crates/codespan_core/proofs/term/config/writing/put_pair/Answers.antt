@@ -1,4 +1,4 @@
-use Rattle.std.proofs.Common.{arith, ◌∙◌, ◌≡◌, length}
+use Rattle.codespan_core.proofs.Std.{arith, ◌∙◌, ◌≡◌, length}
 use Rattle.codespan_core.proofs.Chains.{failed-before, failed, writes-last}
 use Rattle.codespan_core.proofs.Repeats.{repeated-pair, repeated-two}
 use Rattle.codespan_core.proofs.term.config.writing.put_pair.Goals as goal
@@ -12,7 +12,8 @@ returns-in_err-put_char-in_default g c =
 pub returns-in-len3 : goal.returns-in-len3
 returns-in-len3 g c =
     let three : length c.as_bytes.result.now ≡ 3 = omega arith in
-    rw (repeated-pair c.args.c c.as_bytes.result.now three (c.as_bytes.ensures.value ∙ c.encode_utf8.ensures.value)) at c.put_all.ensures
+    rw (repeated-pair c.args.c c.as_bytes.result.now three
+    (c.as_bytes.ensures.value ∙ c.encode_utf8.ensures.value)) at c.put_all.ensures
 
 pub returns-in_ok-put_char-in_default : goal.returns-in_ok-put_char-in_default
 returns-in_ok-put_char-in_default g c =

@@ -1,5 +1,5 @@
-use Rattle.std.proofs.Common.{◌≤◌}
-use Rattle.codespan_core.specs.Streams.{repeated}
+use Rattle.codespan_core.proofs.Std.{◌≤◌}
+use Rattle.codespan_core.specs.{repeated}
 use Rattle.codespan_core.proofs.Loops.{StillToWrite}
 use Rattle.codespan_core.proofs.term.config.writing.put_runs.Given as goal
 

@@ -1,4 +1,4 @@
-use Rattle.codespan_core.specs.Streams.{spaces}
+use Rattle.codespan_core.specs.{spaces}
 use Rattle.codespan_core.proofs.Loops.{StillToWrite}
 use Rattle.codespan_core.proofs.term.config.writing.put_spaces.Given as goal
 

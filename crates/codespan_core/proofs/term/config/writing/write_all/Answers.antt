@@ -1,6 +1,5 @@
-use Rattle.std.proofs.Common.{◌≡◌, [], rules, arith, sym, ap, ◌∙◌}
-use Rattle.std.proofs.lemmas.Grind.{common_steps}
-use Rattle.codespan_core.specs.WriterLaw.{extended}
+use Rattle.codespan_core.proofs.Std.{◌≡◌, [], rules, arith, sym, ap, ◌∙◌, common_steps}
+use Rattle.codespan_core.specs.{extended}
 use Rattle.codespan_core.proofs.KnownBytes.{extended-nil}
 use Rattle.codespan_core.proofs.AppendsBytes.{written_to_plain_ref}
 use Rattle.codespan_core.proofs.term.config.writing.write_all.Goals as goal

@@ -1,4 +1,5 @@
-use Rattle.std.proofs.Common.{arith, length-set, ◌-◌, ◌+◌, ◌%◌}
+use Rattle.codespan_core.proofs.Std.{arith, ◌-◌, ◌+◌, ◌%◌}
+use Rattle.std.proofs.Common.{length-set}
 use Rattle.codespan_core.proofs.Repeats.{digits_room, digits-more, digits-last}
 use Rattle.codespan_core.proofs.term.config.writing.write_digits.Goals as goal
 

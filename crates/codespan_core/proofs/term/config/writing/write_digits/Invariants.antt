@@ -1,4 +1,4 @@
-use Rattle.std.proofs.Common.{◌≡◌, ◌≤◌, ◌++◌, length, drop, decimal}
+use Rattle.codespan_core.proofs.Std.{◌≡◌, ◌≤◌, ◌++◌, length, drop, decimal}
 use Rattle.codespan_core.proofs.term.config.writing.write_digits.Given as goal
 
 abbrev pub invariant-loop-rest : goal.invariant-loop-rest

@@ -1,4 +1,4 @@
-use Rattle.std.proofs.Common.{refl}
+use Rattle.codespan_core.proofs.Std.{refl}
 use Rattle.codespan_picture.proofs.rows.lanes.shapes.goes_on.Goals as goal
 
 pub returns-in-Unbroken : goal.returns-in-Unbroken

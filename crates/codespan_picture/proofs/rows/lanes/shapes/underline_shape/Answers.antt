@@ -1,4 +1,4 @@
-use Rattle.std.proofs.Common.{refl, lt-ltb, ne_eqb}
+use Rattle.codespan_core.proofs.Std.{refl, lt-ltb, ne_eqb}
 use Rattle.codespan_picture.proofs.rows.lanes.shapes.underline_shape.Goals as goal
 
 -- left of the corner a label that ends on the line shows nothing

@@ -1,9 +1,9 @@
-use Rattle.std.proofs.Common.{◌≡◌, ◌+◌, Some, None, [], refl, sym, ◌∙◌, append-nil, drop, take}
-use Rattle.std.proofs.lemmas.List.{take-append-drop}
-use Rattle.codespan_picture.specs.Arguments.{single_label_views}
-use Rattle.codespan_picture.specs.Private.RowLabels.{AreHanging}
-use Rattle.codespan_picture.specs.Rows.{trailing_label}
-use Rattle.codespan_picture.proofs.Hanging.{trailing_here, hanging_here, nothing_trails, none_trails}
+use Rattle.codespan_core.proofs.Std.{◌≡◌, ◌+◌, Some, None, [], refl, sym, ◌∙◌, append-nil, drop}
+use Rattle.codespan_core.proofs.Std.{take, take-append-drop}
+use Rattle.codespan_picture.specs.{single_label_views, trailing_label}
+use Rattle.codespan_picture.specs.Private.{AreHanging}
+use Rattle.codespan_picture.proofs.Hanging.{trailing_here, hanging_here, nothing_trails}
+use Rattle.codespan_picture.proofs.Hanging.{none_trails}
 use Rattle.codespan_picture.proofs.Pieces.{taken-dropped}
 use Rattle.codespan_picture.proofs.rows.messages.Messages.of.Goals.{in-Some, in_default}
 use Rattle.codespan_picture.proofs.rows.messages.Messages.of.Goals.{in_default-via-in-Some+else-does_trail}

@@ -1,4 +1,4 @@
-use Rattle.std.proofs.Common.{arith}
+use Rattle.codespan_core.proofs.Std.{arith}
 use Rattle.codespan_picture.proofs.rows.primary_cover.PrimaryCover.end.Goals as goal
 
 -- no character of a text begins at the greatest index

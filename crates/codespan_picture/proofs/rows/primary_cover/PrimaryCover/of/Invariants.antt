@@ -1,10 +1,8 @@
-use Rattle.std.proofs.Common.{◌≡◌, ◌≤◌, ◌&&◌, ◌||◌, drop, map}
-use Rattle.std.specs.List.{list_any}
+use Rattle.codespan_core.proofs.Std.{◌≡◌, ◌≤◌, ◌&&◌, ◌||◌, drop, map, list_any}
 use Rattle.codespan_core.specs.Labels.{LaneMark, is_primary_style}
-use Rattle.codespan_picture.specs.declared.char_metrics.Metrics.{Metrics}
-use Rattle.codespan_picture.specs.Arguments.{lane_mark_view}
-use Rattle.codespan_picture.specs.Private.PrimaryCover.{covers_char}
-use Rattle.codespan_picture.specs.RowParts.{multi_label_covers}
+use Rattle.codespan_picture.specs.Types.{Metrics}
+use Rattle.codespan_picture.specs.{lane_mark_view, multi_label_covers}
+use Rattle.codespan_picture.specs.Private.{covers_char}
 use Rattle.codespan_picture.proofs.rows.primary_cover.PrimaryCover.of.Given as goal
 
 -- what was found and the remaining lane marks cover what all of them cover

@@ -1,4 +1,4 @@
-use Rattle.std.proofs.Common.{refl, rules}
+use Rattle.codespan_core.proofs.Std.{refl, rules}
 use Rattle.codespan_renderer.proofs.RowWriters.{renders}
 use Rattle.codespan_renderer.proofs.term.renderer.Renderer.render_snippet_break.Goals as goal
 

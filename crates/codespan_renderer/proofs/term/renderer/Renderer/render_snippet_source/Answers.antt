@@ -1,4 +1,4 @@
-use Rattle.std.proofs.Common.{rules}
+use Rattle.codespan_core.proofs.Std.{rules}
 use Rattle.codespan_renderer.proofs.RowWriters.{renders, same_rows}
 use Rattle.codespan_renderer.proofs.term.renderer.Renderer.render_snippet_source.Goals as goal
 

@@ -1,4 +1,4 @@
-use Rattle.std.proofs.Common.{arith, ne_eqb, refl}
+use Rattle.codespan_core.proofs.Std.{arith, ne_eqb, refl}
 use Rattle.codespan_renderer.proofs.MetricsSteps.{width_at-printable}
 use Rattle.codespan_renderer.proofs.term.renderer.char_metrics.width_at.Goals as goal
 

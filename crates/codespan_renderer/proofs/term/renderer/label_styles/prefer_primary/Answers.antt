@@ -1,7 +1,6 @@
-use Rattle.std.proofs.Common.{◌≡◌, Option, Some, refl, ap, ◌∙◌}
-use Rattle.codespan_core.specs.declared.diagnostic.LabelStyle.{LabelStyle}
-use Rattle.codespan_core.specs.declared.diagnostic.LabelStyle.TheVariants.{Primary}
-use Rattle.codespan_renderer.specs.Private.PreferredStyles.{prefer_primary}
+use Rattle.codespan_core.proofs.Std.{◌≡◌, Option, Some, refl, ap, ◌∙◌}
+use Rattle.codespan_picture.specs.Types.{LabelStyle, Primary}
+use Rattle.codespan_renderer.specs.Private.{prefer_primary}
 use Rattle.codespan_renderer.proofs.term.renderer.label_styles.prefer_primary.Goals as goal
 
 -- no style takes precedence over a primary one

@@ -1,6 +1,9 @@
-use Rattle.std.proofs.Common.{arith, sym, ◌∙◌}
+use Rattle.codespan_core.proofs.Std.{arith, sym, ◌∙◌}
 use Rattle.codespan_renderer.proofs.PointerStyles.{preferred-step}
-use Rattle.codespan_renderer.proofs.term.renderer.label_styles.start_style.Goals.{then-not-is_empty+then-starts_in, else-not-is_empty, else-not-is_empty-via-then-not-is_empty+else-starts_in, else-not-is_empty-via-else-not-is_empty}
+use Rattle.codespan_renderer.proofs.term.renderer.label_styles.start_style.Goals.{then-not-is_empty+then-starts_in}
+use Rattle.codespan_renderer.proofs.term.renderer.label_styles.start_style.Goals.{else-not-is_empty}
+use Rattle.codespan_renderer.proofs.term.renderer.label_styles.start_style.Goals.{else-not-is_empty-via-then-not-is_empty+else-starts_in}
+use Rattle.codespan_renderer.proofs.term.renderer.label_styles.start_style.Goals.{else-not-is_empty-via-else-not-is_empty}
 use Rattle.codespan_renderer.proofs.term.renderer.label_styles.start_style.Goals as goal
 
 pub loop-label-preserved : goal.loop-label-preserved

@@ -1,10 +1,10 @@
-use Rattle.std.proofs.Common.{◌≡◌, ◌++◌, map, drop}
+use Rattle.codespan_core.proofs.Std.{◌≡◌, ◌++◌, map, drop}
 use Rattle.codespan_picture.specs.Arguments.{single_label_views}
-use Rattle.codespan_views.specs.Private.AnnotationViews.{annotation_view}
-use Rattle.codespan_views.specs.Private.SnippetLines.{single_labels_in}
+use Rattle.codespan_views.specs.Private.{annotation_view, single_labels_in}
 use Rattle.codespan_views.proofs.snippet.line_buffers.LineBuffers.refill.Given as goal
 
--- the single-line labels that were taken and those that are left make the whole; the lane marks were
+-- the single-line labels that were taken and those that are left make the whole; the lane marks
+-- were
 -- all taken
 abbrev pub invariant-loop-annotation : goal.invariant-loop-annotation
 invariant-loop-annotation g l = record {

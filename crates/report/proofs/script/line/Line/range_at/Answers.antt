@@ -1,4 +1,4 @@
-use Rattle.std.proofs.Common.{refl}
+use Rattle.codespan_core.proofs.Std.{refl}
 use Rattle.report.proofs.script.line.Line.range_at.Goals as goal
 
 -- the field ends after all its bytes

@@ -1,5 +1,6 @@
-use Rattle.codespan_core.proofs.AppendsBytes.{appended-then, prefix-then, prefix-before, appends-last, appends-failed}
 use Rattle.codespan_base.specs.Ansi.{ansi_style}
+use Rattle.codespan_core.proofs.AppendsBytes.{appended-then, prefix-then, prefix-before}
+use Rattle.codespan_core.proofs.AppendsBytes.{appends-last, appends-failed}
 use Rattle.codespan_base.proofs.term.config.ansi.AnsiWriteColor.set_color.Goals as goal
 
 pub returns-in_err-write_reset : goal.returns-in_err-write_reset

@@ -1,4 +1,4 @@
-use Rattle.std.proofs.Common.{refl}
+use Rattle.codespan_core.proofs.Std.{refl}
 use Rattle.codespan_base.proofs.term.config.styles.Styles.header.Goals as goal
 
 -- the style that is borrowed is that of the severity

@@ -1,4 +1,4 @@
-use Rattle.std.proofs.Common.{refl}
+use Rattle.codespan_core.proofs.Std.{refl}
 use Rattle.codespan_base.proofs.term.config.styles.Styles.label.Goals as goal
 
 -- secondary labels have one style

@@ -1,4 +1,4 @@
-use Rattle.std.proofs.Common.{refl}
+use Rattle.codespan_core.proofs.Std.{refl}
 use Rattle.codespan_base.proofs.term.config.styles_writer.StylesWriter.new.Goals as goal
 
 -- the flag is not set, and the bytes are those of the inner writer

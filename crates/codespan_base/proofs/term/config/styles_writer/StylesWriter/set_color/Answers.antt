@@ -1,4 +1,4 @@
-use Rattle.std.proofs.Common.{false, []}
+use Rattle.codespan_core.proofs.Std.{false, []}
 use Rattle.codespan_core.proofs.StyleMarks.{Writes-forwarded}
 use Rattle.codespan_base.proofs.term.config.styles_writer.StylesWriter.set_color.Goals as goal
 

@@ -1,4 +1,4 @@
-use Rattle.std.proofs.Common.{refl}
+use Rattle.codespan_core.proofs.Std.{refl}
 use Rattle.codespan_core.proofs.term.config.chars.Chars.ascii.Goals as goal
 
 -- each field is that of the definition

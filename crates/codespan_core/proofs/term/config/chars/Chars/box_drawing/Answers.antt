@@ -1,5 +1,4 @@
-use Rattle.std.proofs.Common.{refl}
-use Rattle.std.specs.Char.{encode_utf8}
+use Rattle.codespan_core.proofs.Std.{refl, encode_utf8}
 use Rattle.codespan_core.proofs.term.config.chars.Chars.box_drawing.Goals as goal
 
 pub returns-clause-equal : goal.returns-clause-equal

@@ -1,4 +1,4 @@
-use Rattle.std.proofs.Common.{ap, refl}
+use Rattle.codespan_core.proofs.Std.{ap, refl}
 use Rattle.std.specs.Result.{result_map_both}
 use Rattle.codespan_core.proofs.term.config.chars.Chars.clone.Goals as goal
 

@@ -1,4 +1,4 @@
-use Rattle.std.proofs.Common.{refl}
+use Rattle.codespan_core.proofs.Std.{refl}
 use Rattle.codespan_core.proofs.term.config.chars.SnippetStart.clone.Goals as goal
 
 -- a fixed text is returned as it is

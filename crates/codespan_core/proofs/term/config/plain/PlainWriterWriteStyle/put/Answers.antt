@@ -1,4 +1,4 @@
-use Rattle.codespan_core.specs.Writers.{plain_sink}
+use Rattle.codespan_core.specs.{plain_sink}
 use Rattle.codespan_core.proofs.term.config.plain.PlainWriterWriteStyle.put.Goals as goal
 
 pub returns-clause-took : goal.returns-clause-took

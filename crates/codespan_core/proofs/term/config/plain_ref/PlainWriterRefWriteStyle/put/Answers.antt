@@ -1,6 +1,5 @@
-use Rattle.std.proofs.Common.{false, [], ◌∷◌}
-use Rattle.codespan_core.specs.Streams.{plain_spelling}
-use Rattle.codespan_core.specs.Writers.{plain_reference}
+use Rattle.codespan_core.proofs.Std.{false, [], ◌∷◌}
+use Rattle.codespan_core.specs.{plain_spelling, plain_reference}
 use Rattle.codespan_core.proofs.term.config.plain_ref.PlainWriterRefWriteStyle.put.Goals as goal
 
 pub returns-clause-took : goal.returns-clause-took

@@ -1,6 +1,5 @@
-use Rattle.std.proofs.Common.{length}
-use Rattle.codespan_renderer.specs.Private.RemainingMetrics.{metrics_from, no_more}
-use Rattle.codespan_renderer.specs.Private.CachedMetrics.{AreCached}
+use Rattle.codespan_core.proofs.Std.{length}
+use Rattle.codespan_renderer.specs.Private.{metrics_from, no_more, AreCached}
 use Rattle.codespan_renderer.proofs.term.renderer.cached.line_cache.cache_metrics.Given as goal
 
 -- what is cached and what the scan has left are all characters

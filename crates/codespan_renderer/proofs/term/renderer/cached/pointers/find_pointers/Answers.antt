@@ -1,14 +1,15 @@
-use Rattle.std.proofs.Common.{◌≡◌, ◌∙◌, ◌++◌, ap, append-nil, refl, sym, arith}
-use Rattle.std.specs.Str.{chars}
-use Rattle.std.proofs.lemmas.Str.{IsUtf8-had}
+use Rattle.codespan_core.proofs.Std.{◌≡◌, ◌∙◌, ◌++◌, ap, append-nil, refl, sym, arith, chars}
+use Rattle.codespan_core.proofs.Std.{IsUtf8-had}
 use Rattle.codespan_picture.specs.CharMetrics.{char_metrics}
 use Rattle.codespan_picture.specs.Arguments.{single_label_views}
+use Rattle.codespan_renderer.specs.Private.{remaining_from_cache}
 use Rattle.codespan_picture.proofs.Consecutive.{char_metrics-consecutive}
-use Rattle.codespan_renderer.specs.Private.CachedMetrics.{remaining_from_cache}
 use Rattle.codespan_picture.proofs.Hanging.{none_hangs}
 use Rattle.codespan_picture.proofs.ScanState.{scan_state-char_metrics, scan_state-more}
 use Rattle.codespan_renderer.proofs.PiecesInOrder.{before-ordered, after-ordered}
-use Rattle.codespan_renderer.proofs.PointerCursors.{no-pointers, passing-start, passing-at, passing-more, found-style, found-some, found-none, pointers-past-at}
+use Rattle.codespan_renderer.proofs.PointerCursors.{no-pointers, passing-start, passing-at}
+use Rattle.codespan_renderer.proofs.PointerCursors.{passing-more, found-style, found-some}
+use Rattle.codespan_renderer.proofs.PointerCursors.{found-none, pointers-past-at}
 use Rattle.codespan_renderer.proofs.term.renderer.cached.pointers.find_pointers.Goals as goal
 
 pub returns-then-not-has_any_message-2-clause-found :

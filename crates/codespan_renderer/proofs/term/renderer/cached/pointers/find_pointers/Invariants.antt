@@ -1,9 +1,9 @@
-use Rattle.std.proofs.Common.{◌≡◌, ◌++◌, length}
+use Rattle.codespan_core.proofs.Std.{◌≡◌, ◌++◌, length}
 use Rattle.codespan_picture.specs.CharMetrics.{char_metrics}
 use Rattle.codespan_picture.specs.Arguments.{single_label_views}
-use Rattle.codespan_renderer.specs.Private.CachedMetrics.{remaining_from_cache}
 use Rattle.codespan_picture.specs.Private.PointerLists.{pointers_in}
 use Rattle.codespan_picture.specs.Rows.{hanging_labels}
+use Rattle.codespan_renderer.specs.Private.{remaining_from_cache}
 use Rattle.codespan_picture.proofs.ScanState.{ScanState}
 use Rattle.codespan_renderer.proofs.PointerCursors.{IsPassing}
 use Rattle.codespan_renderer.proofs.term.renderer.cached.pointers.find_pointers.Given as goal

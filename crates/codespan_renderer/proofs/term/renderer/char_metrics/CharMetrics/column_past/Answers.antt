@@ -1,7 +1,7 @@
-use Rattle.std.proofs.Common.{ap, arith}
+use Rattle.codespan_core.proofs.Std.{ap, arith}
 use Rattle.codespan_picture.specs.CharMetrics.{width_of}
 use Rattle.codespan_picture.specs.RowParts.{metrics_up_to}
-use Rattle.codespan_renderer.specs.Private.RemainingMetrics.{metrics_from, no_more}
+use Rattle.codespan_renderer.specs.Private.{metrics_from, no_more}
 use Rattle.codespan_renderer.proofs.CachedScans.{past-scan}
 use Rattle.codespan_picture.proofs.Widths.{width-out}
 use Rattle.codespan_renderer.proofs.term.renderer.char_metrics.CharMetrics.column_past.Goals as goal

@@ -1,4 +1,4 @@
-use Rattle.codespan_renderer.specs.Private.RemainingMetrics.{after_last}
+use Rattle.codespan_renderer.specs.Private.{after_last}
 use Rattle.codespan_renderer.proofs.term.renderer.char_metrics.CharMetricsIterator.next.Goals as goal
 
 pub returns-in-Some-clause-steps : goal.returns-in-Some-clause-steps

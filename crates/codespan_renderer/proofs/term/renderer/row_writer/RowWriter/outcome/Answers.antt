@@ -1,4 +1,4 @@
-use Rattle.std.proofs.Common.{refl}
+use Rattle.codespan_core.proofs.Std.{refl}
 use Rattle.codespan_renderer.proofs.term.renderer.row_writer.RowWriter.outcome.Goals as goal
 
 -- a failed call stays one

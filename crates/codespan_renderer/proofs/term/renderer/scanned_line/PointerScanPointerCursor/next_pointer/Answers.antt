@@ -1,7 +1,8 @@
-use Rattle.std.proofs.Common.{[], refl, sym, ◌∙◌}
+use Rattle.codespan_core.proofs.Std.{[], refl, sym, ◌∙◌}
 use Rattle.codespan_picture.specs.Arguments.{single_label_views}
-use Rattle.codespan_renderer.proofs.PointerCursors.{found-none, found-some, found-style, scan-past-at}
-use Rattle.codespan_renderer.specs.Private.RemainingMetrics.{no_more}
+use Rattle.codespan_renderer.specs.Private.{no_more}
+use Rattle.codespan_renderer.proofs.PointerCursors.{found-none, found-some, found-style}
+use Rattle.codespan_renderer.proofs.PointerCursors.{scan-past-at}
 use Rattle.codespan_renderer.proofs.term.renderer.scanned_line.PointerScanPointerCursor.next_pointer.Goals as goal
 
 pub returns-then-metrics-self : goal.returns-then-metrics-self

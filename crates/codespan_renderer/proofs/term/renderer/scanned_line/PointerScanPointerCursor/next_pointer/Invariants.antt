@@ -1,8 +1,8 @@
-use Rattle.std.proofs.Common.{◌≡◌, length}
+use Rattle.codespan_core.proofs.Std.{◌≡◌, length}
 use Rattle.codespan_picture.specs.Arguments.{single_label_views}
 use Rattle.codespan_picture.specs.Rows.{hanging_labels}
 use Rattle.codespan_picture.specs.Private.PointerLists.{pointers_in}
-use Rattle.codespan_renderer.specs.Private.RemainingMetrics.{metrics_from, no_more}
+use Rattle.codespan_renderer.specs.Private.{metrics_from, no_more}
 use Rattle.codespan_renderer.proofs.term.renderer.scanned_line.PointerScanPointerCursor.next_pointer.Given as goal
 
 -- no pointer was under the characters that it has gone over

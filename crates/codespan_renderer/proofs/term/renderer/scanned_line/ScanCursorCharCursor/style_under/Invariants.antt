@@ -1,8 +1,8 @@
-use Rattle.std.proofs.Common.{◌≡◌, drop, None}
+use Rattle.codespan_core.proofs.Std.{◌≡◌, drop, None}
 use Rattle.codespan_core.specs.Labels.{LabelModel}
 use Rattle.codespan_picture.specs.Carets.{covers}
 use Rattle.codespan_picture.specs.Arguments.{single_label_views}
-use Rattle.codespan_renderer.specs.Private.PreferredStyles.{preferred_style}
+use Rattle.codespan_renderer.specs.Private.{preferred_style}
 use Rattle.codespan_renderer.proofs.term.renderer.scanned_line.ScanCursorCharCursor.style_under.Given as goal
 
 -- the remaining labels decide

@@ -1,4 +1,4 @@
-use Rattle.std.proofs.Common.{rules}
+use Rattle.codespan_core.proofs.Std.{rules}
 use Rattle.codespan_renderer.proofs.ThroughReference.{writes_through}
 use Rattle.codespan_renderer.proofs.term.renderer.write_style.RendererWriteStyle.reset.Goals as goal
 

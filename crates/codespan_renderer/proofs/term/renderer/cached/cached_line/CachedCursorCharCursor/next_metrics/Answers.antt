@@ -5,7 +5,8 @@ pub invariant_of-self : goal.invariant_of-self
 invariant_of-self c =
     record {
       state =
-          cursor-next _ c.args.self.now.characters c.next.new.self c.next.result c.next.ensures.steps
+          cursor-next _ c.args.self.now.characters c.next.new.self c.next.result
+          c.next.ensures.steps
           c.args.self.now.state;
     }
 

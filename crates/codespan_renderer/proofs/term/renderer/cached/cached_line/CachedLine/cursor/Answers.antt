@@ -1,4 +1,4 @@
-use Rattle.std.proofs.Common.{take, le-ltb, refl, arith}
+use Rattle.codespan_core.proofs.Std.{take, le-ltb, refl, arith}
 use Rattle.codespan_renderer.proofs.CachedScans.{cached-from}
 use Rattle.codespan_renderer.proofs.LabelCursorSteps.{cursor-start, follow-after}
 use Rattle.codespan_renderer.proofs.term.renderer.cached.cached_line.CachedLine.cursor.Goals as goal

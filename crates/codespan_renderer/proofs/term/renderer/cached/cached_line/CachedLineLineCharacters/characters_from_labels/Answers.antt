@@ -1,8 +1,9 @@
-use Rattle.std.proofs.Common.{◌≡◌, take, ◌∙◌}
+use Rattle.codespan_core.proofs.Std.{◌≡◌, take, ◌∙◌}
 use Rattle.codespan_picture.specs.Arguments.{single_label_views}
 use Rattle.codespan_picture.specs.Private.RowLabels.{least_start}
 use Rattle.codespan_renderer.proofs.SkippedSearch.{least-of_first, least-of_none}
-use Rattle.codespan_renderer.proofs.term.renderer.cached.cached_line.CachedLineLineCharacters.characters_from_labels.Goals.{in-Some, in-None}
+use Rattle.codespan_renderer.proofs.term.renderer.cached.cached_line.CachedLineLineCharacters.characters_from_labels.Goals.{in-Some}
+use Rattle.codespan_renderer.proofs.term.renderer.cached.cached_line.CachedLineLineCharacters.characters_from_labels.Goals.{in-None}
 use Rattle.codespan_renderer.proofs.term.renderer.cached.cached_line.CachedLineLineCharacters.characters_from_labels.Goals as goal
 
 -- the characters that are left out end at the least start of the labels, or before it

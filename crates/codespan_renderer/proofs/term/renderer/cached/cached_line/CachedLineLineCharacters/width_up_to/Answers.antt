@@ -1,9 +1,10 @@
-use Rattle.std.proofs.Common.{◌≡◌, true, false, leb, arith, rules, ap, ◌∙◌}
+use Rattle.codespan_core.proofs.Std.{◌≡◌, true, false, leb, arith, rules, ap, ◌∙◌, nat_tests}
 use Rattle.std.specs.List.Sorted.{IsPartitionPoint}
-use Rattle.std.proofs.lemmas.List.Sorted.{IsPartitionedBy-leb, IsNonDecreasingBy-from_default, IsPartitionPoint-from_clause}
-use Rattle.std.proofs.lemmas.Bool.Decides.{nat_tests}
+use Rattle.std.proofs.lemmas.List.Sorted.{IsPartitionedBy-leb, IsNonDecreasingBy-from_default}
+use Rattle.std.proofs.lemmas.List.Sorted.{IsPartitionPoint-from_clause}
 use Rattle.codespan_picture.specs.declared.char_metrics.Metrics.{Metrics}
-use Rattle.codespan_renderer.proofs.WidthSearch.{default_metrics, cached-cut, cached-past, cached-ascends}
+use Rattle.codespan_renderer.proofs.WidthSearch.{default_metrics, cached-cut, cached-past}
+use Rattle.codespan_renderer.proofs.WidthSearch.{cached-ascends}
 use Rattle.codespan_renderer.proofs.term.renderer.cached.cached_line.CachedLineLineCharacters.width_up_to.Goals.{After-partition_point-count}
 use Rattle.codespan_renderer.proofs.term.renderer.cached.cached_line.CachedLineLineCharacters.width_up_to.Goals as goal
 

@@ -1,7 +1,7 @@
-use Rattle.std.proofs.Common.{true, sym, ◌∙◌, arith, refl}
-use Rattle.std.proofs.lemmas.Bool.Decides.{nat_tests}
+use Rattle.codespan_core.proofs.Std.{true, sym, ◌∙◌, arith, refl, nat_tests}
 use Rattle.codespan_core.specs.Labels.{is_primary}
-use Rattle.codespan_renderer.proofs.LabelCursorSteps.{labels-step, reached-more, reached-here, starts-next, starts-past}
+use Rattle.codespan_renderer.proofs.LabelCursorSteps.{labels-step, reached-more, reached-here}
+use Rattle.codespan_renderer.proofs.LabelCursorSteps.{starts-next, starts-past}
 use Rattle.codespan_renderer.proofs.term.renderer.cached.label_cursor.LabelCursor.advance.Goals as goal
 
 pub loop-self-preserved : goal.loop-self-preserved

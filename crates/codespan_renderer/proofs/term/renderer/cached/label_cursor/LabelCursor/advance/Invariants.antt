@@ -1,5 +1,5 @@
-use Rattle.std.proofs.Common.{◌≡◌, ◌+◌, ◌-◌, length}
-use Rattle.codespan_renderer.specs.Private.LabelCursors.{HasPassedLabels}
+use Rattle.codespan_core.proofs.Std.{◌≡◌, ◌+◌, ◌-◌, length}
+use Rattle.codespan_renderer.specs.Private.{HasPassedLabels}
 use Rattle.codespan_renderer.proofs.term.renderer.cached.label_cursor.LabelCursor.advance.Given as goal
 
 -- of the labels that start before the character's end some have been passed

@@ -1,8 +1,7 @@
-use denote.Enum.Bare.{same_true}
-use Rattle.std.proofs.Common.{rules, ◌≡◌, sym, ◌∙◌}
-use Rattle.std.proofs.lemmas.Bool.{lt-ltb}
+use Rattle.codespan_core.proofs.Std.{rules, ◌≡◌, sym, ◌∙◌, lt-ltb}
 use Rattle.codespan_core.specs.contracts.diagnostic.LabelStyle.{the_type}
-use Rattle.codespan_core.specs.declared.diagnostic.LabelStyle.TheVariants.{Primary}
+use Rattle.codespan_picture.specs.Types.{Primary}
+use denote.Enum.Bare.{same_true}
 use Rattle.codespan_renderer.proofs.term.renderer.cached.label_cursor.LabelCursor.raise_ends.Goals as goal
 
 -- the label is primary and covers a byte, so that its end counts

@@ -1,7 +1,9 @@
-use Rattle.std.proofs.Common.{◌+◌, sym, ◌∙◌, arith}
+use Rattle.codespan_core.proofs.Std.{◌+◌, sym, ◌∙◌, arith}
 use Rattle.codespan_renderer.proofs.LabelCursorSteps.{starts-rest, starts-first, starts-past}
-use Rattle.codespan_renderer.proofs.StartsPassed.{start-here, start-before, none-start, prefix-start}
-use Rattle.codespan_renderer.proofs.term.renderer.cached.label_cursor.StartCursor.start_style.Goals.{then-not-is_empty, else-not-is_empty}
+use Rattle.codespan_renderer.proofs.StartsPassed.{start-here, start-before, none-start}
+use Rattle.codespan_renderer.proofs.StartsPassed.{prefix-start}
+use Rattle.codespan_renderer.proofs.term.renderer.cached.label_cursor.StartCursor.start_style.Goals.{then-not-is_empty}
+use Rattle.codespan_renderer.proofs.term.renderer.cached.label_cursor.StartCursor.start_style.Goals.{else-not-is_empty}
 use Rattle.codespan_renderer.proofs.term.renderer.cached.label_cursor.StartCursor.start_style.Goals as goal
 
 pub loop-self-preserved : goal.loop-self-preserved
@@ -46,5 +48,6 @@ returns-else-starts_before_end-clause-style c =
     starts-past c.args.metrics.byte_index _ c.args.self.now.labels.now c.loop-self.self.next
     (c.args.metrics.byte_index + c.args.metrics.bytes) _ i.same c.loop-self-test.true late
     i.ordered in
-    sym (none-start c.args.metrics c.loop-self.best (c.args.metrics.byte_index + c.args.metrics.bytes) _ past (omega arith))
+    sym (none-start c.args.metrics c.loop-self.best
+    (c.args.metrics.byte_index + c.args.metrics.bytes) _ past (omega arith))
     ∙ i.here

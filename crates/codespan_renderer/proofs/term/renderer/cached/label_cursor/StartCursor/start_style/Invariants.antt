@@ -1,11 +1,10 @@
-use Rattle.std.proofs.Common.{◌≡◌, ◌+◌, ◌-◌, ◌≤◌, length, true, filter, Option}
-use Rattle.codespan_core.specs.declared.diagnostic.LabelStyle.{LabelStyle}
+use Rattle.codespan_core.proofs.Std.{◌≡◌, ◌+◌, ◌-◌, ◌≤◌, length, true, filter, Option}
 use Rattle.codespan_core.specs.Labels.{has_message}
+use Rattle.codespan_picture.specs.Types.{LabelStyle}
 use Rattle.codespan_picture.specs.declared.char_metrics.Metrics.{Metrics}
 use Rattle.codespan_picture.specs.Arguments.{single_label_views, starts_from}
-use Rattle.codespan_renderer.specs.Private.LabelCursors.{remaining_start_labels}
 use Rattle.codespan_picture.specs.RowParts.{starts_in}
-use Rattle.codespan_renderer.specs.Private.PreferredStyles.{preferred_style}
+use Rattle.codespan_renderer.specs.Private.{remaining_start_labels, preferred_style}
 use Rattle.codespan_renderer.proofs.term.renderer.cached.label_cursor.StartCursor.start_style.Given as goal
 
 -- the remaining labels decide, with what was found; those passed start in no later character
