@@ -21,6 +21,8 @@ apart:
         'crates/base/specs/Sums.antt': 'pub sum : ℕ → ℕ\nsum n = n\n\npub total-of : ℕ → ℕ\ntotal-of n = n\n',
         'crates/base/proofs/Lemmas/Sums.antt': 'pub sum-is-it : ℕ\n',
         'crates/facade/specs/Lib.antt': 'pub use Rattle.base.specs.Sums\n',
+        'crates/user/specs/Lib.antt': '-- all of their names\nunfoldable pub use Rattle.user.specs.Words.*\n',
+        'crates/user/specs/Words.antt': 'pub word : ℕ\n',
         'crates/apart/specs/Names.antt': 'pub name : ℕ\n',
         CODE: '''\
 //! What `apart::name` is, as Rattle.apart.specs has it, is not used.
@@ -35,7 +37,7 @@ fn twice(n: usize) -> usize
     facade::sums::sum(n)
 }
 ''',
-        PROOF: '-- as in Rattle.apart.specs\nuse Rattle.base.proofs.Lemmas.Sums.{sum-is-it}\nuse Rattle.user.specs.Lib.{it}\n',
+        PROOF: '-- as in Rattle.apart.specs\nuse Rattle.base.proofs.Lemmas.Sums.{sum-is-it}\nuse Rattle.user.specs.{word}\n',
         EDIT: '''\
 -- the sum is 0
 file: src/lib.rt
@@ -55,6 +57,10 @@ new: facade::sums::sum(0)
         self.change(PROOF, '{sum-is-it}', '{sum-is-it, sum-is-zero}')
         self.assert_finds(f'{PROOF}: base.proofs.Lemmas.Sums has no sum-is-zero')
 
+    def test_name_that_is_passed_on(self):
+        self.change(PROOF, '{word}', '{words}')
+        self.assert_finds(f'{PROOF}: user.specs has no words')
+
     def test_name_of_a_re_exported_module(self):
         self.change(CODE, 'facade.specs.Sums.{sum}', 'facade.specs.Sums.{sums}')
         self.assert_finds(f'{CODE}: facade.specs.Sums has no sums')
@@ -68,7 +74,7 @@ new: facade::sums::sum(0)
         self.assert_finds(f'{CODE}: crates.txt does not list apart here')
 
     def test_crate_of_a_proof(self):
-        self.change(PROOF, 'use Rattle.user.specs.Lib.{it}', 'use Rattle.apart.specs.Names.{name}')
+        self.change(PROOF, 'use Rattle.user.specs.{word}', 'use Rattle.apart.specs.Names.{name}')
         self.assert_finds(f'{PROOF}: crates.txt does not list apart here')
 
     def test_crate_of_an_edit(self):

@@ -5,6 +5,7 @@ from tree import TreeCase
 
 CODE = 'crates/one/src/lib.rt'
 SPECS = 'crates/one/specs/Sums.antt'
+PROOFS = 'crates/one/proofs/Lemmas.antt'
 LONG = 'n ≡ ' + 'm + ' * 30 + 'm'
 MODULE = 'Rattle.one.specs.declared.' + 'far.' * 20 + 'Sums'
 
@@ -39,14 +40,14 @@ pub name : List ℕ
 name =
     codes "{LONG}"
 ''',
-        'crates/one/proofs/Lemmas.antt': f'-- {LONG}\n',
+        PROOFS: f'use {MODULE}.Goals as goal\n\nsum-is-it = search\n',
     }
 
     def assert_finds_line(self, path, number, line):
         """Asserts that the tool finds the line of this number, which is this one, and no other."""
         self.assertEqual(self.text(path).split('\n')[number - 1], line)
         self.assert_finds(f'{path}:{number}: {len(line)} columns')
-        self.assertEqual(self.run_tool()[2], 'check-width: 1 lines of src/ and specs/ are wider than 100 columns\n')
+        self.assertEqual(self.run_tool()[2], 'check-width: 1 lines of src/, specs/ and proofs/ are wider than 100 columns\n')
 
     def test_sound(self):
         self.assert_passes()
@@ -89,6 +90,10 @@ name =
     def test_import_of_two_names_by_a_definition(self):
         self.change(SPECS, '{sum}', '{sum, name}')
         self.assert_finds_line(SPECS, 1, f'use {MODULE}.{{sum, name}}')
+
+    def test_proof(self):
+        self.change(PROOFS, 'search', LONG)
+        self.assert_finds_line(PROOFS, 3, f'sum-is-it = {LONG}')
 
     def test_text_with_more_in_its_line(self):
         self.change(SPECS, 'name =\n    codes', 'name = codes')

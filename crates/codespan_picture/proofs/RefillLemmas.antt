@@ -114,7 +114,8 @@ module _ (φ : Stream → Stream) (keeps : (s : Stream) → is_empty_stream (φ 
         by_rest : (rest : Option Around) (b : Bool) → around_with_end end (map (refilled φ) xs)
             ≡ option_map (refilled_around φ) rest
             → behind (refilled φ x) (around_with_end end (map (refilled φ) xs))
-            (if b then Some (record { before = []; here = refilled φ x; after = map (refilled φ) xs })
+            (if b then Some
+            (record { before = []; here = refilled φ x; after = map (refilled φ) xs })
             else None)
             ≡ option_map (refilled_around φ)
             (behind x rest (if b then Some (record { before = []; here = x; after = xs }) else
@@ -187,7 +188,8 @@ module _ (φ : Stream → Stream) (keeps : (s : Stream) → is_empty_stream (φ 
     -- ---- lanes
 
     corner : (chars : _) (multi_label : MultiLabel)
-        → underline_char chars (refilled_multi_label φ multi_label) ≡ underline_char chars multi_label
+        → underline_char chars (refilled_multi_label φ multi_label)
+        ≡ underline_char chars multi_label
     corner chars (Top start) = refl
     corner chars Left = refl
     corner chars (Bottom end message) = refl
@@ -230,7 +232,8 @@ module _ (φ : Stream → Stream) (keeps : (s : Stream) → is_empty_stream (φ 
         → ((lane : ℕ) → crossing' lane ≡ option_map (refilled_lane_mark φ) (crossing lane))
         → ((lane : ℕ) (multi_label : MultiLabel) → shape lane (refilled_multi_label φ multi_label)
         ≡ shape lane multi_label)
-        → lanes_in context crossing' shape (refilled_lanes φ lanes) ≡ lanes_in context crossing shape
+        → lanes_in context crossing' shape (refilled_lanes φ lanes) ≡ lanes_in context crossing
+        shape
         lanes
     lanes-refilled context crossing crossing' shape lanes h same =
         ap (λ f. flat_map f (range_with_len 0 lanes.count)) (fun_ext each)
@@ -243,17 +246,20 @@ module _ (φ : Stream → Stream) (keeps : (s : Stream) → is_empty_stream (φ 
         each lane =
             ap₂ (λ c m. inner_gutter_column context c (shape lane) m) (h lane)
             (find-map (λ (m : LaneMark). m.lane == lane) (refilled_lane_mark φ) lanes.lane_marks)
-            ∙ lane-refilled context (crossing lane) (lane_mark_in lanes.lane_marks lane) (shape lane)
+            ∙ lane-refilled context (crossing lane) (lane_mark_in lanes.lane_marks lane)
+            (shape lane)
             (same lane)
 
     source_shape-refilled : (leading : ℕ) (multi_label : MultiLabel)
-        → source_shape leading (refilled_multi_label φ multi_label) ≡ source_shape leading multi_label
+        → source_shape leading (refilled_multi_label φ multi_label)
+        ≡ source_shape leading multi_label
     source_shape-refilled leading (Top start) = refl
     source_shape-refilled leading Left = refl
     source_shape-refilled leading (Bottom end message) = refl
 
     empty_or_break_shape-refilled : (multi_label : MultiLabel)
-        → empty_or_break_shape (refilled_multi_label φ multi_label) ≡ empty_or_break_shape multi_label
+        → empty_or_break_shape (refilled_multi_label φ multi_label)
+        ≡ empty_or_break_shape multi_label
     empty_or_break_shape-refilled (Top start) = refl
     empty_or_break_shape-refilled Left = refl
     empty_or_break_shape-refilled (Bottom end message) = refl
@@ -266,7 +272,8 @@ module _ (φ : Stream → Stream) (keeps : (s : Stream) → is_empty_stream (φ 
     single_labels_shape-refilled layout leading Left = refl
     single_labels_shape-refilled layout leading (Bottom end message) = refl
 
-    underline_shape-refilled : (layout : _) (leading corner_lane lane : ℕ) (multi_label : MultiLabel)
+    underline_shape-refilled : (layout : _) (leading corner_lane lane : ℕ)
+        (multi_label : MultiLabel)
         → underline_shape layout leading corner_lane lane (refilled_multi_label φ multi_label)
         ≡ underline_shape layout leading corner_lane lane multi_label
     underline_shape-refilled layout leading corner_lane lane (Top start) = refl
@@ -274,7 +281,8 @@ module _ (φ : Stream → Stream) (keeps : (s : Stream) → is_empty_stream (φ 
     underline_shape-refilled layout leading corner_lane lane (Bottom end message) = refl
 
     pub source_lanes-refilled : (context : RowContext) (leading : ℕ) (lanes : Lanes)
-        → inner_gutter context leading Source (refilled_lanes φ lanes) ≡ inner_gutter context leading
+        → inner_gutter context leading Source (refilled_lanes φ lanes)
+        ≡ inner_gutter context leading
         Source
         lanes
     unfolding inner_gutter
@@ -297,7 +305,8 @@ module _ (φ : Stream → Stream) (keeps : (s : Stream) → is_empty_stream (φ 
         (λ _. single_labels_shape context.layout leading) lanes (λ _. refl)
         (λ _. single_labels_shape-refilled context.layout leading)
 
-    pub underline_lanes-refilled : (context : RowContext) (leading : ℕ) (m : LaneMark) (lanes : Lanes)
+    pub underline_lanes-refilled : (context : RowContext) (leading : ℕ) (m : LaneMark)
+        (lanes : Lanes)
         → inner_gutter context leading (Underline (refilled_lane_mark φ m)) (refilled_lanes φ lanes)
         ≡ inner_gutter context leading (Underline m) lanes
     unfolding inner_gutter
@@ -315,7 +324,8 @@ module _ (φ : Stream → Stream) (keeps : (s : Stream) → is_empty_stream (φ 
     -- ---- text, carets and pointers
 
     multi_label_covers-refilled : (c : Metrics) (multi_label : MultiLabel)
-        → multi_label_covers c (refilled_multi_label φ multi_label) ≡ multi_label_covers c multi_label
+        → multi_label_covers c (refilled_multi_label φ multi_label)
+        ≡ multi_label_covers c multi_label
     multi_label_covers-refilled c (Top start) = refl
     multi_label_covers-refilled c Left = refl
     multi_label_covers-refilled c (Bottom end message) = refl
@@ -353,7 +363,8 @@ module _ (φ : Stream → Stream) (keeps : (s : Stream) → is_empty_stream (φ 
         (λ c. caret_glyphs context.chars end (style c) c) None cs)
         (fun_ext (style_under-refilled labels)) (greatest labels)
 
-    max_label_start-refilled : (labels : List LabelModel) → max_label_start (map (refilled φ) labels)
+    max_label_start-refilled : (labels : List LabelModel)
+        → max_label_start (map (refilled φ) labels)
         ≡ max_label_start labels
     max_label_start-refilled labels = fold-map (λ m (x : LabelModel). max m x.start) (refilled φ) 0
         labels

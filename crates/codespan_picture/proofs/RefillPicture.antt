@@ -85,7 +85,8 @@ module _ (φ : Stream → Stream) (keeps : (s : Stream) → is_empty_stream (φ 
         ∙ ap (map (HangingRow (refilled_line φ line))) (sym (reverse-map (refilled φ) (x ∷ xs))))
 
     has-underline : (leading : ℕ) (multi_label : MultiLabel)
-        → has_underline leading (refilled_multi_label φ multi_label) ≡ has_underline leading multi_label
+        → has_underline leading (refilled_multi_label φ multi_label)
+        ≡ has_underline leading multi_label
     has-underline leading (Top start) = refl
     has-underline leading Left = refl
     has-underline leading (Bottom end message) = refl
@@ -193,7 +194,8 @@ module _ (φ : Stream → Stream) (keeps : (s : Stream) → is_empty_stream (φ 
         (multi_label_on f l entry.1)) (enumerate_from (n + 1) xs))
 
     lane_marks-refilled : (f : FileModel) (xs : List LabelModel) (l : ℕ)
-        → lane_marks_on f (map (refilled φ) xs) l ≡ map (refilled_lane_mark φ) (lane_marks_on f xs l)
+        → lane_marks_on f (map (refilled φ) xs) l ≡ map (refilled_lane_mark φ)
+        (lane_marks_on f xs l)
     lane_marks-refilled f xs l =
         ap (λ ys. filter_map (λ (entry : ℕ × LabelModel). lane_mark_of entry.0 entry.1
         (multi_label_on f l entry.1)) (enumerate_from 0 ys)) (multi-refilled f xs)
@@ -348,7 +350,8 @@ module _ (φ : Stream → Stream) (keeps : (s : Stream) → is_empty_stream (φ 
     numbered-refilled config s = by_layout config.layout
       where
         by_layout : (layout : Layout)
-            → numbered_lines (record config { layout = layout }) (refilled_file φ s) ≡ numbered_lines
+            → numbered_lines (record config { layout = layout }) (refilled_file φ s)
+            ≡ numbered_lines
             (record config { layout = layout }) s
         by_layout Classic = spanned-refilled s
         by_layout Unbroken = drawn-refilled config s.file s.labels
@@ -369,7 +372,8 @@ module _ (φ : Stream → Stream) (keeps : (s : Stream) → is_empty_stream (φ 
         → labeled_file_models same file (map (refilled_in φ) xs)
         ≡ map (refilled_file φ) (labeled_file_models same file xs)
     files-refilled {Id = Id} same file xs =
-        ap (λ ids. map (labeled_file_model same file (map (refilled_in φ) xs)) (first_seen same ids))
+        ap (λ ids. map (labeled_file_model same file (map (refilled_in φ) xs))
+        (first_seen same ids))
         (map-map (λ (x : LabelInFile Id). x.file_id) (refilled_in φ) xs)
         ∙ map-ext (labeled_file_model same file (map (refilled_in φ) xs))
         (λ id. refilled_file φ (labeled_file_model same file xs id)) one ids

@@ -157,11 +157,12 @@ in-reverse x xs i = all-in (λ y. IsIn y (reverse xs)) x xs (each xs) i
 
     each : {X : Type 0} (ys : List X) → AllByRecursion (λ y. IsIn y (reverse ys)) ys
     each [] = tt
-    each (y ∷ ys) = subst (λ zs. AllByRecursion (λ z. IsIn z zs) (y ∷ ys)) (sym (reverse-cons y ys)) (
-      first y (reverse ys),
-      all-weaker (λ z. IsIn z (reverse ys))
-          (λ z. IsIn z (reverse ys ++ y ∷ [])) (λ z i. front z y (reverse ys) i) ys (each ys),
-    )
+    each (y ∷ ys) =
+        subst (λ zs. AllByRecursion (λ z. IsIn z zs) (y ∷ ys)) (sym (reverse-cons y ys)) (
+          first y (reverse ys),
+          all-weaker (λ z. IsIn z (reverse ys))
+              (λ z. IsIn z (reverse ys ++ y ∷ [])) (λ z i. front z y (reverse ys) i) ys (each ys),
+        )
 
 -- a filter keeps of a sorted list, from its end, what it keeps of the list that was sorted, where
 -- that falls

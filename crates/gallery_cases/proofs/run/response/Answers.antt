@@ -7,7 +7,8 @@ use Rattle.gallery_cases.specs.Documents.{IsDocument}
 use Rattle.gallery_cases.proofs.run.response.Goals as goal
 
 -- all cases
-pub returns-in_ok-render_cases-in-All-clause-responds : goal.returns-in_ok-render_cases-in-All-clause-responds
+pub returns-in_ok-render_cases-in-All-clause-responds
+    : goal.returns-in_ok-render_cases-in-All-clause-responds
 returns-in_ok-render_cases-in-All-clause-responds c =
     rw c.in-All.is c.in_ok-render_cases-in-All.ensures
 

@@ -18,7 +18,8 @@ returns-in_err-write_caret_row g c =
     (failed-before _
     (failed-then _ c.in_ok-write_source_row.ensures c.in_err-write_caret_row.ensures))))
 
-pub returns-in_err-write_pointer_and_hanging_rows : goal.returns-in_err-write_pointer_and_hanging_rows
+pub returns-in_err-write_pointer_and_hanging_rows
+    : goal.returns-in_err-write_pointer_and_hanging_rows
 returns-in_err-write_pointer_and_hanging_rows g c =
     rw (line_rows (context_view c.args.context) (line_view c.args.line))
     (failed _ _ _ _ _ c.from_residual-in_err-write_pointer_and_hanging_rows.ensures.1

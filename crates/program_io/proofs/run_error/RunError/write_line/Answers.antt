@@ -5,7 +5,8 @@ use Rattle.program_io.proofs.Received.{prefix_after, received_after}
 use Rattle.program_io.proofs.run_error.RunError.write_line.Goals as goal
 
 -- the line of a failed output: the name, and then the rest
-pub returns-in_ok-write_all-in-CannotWriteOutput-clause-written : goal.returns-in_ok-write_all-in-CannotWriteOutput-clause-written
+pub returns-in_ok-write_all-in-CannotWriteOutput-clause-written
+    : goal.returns-in_ok-write_all-in-CannotWriteOutput-clause-written
 returns-in_ok-write_all-in-CannotWriteOutput-clause-written g c =
     let name = subst
     (Appends (g.W.Write.contents c.args.stderr.now)
@@ -15,7 +16,8 @@ returns-in_ok-write_all-in-CannotWriteOutput-clause-written g c =
     line_of_error _ _ _ _ _ _ _ c.in-CannotWriteOutput.is
     (received_after _ _ _ _ _ _ name c.write_all-in-CannotWriteOutput.ensures.written)
 
-pub returns-in_ok-write_all-in-CannotWriteOutput-clause-prefix : goal.returns-in_ok-write_all-in-CannotWriteOutput-clause-prefix
+pub returns-in_ok-write_all-in-CannotWriteOutput-clause-prefix
+    : goal.returns-in_ok-write_all-in-CannotWriteOutput-clause-prefix
 returns-in_ok-write_all-in-CannotWriteOutput-clause-prefix g c =
     let name = subst
     (Appends (g.W.Write.contents c.args.stderr.now)

@@ -19,7 +19,8 @@ overflow_sub-result g c =
     )
 
 -- the range of a line before the last leaves out the newline
-pub returns-then-line_index-line_count-clause-value : goal.returns-then-line_index-line_count-clause-value
+pub returns-then-line_index-line_count-clause-value
+    : goal.returns-then-line_index-line_count-clause-value
 returns-then-line_index-line_count-clause-value g c =
     let text = mapped_text_of c.args.self.now in
     let next : c.args.line_index + 1 < length (line_starts_of text) =
@@ -37,5 +38,6 @@ returns-then-line_index-line_count-clause-value g c =
           );
     }
 
-pub returns-then-line_index-line_count-clause-memory : goal.returns-then-line_index-line_count-clause-memory
+pub returns-then-line_index-line_count-clause-memory
+    : goal.returns-then-line_index-line_count-clause-memory
 returns-then-line_index-line_count-clause-memory g c = tt

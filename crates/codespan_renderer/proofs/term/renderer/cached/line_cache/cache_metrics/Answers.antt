@@ -13,7 +13,8 @@ returns-then-metrics-reach-clause-are_cached c =
     c.in-Some-next_metrics.metrics _ c.loop-metrics.rest c.next_metrics.new.self
     c.in_ok-push.ensures.items c.in-Some-next_metrics.ensures.yields c.loop-metrics.invariant
 
-pub returns-then-metrics-reach-clause-reaches_past : goal.returns-then-metrics-reach-clause-reaches_past
+pub returns-then-metrics-reach-clause-reaches_past
+    : goal.returns-then-metrics-reach-clause-reaches_past
 returns-then-metrics-reach-clause-reaches_past c =
     rw c.in-Some.is
     (past-scan c.in-Some.reach c.in-Some-next_metrics.metrics c.loop-metrics.rest

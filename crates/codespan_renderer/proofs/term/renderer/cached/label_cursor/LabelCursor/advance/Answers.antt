@@ -27,7 +27,8 @@ loop-self-preserved c =
       same = e.labels ∙ i.same;
     }
 
-pub returns-else-starts_before_end-clause-primary : goal.returns-else-starts_before_end-clause-primary
+pub returns-else-starts_before_end-clause-primary
+    : goal.returns-else-starts_before_end-clause-primary
 returns-else-starts_before_end-clause-primary c =
     let i = c.loop-self.invariant in
     let late = sym c.starts_before_end.ensures ∙ c.if-starts_before_end.false in
