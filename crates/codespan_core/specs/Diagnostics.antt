@@ -1,6 +1,6 @@
 -- Labels and diagnostics by the values of their fields, with texts as bytes, and the order of
 -- severities and label styles.
-use Rattle.std.specs.Prelude.{ℕ, List, map, Option, string_bytes}
+use Rattle.std.specs.Prelude.{ℕ, List, map, Option, codes, string_bytes}
 use Rattle.std.specs.Option.{option_map}
 use Rattle.std.specs.declared.ops.Range.{Range}
 use Rattle.codespan_core.specs.declared.diagnostic.Label.{Label}
@@ -52,6 +52,14 @@ abbrev pub IsDisplayError : failures.Error → Type 0
 IsDisplayError FormatError = Unit {0}
 IsDisplayError OutOfMemory = Unit {0}
 IsDisplayError _ = ⊥
+
+-- the name of a severity
+abbrev pub severity_name : Severity → List ℕ
+severity_name Bug = codes "bug"
+severity_name Error = codes "error"
+severity_name Warning = codes "warning"
+severity_name Note = codes "note"
+severity_name Help = codes "help"
 
 -- the rank of a severity in their order, from help to bug
 abbrev pub severity_rank : Severity → ℕ

@@ -11,12 +11,13 @@ use Rattle.std.proofs.lemmas.Str.{IsUtf8-append, IsUtf8-encode, IsUtf8-from_asci
 use Rattle.std.proofs.lemmas.Str.Ascii.{IsAscii-cons, IsAscii-nil}
 use Rattle.codespan_core.specs.declared.diagnostic.Severity.TheVariants.{Bug, Error, Warning, Note}
 use Rattle.codespan_core.specs.declared.diagnostic.Severity.TheVariants.{Help}
+use Rattle.codespan_core.specs.Diagnostics.{severity_name}
 use Rattle.codespan_core.specs.Streams.{Stream, Byte, Mark, Slot, style_mark, glyph, byte_stream}
 use Rattle.codespan_core.specs.Streams.{spaces, space, repeated, newline, text_of}
 use Rattle.codespan_core.specs.declared.term.config.style_mark.StyleMark.{StyleMark}
 use Rattle.codespan_core.specs.declared.term.config.style_mark.StyleMark.TheVariants.{Label, Reset}
 use Rattle.codespan_picture.specs.Types.{LabelStyle, Primary, Secondary, Severity, Chars, Metrics}
-use Rattle.codespan_picture.specs.{Locus, severity_name, snippet_locus, outer_gutter}
+use Rattle.codespan_picture.specs.{Locus, snippet_locus, outer_gutter}
 use Rattle.codespan_picture.specs.{outer_gutter_number, border_left, border_left_break}
 use Rattle.codespan_picture.specs.{style_change, styled, label_message, AreUtf8After, StreamIsUtf8}
 use Rattle.codespan_picture.specs.{CharsAreScalars}

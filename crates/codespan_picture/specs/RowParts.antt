@@ -5,8 +5,6 @@ use Rattle.std.specs.Prelude.{[], ◌∷◌, ◌++◌, filter, length, fold, fla
 use Rattle.std.specs.Prelude.{if◌then◌else◌, codes, decimal}
 use Rattle.std.specs.List.{list_any, range_with_len}
 use Rattle.codespan_picture.specs.Types.{Severity, LabelStyle, Primary, Secondary, Chars}
-use Rattle.codespan_core.specs.declared.diagnostic.Severity.TheVariants.{Bug, Error, Warning, Note}
-use Rattle.codespan_core.specs.declared.diagnostic.Severity.TheVariants.{Help}
 use Rattle.codespan_core.specs.Streams.{Stream, style_mark, glyph, byte_stream, spaces, space}
 use Rattle.codespan_core.specs.Streams.{repeated}
 use Rattle.codespan_core.specs.declared.term.config.style_mark.StyleMark.TheVariants.{LineNumber}
@@ -24,14 +22,6 @@ use Rattle.codespan_picture.specs.Lanes.{shape_of, style_of_lane_mark, lane_char
 use Rattle.codespan_picture.specs.Rows.{Locus, RowContext, Lanes, Line, hanging_labels}
 
 -- ---- parts of rows
-
--- the name of a severity
-abbrev pub severity_name : Severity → List ℕ
-severity_name Bug = codes "bug"
-severity_name Error = codes "error"
-severity_name Warning = codes "warning"
-severity_name Note = codes "note"
-severity_name Help = codes "help"
 
 -- the locus, in the start of a snippet or in a header: name, line number and column number
 unfoldable pub snippet_locus : Locus → Stream

@@ -2,6 +2,7 @@
 -- unfolds them: calls that write one after another then match their parts from left to right.
 use Rattle.std.specs.Prelude.{ℕ, List, [], ◌∷◌, ◌++◌, flat_map, Option, Some, None, codes}
 use Rattle.codespan_picture.specs.Types.{Severity, Chars}
+use Rattle.codespan_core.specs.Diagnostics.{severity_name}
 use Rattle.codespan_core.specs.Streams.{Stream, style_mark, glyph, byte_stream, space, newline}
 use Rattle.codespan_core.specs.declared.term.config.style_mark.StyleMark.TheVariants.{Header}
 use Rattle.codespan_core.specs.declared.term.config.style_mark.StyleMark.TheVariants.{HeaderMessage}
@@ -15,8 +16,8 @@ use Rattle.codespan_picture.specs.Rows.{Locus, HeaderText, RowContext, Lanes, Li
 use Rattle.codespan_picture.specs.Rows.{SnippetStartRow, EmptyRow, BreakRow, SourceRow, CaretRow}
 use Rattle.codespan_picture.specs.Rows.{PointerRow, HangingRow, UnderlineRow, FirstNoteRow}
 use Rattle.codespan_picture.specs.Rows.{LaterNoteRow, FinalRow, trailing_label}
-use Rattle.codespan_picture.specs.RowParts.{severity_name, snippet_locus, outer_gutter}
-use Rattle.codespan_picture.specs.RowParts.{outer_gutter_number, border_left, border_left_break}
+use Rattle.codespan_picture.specs.RowParts.{snippet_locus, outer_gutter, outer_gutter_number}
+use Rattle.codespan_picture.specs.RowParts.{border_left, border_left_break}
 use Rattle.codespan_picture.specs.RowParts.{label_message, inner_gutter, leading_of, line_metrics}
 use Rattle.codespan_picture.specs.RowParts.{line_metrics_to_end, colored_text, carets}
 use Rattle.codespan_picture.specs.RowParts.{trailing_message, pointers, metrics_before, underline}

@@ -1,9 +1,10 @@
 -- The names of display styles and severities.
-use Rattle.std.specs.Prelude.{ℕ, List, Option, Some, None, codes, if◌then◌else◌}
+use Rattle.std.specs.Prelude.{ℕ, List, [], ◌∷◌, find, Option, Some, None, codes, if◌then◌else◌}
 use Rattle.std.specs.Str.{bytes_eq}
 use Rattle.codespan_core.specs.declared.diagnostic.Severity.{Severity}
 use Rattle.codespan_core.specs.declared.diagnostic.Severity.TheVariants.{Bug, Error, Warning}
 use Rattle.codespan_core.specs.declared.diagnostic.Severity.TheVariants.{Note, Help}
+use Rattle.codespan_core.specs.Diagnostics.{severity_name}
 use Rattle.codespan_core.specs.declared.term.config.DisplayStyle.{DisplayStyle}
 use Rattle.codespan_core.specs.declared.term.config.DisplayStyle.TheVariants.{Rich, Medium, Short}
 
@@ -18,9 +19,5 @@ display_style_named text =
 -- the severity with this name
 unfoldable pub severity_named : List ℕ → Option Severity
 severity_named text =
-    if bytes_eq text (codes "bug") then Some Bug
-    else if bytes_eq text (codes "error") then Some Error
-    else if bytes_eq text (codes "warning") then Some Warning
-    else if bytes_eq text (codes "note") then Some Note
-    else if bytes_eq text (codes "help") then Some Help
-    else None
+    find (λ severity. bytes_eq text (severity_name severity))
+    (Bug ∷ Error ∷ Warning ∷ Note ∷ Help ∷ [])

@@ -20,7 +20,8 @@ use Rattle.report.specs.ScriptFaults.{or_fault, repetition, severity_fault}
 use Rattle.report.specs.ScriptLaws.{ScriptReadsBack}
 use Rattle.report.specs.Statements.{IsStatable, Statement, code_stated, label_fields, label_stated}
 use Rattle.report.specs.Statements.{message_stated, note_stated, first_stated, stated_diagnostic}
-use Rattle.report.specs.Statements.{severity_name, severity_stated, statement_line, written_script}
+use Rattle.codespan_core.specs.Diagnostics.{severity_name}
+use Rattle.report.specs.Statements.{severity_stated, statement_line, written_script}
 use Rattle.report.specs.Statements.Statement.{SeverityLine, CodeLine, MessageLine, LabelLine}
 use Rattle.report.specs.Statements.Statement.{NoteLine, CommentLine, EmptyLine}
 use Rattle.report.specs.ScriptLines.{ScriptLineView, is_newline, script_lines_from, script_lines}

@@ -13,7 +13,8 @@ use Rattle.program_io.specs.Fields.{field_of, is_space, past_space}
 use Rattle.program_io.specs.Names.{severity_named}
 use Rattle.report.specs.Requests.{number_of}
 use Rattle.report.specs.Statements.{IsStatable, Statement, code_stated, joined_fields, label_fields}
-use Rattle.report.specs.Statements.{label_stated, message_stated, note_stated, severity_name}
+use Rattle.codespan_core.specs.Diagnostics.{severity_name}
+use Rattle.report.specs.Statements.{label_stated, message_stated, note_stated}
 use Rattle.report.specs.Statements.{severity_stated, statement_line}
 use Rattle.report.specs.Statements.Statement.{SeverityLine, CodeLine, MessageLine, LabelLine}
 use Rattle.report.specs.Statements.Statement.{NoteLine, CommentLine, EmptyLine}

@@ -17,7 +17,8 @@ use Rattle.codespan_core.specs.declared.diagnostic.Severity.TheVariants.{Help}
 use Rattle.codespan_picture.specs.Types.{Primary, Secondary, Severity}
 use Rattle.program_io.specs.Fields.{field_of, is_space, past_space}
 use Rattle.report.specs.Statements.{IsLineSuffix, IsStatable, Statement, joined_fields}
-use Rattle.report.specs.Statements.{label_fields, severity_name, statement_line, written_script}
+use Rattle.codespan_core.specs.Diagnostics.{severity_name}
+use Rattle.report.specs.Statements.{label_fields, statement_line, written_script}
 use Rattle.report.specs.Statements.Statement.{SeverityLine, CodeLine, MessageLine, LabelLine}
 use Rattle.report.specs.Statements.Statement.{NoteLine, CommentLine, EmptyLine}
 use Rattle.report.specs.ScriptLines.{ScriptLineView, body, is_newline, script_lines_from}

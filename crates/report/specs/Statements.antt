@@ -5,12 +5,11 @@ use Rattle.std.specs.Prelude.{None, IfSome, codes, flat_map, slice_index, unwrap
 use Rattle.std.specs.Fmt.{decimal}
 use Rattle.std.specs.List.{All, filter_map, slice_get}
 use Rattle.std.specs.declared.ops.Range.{Range}
-use Rattle.codespan_core.specs.Diagnostics.{DiagnosticView, LabelView}
+use Rattle.codespan_core.specs.Diagnostics.{DiagnosticView, LabelView, severity_name}
 use Rattle.codespan_core.specs.declared.diagnostic.LabelStyle.{LabelStyle}
 use Rattle.codespan_core.specs.declared.diagnostic.LabelStyle.TheVariants.{Primary, Secondary}
 use Rattle.codespan_core.specs.declared.diagnostic.Severity.{Severity}
-use Rattle.codespan_core.specs.declared.diagnostic.Severity.TheVariants.{Bug, Error, Warning, Note}
-use Rattle.codespan_core.specs.declared.diagnostic.Severity.TheVariants.{Help}
+use Rattle.codespan_core.specs.declared.diagnostic.Severity.TheVariants.{Error}
 
 -- a statement: what one line of a script states; a label's message may be left out, and a comment
 -- and an empty line state nothing
@@ -91,14 +90,6 @@ pub record AreScript (statements : List Statement) : Type 0 where
   pub one_message : length (filter_map message_stated statements) ≤ 1
 
 -- ---- how statements are written
-
--- the name of a severity
-abbrev pub severity_name : Severity → List ℕ
-severity_name Bug = codes "bug"
-severity_name Error = codes "error"
-severity_name Warning = codes "warning"
-severity_name Note = codes "note"
-severity_name Help = codes "help"
 
 -- the word of a label's style
 abbrev pub label_word : LabelStyle → List ℕ

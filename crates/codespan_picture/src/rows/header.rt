@@ -2,10 +2,10 @@
 
 ghost use Rattle.std.specs.Prelude.{◌≡◌, ◌++◌};
 ghost use Rattle.std.specs.Option.{option_map};
+ghost use Rattle.codespan_core.specs.Diagnostics.{severity_name};
 ghost use Rattle.codespan_core.specs.Streams.{newline};
 ghost use Rattle.codespan_core.specs.WriterLaw.{Writes};
 ghost use Rattle.codespan_picture.specs.Arguments.{locus_view, text_now};
-ghost use Rattle.codespan_picture.specs.RowParts.{severity_name};
 ghost use Rattle.codespan_picture.specs.RowStreams.{bracketed, header_locus, snippet_start_row};
 ghost use Rattle.codespan_picture.specs.RenderedRows.{rendered_header};
 
