@@ -16,8 +16,8 @@ use Rattle.codespan_base.specs.Labels.{LabelModel, first_line, last_line, first_
 use Rattle.codespan_base.specs.Labels.{multi_label_on, lane_mark_of}
 use Rattle.codespan_picture.specs.CharMetrics.{text_without_line_end}
 use Rattle.codespan_picture.specs.LineLaws.{shown_lines}
-use Rattle.codespan_picture.specs.Lines.{shows, is_shown, drawn_lines}
-use Rattle.codespan_picture.specs.Padding.{spans, spanned_lines, numbered_lines, digits_of}
+use Rattle.codespan_picture.specs.Lines.{shows, is_shown, drawn_lines, spans}
+use Rattle.codespan_picture.specs.Padding.{spanned_lines, numbered_lines, digits_of}
 use Rattle.codespan_picture.specs.OutputStreams.{context_of, rendered, snippet_locus_byte}
 use Rattle.codespan_picture.specs.RowStreams.{stream_of_rows}
 use Rattle.codespan_picture.specs.Rows.{Locus, HeaderText, Lanes, Line, HeaderRow, SnippetStartRow}
@@ -120,7 +120,7 @@ module _ (f : FileModel) (xs ys : List LabelModel) (equal : AreEqual f xs ys) wh
   spanned-same : spanned_lines s ≡ spanned_lines t
   spanned-same =
       ap (λ (spanned : ℕ → Bool). filter spanned (range_with_len 0 (line_count f)))
-      (fun_ext (λ (l : ℕ). tests (λ x. spans f x l)))
+      (fun_ext (λ (l : ℕ). tests (λ x. spans (first_line f x) (last_line f x) l)))
 
   numbered-same : (view_config : Config)
       → numbered_lines view_config s ≡ numbered_lines view_config t

@@ -163,13 +163,9 @@ abbrev Over : LabeledFileModel → ℕ → Type 0
 Over s l = (m : ℕ) × (l ≤ m) × (m < line_count s.file) × Contains (spanned_lines s) m
 
 -- where no lines are shown after labels, a label that shows a line spans this line or a later one
-shown-over : (s e l before start end : ℕ)
-    → ((l == s) || (l == e) || (nat_lt l s && nat_le s (l + before))
-    || (nat_lt e l && nat_le l (e + 0))
-    || (nat_lt s l && nat_lt l e && (nat_le l (s + start) || nat_le e (l + end))))
-    ≡ true
-    → (l ≤ s) ⊎ ((l ≡ e) ⊎ ((s ≤ l) × (l ≤ e)))
-shown-over s e l before start end h = grind (arith, nat_tests)
+shown-over : (config : Config) (s e l : ℕ) → config.after_label_lines ≡ 0
+    → shows config s e l ≡ true → (l ≤ s) ⊎ ((l ≡ e) ⊎ ((s ≤ l) × (l ≤ e)))
+shown-over config s e l none h = grind (arith, nat_tests)
 
 any-found : (p : LabelModel → Bool) (xs : List LabelModel) → list_any p xs ≡ true
     → (x : LabelModel) × Contains xs x × (p x ≡ true)
@@ -183,26 +179,26 @@ any-found p (y ∷ ys) h = by_test (any-found p ys) (p y) refl h
     by_test again false e k = let r = again k in (r.0, there r.0 y ys r.1, r.2)
 
 spanned-over : (s : LabeledFileModel) (x : LabelModel) (l m : ℕ) → Contains s.labels x → l ≤ m
-    → m < line_count s.file → spans s.file x m ≡ true → Over s l
+    → m < line_count s.file → spans (first_line s.file x) (last_line s.file x) m ≡ true → Over s l
 spanned-over s x l m has h low is = (
   m,
   h,
   low,
-  contains-filter (λ l. list_any (λ x. spans s.file x l) s.labels) m
+  contains-filter (λ l. list_any (λ x. spans (first_line s.file x) (last_line s.file x) l) s.labels)
+      m
       (range_with_len 0 (line_count s.file))
-      (list_any_at (λ x. spans s.file x m) s.labels has.0 x has.1
-      (ap (λ y. spans s.file y m) has.2 ∙ is))
+      (list_any_at (λ x. spans (first_line s.file x) (last_line s.file x) m) s.labels has.0 x has.1
+      (ap (λ y. spans (first_line s.file y) (last_line s.file y) m) has.2 ∙ is))
       (contains-range 0 (line_count s.file) m (omega arith) (omega arith)),
 )
 
-spans-first : (f e : ℕ) → ((f == f) || (f == e) || (nat_le f f && nat_le f e)) ≡ true
+spans-first : (f e : ℕ) → spans f e f ≡ true
 spans-first f e = grind (arith, nat_tests)
 
-spans-last : (f e : ℕ) → ((e == f) || (e == e) || (nat_le f e && nat_le e e)) ≡ true
+spans-last : (f e : ℕ) → spans f e e ≡ true
 spans-last f e = grind (arith, nat_tests)
 
-spans-inside : (f e l : ℕ) → f ≤ l → l ≤ e
-    → ((l == f) || (l == e) || (nat_le f l && nat_le l e)) ≡ true
+spans-inside : (f e l : ℕ) → f ≤ l → l ≤ e → spans f e l ≡ true
 spans-inside f e l h k = grind (arith, nat_tests)
 
 over-shown : (config : Config) (s : LabeledFileModel) (l : ℕ) → config.after_label_lines ≡ 0
@@ -218,10 +214,7 @@ over-shown config s l none h =
     let x : LabelModel = found.0 in
     let first : ℕ = first_line s.file x in
     let last : ℕ = last_line s.file x in
-    let shown : shows (record config { after_label_lines = 0 }) first last l ≡ true =
-    sym (ap (λ n. shows (record config { after_label_lines = n }) first last l) none) ∙ found.2 in
-    elim (shown-over first last l config.before_label_lines config.start_context_lines
-    config.end_context_lines shown) [
+    elim (shown-over config first last l none found.2) [
       | inl p ↦ spanned-over s x l first found.1 p (line_of_below s.file.starts x.start some)
           (spans-first first last)
       | inr q ↦ elim q [

@@ -343,7 +343,8 @@ module _ (φ : Stream → Stream) (keeps : (s : Stream) → is_empty_stream (φ 
     spanned-refilled : (s : LabeledFileModel) → spanned_lines (refilled_file φ s) ≡ spanned_lines s
     spanned-refilled s =
         ap (λ (p : ℕ → Bool). filter p (range_with_len 0 (line_count s.file)))
-        (fun_ext (λ (l : ℕ). any-map (λ x. spans s.file x l) (refilled φ) s.labels))
+        (fun_ext (λ (l : ℕ). any-map (λ x. spans (first_line s.file x) (last_line s.file x) l)
+        (refilled φ) s.labels))
 
     numbered-refilled : (config : Config) (s : LabeledFileModel)
         → numbered_lines config (refilled_file φ s) ≡ numbered_lines config s

@@ -1,5 +1,5 @@
 -- The lookups of an output, in the order in which their errors count, and which error is returned.
-use Rattle.std.specs.Prelude.{◌≡◌, ◌≢◌, ◌<◌, length, ℕ, ◌+◌, Bool, not, ◌&&◌, ◌||◌, nat_lt, nat_le}
+use Rattle.std.specs.Prelude.{◌≡◌, ◌≢◌, ◌<◌, length, ℕ, ◌+◌, Bool, not, ◌&&◌, ◌||◌, nat_le}
 use Rattle.std.specs.Prelude.{List, [], ◌∷◌, ◌++◌, map, filter, flat_map, Option, Some, None}
 use Rattle.std.specs.Prelude.{Contains, if◌then◌else◌, true, false}
 use Rattle.std.specs.List.{range_with_len}
@@ -9,10 +9,9 @@ use Rattle.codespan_core.specs.FileModel.{FileDatabase, FileModel, Lookup, line_
 use Rattle.codespan_core.specs.FileModel.Lookup.{Name, Source, LineIndex, LineNumber, LocationAt}
 use Rattle.codespan_core.specs.FileModel.Lookup.{LineRange}
 use Rattle.codespan_core.specs.Labels.{LabelModel, first_line, last_line}
-use Rattle.codespan_picture.specs.Lines.{is_shown, is_drawn}
+use Rattle.codespan_picture.specs.Lines.{is_around, is_drawn, is_shown, spans}
 use Rattle.codespan_picture.specs.Snippets.{LabeledFileModel, LabelInFile, file_ids}
 use Rattle.codespan_picture.specs.Snippets.{labeled_file_model, locus_byte_of, primary_of}
-use Rattle.codespan_picture.specs.Padding.{spans}
 use Rattle.codespan_picture.specs.OutputStreams.{labels_of}
 
 -- the error that a lookup of a file fails with, if any
@@ -22,12 +21,6 @@ Failures Id = Id → Lookup → Option Error
 -- the lookups of a line: its range and its number
 abbrev pub line_lookups : ℕ → List Lookup
 line_lookups l = LineRange l ∷ LineNumber l ∷ []
-
--- the line is one of the context lines around a label from line `s` to line `e`
-abbrev pub is_around : Config → ℕ → ℕ → ℕ → Bool
-is_around config s e l =
-    (nat_lt l s && nat_le s (l + config.before_label_lines))
-    || (nat_lt e l && nat_le l (e + config.after_label_lines))
 
 -- the lookups of a filled line, made with its file's snippet: its range, and its number where that
 -- is not known before the header
@@ -50,7 +43,8 @@ lookup_past_end config f failure x =
 
 -- the line is one of the label's, or is around them
 abbrev pub is_looked_up : Config → FileModel → LabelModel → ℕ → Bool
-is_looked_up config f x l = spans f x l || is_around config (first_line f x) (last_line f x) l
+is_looked_up config f x l =
+    spans (first_line f x) (last_line f x) l || is_around config (first_line f x) (last_line f x) l
 
 -- the lines of the file that are looked up for a label: its own and those around them
 abbrev pub looked_up_lines : Config → FileModel → LabelModel → List ℕ

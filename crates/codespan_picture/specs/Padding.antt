@@ -1,28 +1,22 @@
 -- The padding width: how many digits the line numbers of an output have.
-use Rattle.std.specs.Prelude.{ℕ, Bool, ◌&&◌, ◌||◌, ◌==◌, nat_le, max, List, map, filter, fold}
-use Rattle.std.specs.Prelude.{flat_map, length, decimal, if◌then◌else◌}
+use Rattle.std.specs.Prelude.{ℕ, max, List, map, filter, fold, flat_map, length, decimal}
+use Rattle.std.specs.Prelude.{if◌then◌else◌}
 use Rattle.std.specs.List.{list_any, range_with_len}
 use Rattle.codespan_picture.specs.Types.{Config}
-use Rattle.codespan_core.specs.FileModel.{FileModel, line_count}
-use Rattle.codespan_core.specs.Labels.{LabelModel, first_line, last_line}
+use Rattle.codespan_core.specs.FileModel.{line_count}
+use Rattle.codespan_core.specs.Labels.{first_line, last_line}
 use Rattle.codespan_picture.specs.Lanes.{is_unbroken}
-use Rattle.codespan_picture.specs.Lines.{drawn_lines}
+use Rattle.codespan_picture.specs.Lines.{drawn_lines, spans}
 use Rattle.codespan_picture.specs.Snippets.{LabeledFileModel}
 
 -- how many digits a number has; 0 has one
 abbrev pub count_digits : ℕ → ℕ
 count_digits n = length (decimal n)
 
--- the line is an end of the label or is between its ends
-abbrev pub spans : FileModel → LabelModel → ℕ → Bool
-spans f x l =
-    (l == first_line f x) || (l == last_line f x)
-    || (nat_le (first_line f x) l && nat_le l (last_line f x))
-
 -- the lines that labels of the file span
 abbrev pub spanned_lines : LabeledFileModel → List ℕ
 spanned_lines s =
-    filter (λ l. list_any (λ x. spans s.file x l) s.labels)
+    filter (λ l. list_any (λ x. spans (first_line s.file x) (last_line s.file x) l) s.labels)
     (range_with_len 0 (line_count s.file))
 
 -- the lines whose numbers the padding fits: those of the labels, or, in the unbroken layout, those

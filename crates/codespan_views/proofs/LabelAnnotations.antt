@@ -1,9 +1,9 @@
 -- The annotations of one label on one line, for the clause `collected` of `collect`.
-use Rattle.codespan_core.proofs.Std.{common_steps, rules, ◌≡◌, ℕ, ◌<◌, Bool, true, false, cond}
+use Rattle.codespan_core.proofs.Std.{Some, common_steps, rules, ◌≡◌, ℕ, ◌<◌, Bool, true, false, cond}
 use Rattle.codespan_core.proofs.Std.{◌==◌, nat_lt, ◌&&◌, List, [], ◌∷◌, filter, None, ⊎_elim, refl}
 use Rattle.codespan_core.proofs.Std.{sym, ◌∙◌, ap, arith, Option, option_map, list_any}
 use Rattle.codespan_core.proofs.Std.{AllByRecursion, cases_Bool, append-nil, filter-append}
-use Rattle.codespan_core.proofs.Std.{list_any-append}
+use Rattle.codespan_core.proofs.Std.{list_any-append, ◌++◌}
 use Rattle.std.proofs.Math.Bool.{and-false}
 use Rattle.codespan_core.specs.FileModel.{FileModel, line_count}
 use Rattle.codespan_core.specs.Labels.{LaneMark, LabelModel, first_line, last_line, is_single}
@@ -13,7 +13,7 @@ use Rattle.codespan_picture.specs.Lines.{shows}
 use Rattle.codespan_picture.specs.Lookups.{is_looked_up}
 use Rattle.codespan_views.specs.Private.{Annotation, AnnotationKind, Single, Multi, is_on_line}
 use Rattle.codespan_views.specs.Private.{annotation_if_any, shows_line, line_annotations}
-use Rattle.codespan_views.specs.Private.{annotations_of}
+use Rattle.codespan_views.specs.Private.{annotations_of, Shown}
 use Rattle.codespan_picture.proofs.ListElements.{all-append}
 use Rattle.codespan_views.proofs.LinesOfLabels.{is_kind, among-below, all-range, on-line, not_shown}
 use Rattle.codespan_views.proofs.LinesOfLabels.{not_first, no_multi_label, own_shown}
@@ -116,4 +116,16 @@ module _ (config : Config) (f : FileModel) (file_index index lane : ℕ) (x : La
       → list_any shows_line (line_annotations config f file_index index lane x l)
       ≡ shows config (first_line f x)
       (last_line f x) l
-  shown-on_line l = grind (arith, common_steps, list_any-append, own_shown)
+  shown-on_line l =
+      by_kind (is_single f x) (first_line f x == l)
+      (shows config (first_line f x) (last_line f x) l)
+      (own_shown config (first_line f x) (last_line f x) l)
+    where
+      by_kind : (single own shown : Bool) → (own ≡ true → shown ≡ true)
+          → list_any shows_line
+          (annotation_if_any file_index l
+          (cond (single && own) (Some (Single index (drawn_label f x)))
+          (cond shown (Some Shown) None))
+          ++ multi_annotations_where l single (lane_mark_of lane x (multi_label_on f l x)))
+          ≡ shown
+      by_kind single own shown h = grind (arith, common_steps, list_any-append)

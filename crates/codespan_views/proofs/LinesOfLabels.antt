@@ -8,7 +8,7 @@ use Rattle.codespan_core.proofs.Std.{ne_eqb, nat_tests, append-nil, filter-appen
 use Rattle.codespan_core.specs.Labels.{LabelModel, multi_label_at}
 use Rattle.codespan_picture.specs.Types.{Config}
 use Rattle.codespan_picture.specs.Lines.{shows}
-use Rattle.codespan_picture.specs.Lookups.{is_around}
+use Rattle.codespan_picture.specs.Lines.{is_around}
 use Rattle.codespan_views.specs.Private.{Annotation, rank_of, is_on_line}
 use Rattle.codespan_picture.proofs.ListElements.{all-append, filter-whole, filter-nothing}
 use Rattle.codespan_picture.proofs.ListElements.{all-weaker}

@@ -1,8 +1,8 @@
 -- The lines around the two ends of a label, for the clauses of `collect_lines`.
+use Rattle.codespan_picture.specs.Lines.{spans}
 use Rattle.codespan_core.proofs.Std.{◌≡◌, ℕ, ◌+◌, ◌<◌, ◌≤◌, Bool, true, false, ◌&&◌, ◌||◌, List, []}
 use Rattle.codespan_core.proofs.Std.{◌∷◌, ◌++◌, refl, arith, nat_lt, nat_le, if◌then◌else◌, filter}
 use Rattle.codespan_core.proofs.Std.{flat_map, common_steps}
-use Rattle.codespan_views.specs.Private.{spans_line}
 
 -- the images of the elements that pass a test
 pub flat_map_filtered : {X : Type 0} (h : ℕ → List X) (p : ℕ → Bool) (ls : List ℕ)
@@ -21,7 +21,7 @@ flat_map_filtered {X} h p (l ∷ ls) = by (p l) (flat_map_filtered h p ls)
 -- a line is one of those
 abbrev pub is_near : ℕ → ℕ → ℕ → ℕ → ℕ → Bool
 is_near s e b a l =
-    spans_line s e l || ((nat_lt l s && nat_le s (l + b)) || (nat_lt e l && nat_le l (e + a)))
+    spans s e l || ((nat_lt l s && nat_le s (l + b)) || (nat_lt e l && nat_le l (e + a)))
 
 pub after_both : (s e b a l : ℕ) → s < l → e < l → l ≤ e + a → is_near s e b a l ≡ true
 after_both s e b a l low high reach = grind (arith, common_steps)

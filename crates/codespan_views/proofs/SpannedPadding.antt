@@ -11,9 +11,10 @@ use Rattle.codespan_core.specs.FileModel.{FileModel, line_count}
 use Rattle.codespan_core.specs.Labels.{LabelModel}
 use Rattle.codespan_picture.specs.Types.{Config, Classic}
 use Rattle.codespan_picture.specs.Padding.{count_digits, digits_of, numbered_lines, padding_of}
-use Rattle.codespan_picture.specs.Padding.{spanned_lines, spans}
+use Rattle.codespan_picture.specs.Padding.{spanned_lines}
 use Rattle.codespan_picture.specs.Snippets.{LabelInFile, LabeledFileModel, labeled_file_model}
 use Rattle.codespan_picture.specs.Snippets.{labeled_file_models, file_ids}
+use Rattle.codespan_views.specs.Private.{is_spanned}
 use Rattle.codespan_views.specs.Private.{IsIdAt, index_of_file, all_digit_counts}
 use Rattle.codespan_views.specs.Private.{digit_count_if_spanned, label_digit_counts}
 use Rattle.codespan_picture.proofs.Greatest.{greatest-any, greatest-append, greatest-same}
@@ -76,13 +77,13 @@ in-second n a b h = omega (arith, h, greatest-append 0 a b, greatest-any (fold m
 module _ (f : FileModel) (x : LabelModel) where
   -- where each number fits the padding, all do
   digits-fit : (m n a : ℕ)
-      → ((l : ℕ) → l < a + n → spans f x l ≡ true → count_digits (f.line_number l) ≤ m)
+      → ((l : ℕ) → l < a + n → is_spanned f x l ≡ true → count_digits (f.line_number l) ≤ m)
       → AllByRecursion (λ d. d ≤ m) (flat_map (digit_count_if_spanned f x) (range_with_len a n))
   digits-fit m zero a h = tt
   digits-fit m (suc n) a h =
       all-append (λ d. d ≤ m) (digit_count_if_spanned f x a)
       (flat_map (digit_count_if_spanned f x) (range_with_len (a + 1) n))
-      (here (spans f x a) (h a (omega arith)))
+      (here (is_spanned f x a) (h a (omega arith)))
       (digits-fit m n (a + 1) (λ l k. h l (omega arith)))
     where
       here : (b : Bool) → (b ≡ true → count_digits (f.line_number a) ≤ m)
@@ -90,7 +91,7 @@ module _ (f : FileModel) (x : LabelModel) where
       here b fits = grind (arith, common_steps)
 
   -- the number of a line that is spanned is counted
-  line-counted : (l n a : ℕ) → a ≤ l → l < a + n → spans f x l ≡ true
+  line-counted : (l n a : ℕ) → a ≤ l → l < a + n → is_spanned f x l ≡ true
       → count_digits (f.line_number l)
       ≤ fold max 0 (flat_map (digit_count_if_spanned f x) (range_with_len a n))
   line-counted l zero a low high t = absurd (omega arith)
@@ -130,14 +131,14 @@ module _ {Id : Type 0} (same : Id → Id → Bool) (file : Id → FileModel) (o 
 
   -- whether some label of a file spans a line
   spans-any : (id : Id) (l : ℕ)
-      → list_any (λ x. spans (file id) x l) (labeled id).labels ≡ list_any
-      (λ (x : LabelInFile Id). same id x.file_id && spans (file id) x.label l) xs
+      → list_any (λ x. is_spanned (file id) x l) (labeled id).labels ≡ list_any
+      (λ (x : LabelInFile Id). same id x.file_id && is_spanned (file id) x.label l) xs
   spans-any id l = grind (arith, common_steps, any-map, any-filtered)
 
   -- the number of a line that a label spans fits the padding
   line-fits : (k : ℕ) (d : LabelInFile Id) → k < length xs → (l : ℕ)
       → l < line_count (file (get_or xs k d).file_id)
-      → spans (file (get_or xs k d).file_id) (get_or xs k d).label l ≡ true
+      → is_spanned (file (get_or xs k d).file_id) (get_or xs k d).label l ≡ true
       → count_digits ((file (get_or xs k d).file_id).line_number l) ≤ padding_width
   line-fits k d inside l low t =
       let y = get_or xs k d in
@@ -148,18 +149,18 @@ module _ {Id : Type 0} (same : Id → Id → Bool) (file : Id → FileModel) (o 
       let equal : same id y.file_id ≡ true =
       sym (index_of_file-at same o xs f id at y.file_id) ∙ eq-eqb f f refl in
       let model : file y.file_id ≡ file id = sym (one_file id y.file_id equal) in
-      let here : spans (file id) y.label l ≡ true = subst (λ m. spans m y.label l ≡ true) model t in
-      let own : (same id y.file_id && spans (file id) y.label l) ≡ true =
-      ap (λ b. b && spans (file id) y.label l) equal ∙ here in
+      let here : is_spanned (file id) y.label l ≡ true = subst (λ m. is_spanned m y.label l ≡ true) model t in
+      let own : (same id y.file_id && is_spanned (file id) y.label l) ≡ true =
+      ap (λ b. b && is_spanned (file id) y.label l) equal ∙ here in
       let any = spans-any id l
-      ∙ list_any_at (λ (x : LabelInFile Id). same id x.file_id && spans (file id) x.label l) xs k d
+      ∙ list_any_at (λ (x : LabelInFile Id). same id x.file_id && is_spanned (file id) x.label l) xs k d
       inside own in
       let count : l < line_count (file id) = subst (λ m. l < line_count m) model low in
       subst (λ m. count_digits (m.line_number l) ≤ padding_width) (sym model)
       (numbered-fits config (labeled_file_models same file xs) (labeled id) l
       (index-contained labeled ids f id at)
       (subst (λ ls. Contains ls l) (sym (numbered-spanned (labeled id)))
-      (contains-filter (λ n. list_any (λ x. spans (file id) x n) (labeled id).labels) l
+      (contains-filter (λ n. list_any (λ x. is_spanned (file id) x n) (labeled id).labels) l
       (range_with_len 0 (line_count (file id))) any
       (contains-range 0 (line_count (file id)) l (omega arith) (omega (arith, count))))))
 
@@ -178,7 +179,7 @@ module _ {Id : Type 0} (same : Id → Id → Bool) (file : Id → FileModel) (o 
 
   -- the number of a line that some label of the file spans is counted
   some-counted : (id : Id) (l : ℕ) → l < line_count (file id) → (ys : List (LabelInFile Id))
-      → list_any (λ (x : LabelInFile Id). same id x.file_id && spans (file id) x.label l) ys ≡ true
+      → list_any (λ (x : LabelInFile Id). same id x.file_id && is_spanned (file id) x.label l) ys ≡ true
       → count_digits ((file id).line_number l) ≤ fold max 0 (all_digit_counts file ys)
   some-counted id l low [] any = absurd (true≢false (sym any))
   some-counted id l low (y ∷ ys) any = grind
@@ -201,7 +202,7 @@ module _ {Id : Type 0} (same : Id → Id → Bool) (file : Id → FileModel) (o 
       (sym (numbered-spanned (labeled id)))
       (all-lines (λ n. n ≤ fold max 0 (all_digit_counts file xs))
       (λ l. count_digits ((file id).line_number l))
-      (λ l. list_any (λ x. spans (file id) x l) (labeled id).labels)
+      (λ l. list_any (λ x. is_spanned (file id) x l) (labeled id).labels)
       (line_count (file id)) 0
       (λ l low t. some-counted id l (omega (arith, low)) xs (sym (spans-any id l) ∙ t)))))
 

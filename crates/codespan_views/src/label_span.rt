@@ -2,15 +2,15 @@
 
 ghost use Rattle.std.specs.Prelude.{◌≡◌, ◌<◌, ◌≤◌, ℕ, ◌==◌, ◌&&◌, nat_lt, IfOk};
 ghost use Rattle.codespan_core.specs.LawfulFiles.{FailsBy};
+ghost use Rattle.codespan_picture.specs.Lines.{spans};
 ghost use Rattle.codespan_picture.specs.Lines.{shows};
-ghost use Rattle.codespan_picture.specs.Lookups.{is_around};
+ghost use Rattle.codespan_picture.specs.Lines.{is_around};
 ghost use Rattle.codespan_core.specs.Labels.{LabelModel, first_line, last_line};
 ghost use Rattle.codespan_picture.specs.OutputStreams.{label_of};
 ghost use Rattle.codespan_views.specs.Private.AnnotationViews.{multi_label_from};
 ghost use Rattle.codespan_views.specs.Private.LabelAnnotations.{multi_label_by_ends};
 ghost use Rattle.std.specs.Option.{option_map};
 ghost use Rattle.codespan_views.specs.Private.LabelSpans.{IsFarInside, ends_failure};
-ghost use Rattle.codespan_views.specs.Private.LabelSpans.{spans_line};
 
 use crate::annotation::MultiLabelKind;
 use codespan_core::diagnostic::Label;
@@ -67,7 +67,7 @@ impl LabelSpan {
     /// Returns whether the line at this 0-based index is the first or the last line, or between
     /// them.
     pub fn spans(self, index: usize) -> bool
-        ensures { result ≡ spans_line self.first self.last index }
+        ensures { result ≡ spans self.first self.last index }
     {
         index == self.first || index == self.last || self.is_inside(index)
     }

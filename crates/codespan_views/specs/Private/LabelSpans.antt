@@ -10,10 +10,6 @@ abbrev pub ends_failure : {Id : Type 0} → Failures Id → Label Id → Option 
 ends_failure failure label =
     failure_in failure label.file_id (LineIndex label.range.start ∷ LineIndex label.range.end ∷ [])
 
--- line `l` is one of these two, or between them
-abbrev pub spans_line : ℕ → ℕ → ℕ → Bool
-spans_line first last l = (l == first) || (l == last) || (nat_le first l && nat_le l last)
-
 -- line `l` is between lines `first` and `last`, and near neither of them
 abbrev pub IsFarInside : Config → ℕ → ℕ → ℕ → Type 0
 IsFarInside config first last l =

@@ -1,8 +1,9 @@
 use Rattle.codespan_core.proofs.Std.{◌≡◌, ◌∙◌, false, true, rules, ap, sym, [], Bool, arith}
 use Rattle.codespan_core.proofs.Std.{common_steps, if◌then◌else◌}
+use Rattle.codespan_picture.specs.Lines.{spans}
 use Rattle.codespan_picture.specs.Lookups.{is_looked_up}
 use Rattle.codespan_picture.specs.OutputStreams.{label_of}
-use Rattle.codespan_views.specs.Private.{line_annotations, label_of_collector, spans_line, model_of}
+use Rattle.codespan_views.specs.Private.{line_annotations, label_of_collector, model_of}
 use Rattle.codespan_views.proofs.Collecting.{AppendsAnnotations-none, AppendsAnnotations-as}
 use Rattle.codespan_views.proofs.CollectedLines.{far-spans, looked_up-around, looked_up-spanned}
 use Rattle.codespan_views.proofs.CollectedLines.{succeeded-looked_up}
@@ -30,7 +31,7 @@ returns-then-not-is_around-clause-added g c =
 
 -- whether the label spans the line
 is_spanned : (g : Over) (c : In_ok-push_line g)
-    → c.if-is_far.is_spanned ≡ spans_line c.args.self.now.span.first c.args.self.now.span.last
+    → c.if-is_far.is_spanned ≡ spans c.args.self.now.span.first c.args.self.now.span.last
     c.args.index
 is_spanned g c =
     let span = c.args.self.now.span in
