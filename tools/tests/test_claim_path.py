@@ -6,10 +6,16 @@ from tree import TreeCase
 OUTPUT = 'crates/codespan_views/specs/Output.antt'
 ROWS = 'crates/picture/specs/Rows.antt'
 
-EMITS = '''\
+CLAUSES = '''\
 -- what the call returns
-abbrev pub Emits : List Row → Type 0
-Emits rows = rows ≡ shown rows
+abbrev pub IsRendered : List Row → Type 0
+IsRendered rows = rows ≡ shown rows
+
+abbrev pub TextMeansLabels : Type 0
+TextMeansLabels = IsRendered []
+
+abbrev pub IsEmitError : Type 0
+IsEmitError = List Row
 '''
 ROW_TO_KEPT = '''\
 pub data Row : Type 0
@@ -32,7 +38,7 @@ class ClaimPath(TreeCase):
 use Rattle.std.specs.Prelude.{{List}}
 use Rattle.facade.specs.Rows.{{Row, displayed as shown}}
 
-{EMITS}
+{CLAUSES}
 -- what nothing above takes
 pub unused : ℕ
 unused = 1
@@ -51,18 +57,18 @@ unused = Break
         self.assertEqual(self.run_tool(), (0, f'''\
 -- ==== codespan_views/specs/Output
 
-{EMITS}
+{CLAUSES}
 -- ==== picture/specs/Rows
 
 {ROW_TO_KEPT}
--- 4 definitions in 2 files, 15 lines
+-- 6 definitions in 2 files, 21 lines
 ''', ''))
 
     def test_count(self):
         self.assertEqual(self.run_tool('--count'), (0, '''\
-    4 codespan_views/specs/Output
+   10 codespan_views/specs/Output
    11 picture/specs/Rows
--- 4 definitions in 2 files, 15 lines
+-- 6 definitions in 2 files, 21 lines
 ''', ''))
 
     def test_names_that_are_given(self):
@@ -79,23 +85,23 @@ unused = Break
 ''', ''))
 
     def test_as_many_lines_as_may_be(self):
-        self.assertEqual(self.run_tool('--count', '--at-most', '15')[0], 0)
+        self.assertEqual(self.run_tool('--count', '--at-most', '21')[0], 0)
 
     def test_too_many_lines(self):
-        status, output, _ = self.run_tool('--count', '--at-most', '14')
-        self.assertEqual((status, output.splitlines()[-1]), (1, '-- 4 definitions in 2 files, 15 lines'))
+        status, output, _ = self.run_tool('--count', '--at-most', '20')
+        self.assertEqual((status, output.splitlines()[-1]), (1, '-- 6 definitions in 2 files, 21 lines'))
 
     def test_a_longer_definition_that_the_claim_leads_to(self):
         self.change(ROWS, 'displayed rows = kept rows', 'displayed rows =\n    kept rows')
-        self.assertEqual(self.run_tool('--count', '--at-most', '15')[0], 1)
+        self.assertEqual(self.run_tool('--count', '--at-most', '21')[0], 1)
 
     def test_a_longer_definition_that_the_claim_does_not_lead_to(self):
         self.change(ROWS, 'unused = Break', 'unused =\n    Break')
-        self.assertEqual(self.run_tool('--count', '--at-most', '15')[0], 0)
+        self.assertEqual(self.run_tool('--count', '--at-most', '21')[0], 0)
 
     def test_a_claim_that_is_gone(self):
-        self.change(OUTPUT, 'pub Emits', 'pub Emit')
-        self.assertEqual(self.run_tool('--count'), (1, '', 'claim-path: no definition codespan_views/Output:Emits\n'))
+        self.change(OUTPUT, 'pub IsEmitError', 'pub IsError')
+        self.assertEqual(self.run_tool('--count'), (1, '', 'claim-path: no definition codespan_views/Output:IsEmitError\n'))
 
     def test_a_given_name_that_is_gone(self):
         self.assertEqual(self.run_tool('picture/Rows:shown'), (1, '', 'claim-path: no definition picture/Rows:shown\n'))

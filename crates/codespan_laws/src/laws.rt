@@ -3,7 +3,7 @@
 //!
 //! The calls of `codespan_reporting::term` promise the outputs that these laws are about.
 
-ghost use Rattle.std.specs.Prelude.{◌≡◌, ◌*◌, ◌<◌, ℕ, Bool, List};
+ghost use Rattle.std.specs.Prelude.{◌≡◌, ◌*◌, ◌++◌, ◌<◌, ℕ, Bool, List};
 ghost use Rattle.std.specs.Cmp.{IsEquivalence};
 ghost use Rattle.codespan_base.specs.declared.term.config.Config.{Config};
 ghost use Rattle.codespan_base.specs.declared.term.config.DisplayStyle.{DisplayStyle};
@@ -34,15 +34,17 @@ ghost use Rattle.codespan_picture.specs.RowParts.{line_metrics, inner_gutter};
 ghost use Rattle.codespan_picture.specs.OutputStreams.{AreLoci, output};
 ghost use Rattle.codespan_picture.specs.Picture.{stated_loci};
 ghost use Rattle.codespan_picture.specs.Rows.{Locus, RowContext, Lanes, Line};
-ghost use Rattle.codespan_picture.specs.Snippets.{LabeledFileModel};
+ghost use Rattle.codespan_picture.specs.Snippets.{LabeledFileModel, empty_row_after, snippet};
 
-/// States that a rich output means its labels, whatever the loci in it: the laws of its lines,
-/// breaks, carets, pointers, lanes, messages and padding together, each with its own premises,
-/// where ids are compared by an equivalence and each file has a line.
+/// States that a rich output means its labels, whatever the loci in it: its rows keep the laws of
+/// lines, breaks, carets, pointers, lanes, messages and padding together, each with its own
+/// premises, where ids are compared by an equivalence and each file has a line.
 pub fn outputs_mean_labels<Id>()
     ensures { (renderer_config view_config : Config) (files : FileDatabase Id) (d : Diagnostic Id)
         → IsEquivalence files.same → ((id : Id) → 0 < line_count (files.file id))
-        → MeansLabels renderer_config view_config files d }
+        → (loci : List Locus) → AreLoci files d Rich loci
+        → MeansLabels renderer_config view_config files d loci
+        (output Rich renderer_config view_config files d loci) }
 {}
 
 // ---- drawn lines and breaks
@@ -56,7 +58,8 @@ pub fn rows_are_of_shown_lines()
 /// States that a snippet has one break row for each two consecutive shown lines that are three or
 /// more apart, in their order, with the lanes of the later line.
 pub fn breaks_replace_lines()
-    ensures { (config : Config) (s : LabeledFileModel) → BreaksReplaceLines config s }
+    ensures { (config : Config) (locus : Locus) (followed : Bool) (s : LabeledFileModel)
+        → BreaksReplaceLines config s (snippet config locus s ++ empty_row_after followed s) }
 {}
 
 /// States that a lane has a bar in a break row exactly where its label covers every line that is
@@ -69,7 +72,8 @@ pub fn breaks_have_bars()
 /// States that a file has at most twice as many source rows as its labels may show lines by the
 /// configuration: for each label two lines, and all its context lines.
 pub fn source_rows_are_few()
-    ensures { (config : Config) (s : LabeledFileModel) → SourceRowsAreFew config s }
+    ensures { (config : Config) (locus : Locus) (followed : Bool) (s : LabeledFileModel)
+        → SourceRowsAreFew config s (snippet config locus s ++ empty_row_after followed s) }
 {}
 
 // ---- carets and pointers
@@ -101,8 +105,9 @@ pub fn bars_are_labels()
 /// label of the file starts after its end. In the classic layout rows of the first line may leave
 /// the lane out below a corner in the source row.
 pub fn lanes_join_corners()
-    ensures { (config : Config) (layout : Layout) (s : LabeledFileModel)
-        → NoneReversed s.labels → LanesJoinCorners config layout s }
+    ensures { (config : Config) (layout : Layout) (locus : Locus) (followed : Bool)
+        (s : LabeledFileModel) → NoneReversed s.labels
+        → LanesJoinCorners layout s (snippet config locus s ++ empty_row_after followed s) }
 {}
 
 /// States that after the left border the stream of each row that has lanes has what the row shows
@@ -125,7 +130,8 @@ pub fn messages_appear_once<Id>()
     ensures { (renderer_config view_config : Config) (files : FileDatabase Id) (d : Diagnostic Id)
         → IsEquivalence files.same → ((id : Id) → 0 < line_count (files.file id))
         → (loci : List Locus) → AreLoci files d Rich loci
-        → MessagesAppearOnce renderer_config view_config files d loci }
+        → MessagesAppearOnce renderer_config view_config files d loci
+        (output Rich renderer_config view_config files d loci) }
 {}
 
 /// States that of a line's labels with a message at most one trails, and each other one hangs.

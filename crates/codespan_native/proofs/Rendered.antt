@@ -13,7 +13,7 @@ use Rattle.codespan_base.specs.SimpleModel.{missing_file}
 use Rattle.codespan_base.specs.Streams.{Spelling, Stream, spelled}
 use Rattle.codespan_base.specs.WriterLaw.{Sink, is_known, with_written, are_known, extended}
 use Rattle.codespan_base.specs.Writers.{fresh_sink}
-use Rattle.codespan_picture.specs.RichLaws.{MeansLabels}
+use Rattle.codespan_picture.specs.RichLaws.{IsOutput}
 use Rattle.codespan_picture.specs.StatedNames.{NamesAreStated}
 use Rattle.codespan_picture.specs.ViewPictures.{picture_of_diagnostic_view}
 use Rattle.codespan_views.specs.WriteCalls.{WritesStyled}
@@ -23,11 +23,11 @@ use Rattle.codespan_native.specs.declared.error.OutOfMemory.{OutOfMemory}
 use Rattle.codespan_native.specs.declared.raw.RawConfig.{RawConfig}
 use Rattle.codespan_native.specs.declared.raw.RawDiagnostic.{RawDiagnostic}
 use Rattle.codespan_native.specs.declared.raw.RawFile.{RawFile}
-use Rattle.codespan_native.specs.Meaning.{Means, output_bytes}
+use Rattle.codespan_native.specs.Meaning.{Means, output_bytes, output_stream}
 use Rattle.codespan_native.specs.Converted.{converted_config, display_style_of, converted_file}
-use Rattle.codespan_native.specs.Converted.{spelling_of, converted_diagnostic}
+use Rattle.codespan_native.specs.Converted.{converted_files, spelling_of, converted_diagnostic}
 use Rattle.codespan_native.specs.SourceTexts.{NativeFileView, native_database, native_file_model}
-use Rattle.codespan_native.specs.RenderedStreams.{IsSpelledOutput, stream_of_output}
+use Rattle.codespan_native.specs.RenderedStreams.{IsSpelledOutput, StreamIsOutput, stream_of_output}
 
 -- the names of the files are stated
 pub stated : (ss : List NativeFileView) (d : Diagnostic ℕ) → NamesAreStated (native_database ss) d
@@ -39,17 +39,31 @@ stated ss d x contains = named x.file_id
         (option_map_or native_file_model found missing_file).name)
         [ None ↦ refl | Some s ↦ refl ]
 
--- a call that writes writes the output with these names
-pub written_stream : (config : Config) (ss : List NativeFileView) (d : Diagnostic ℕ)
-    (old new : Sink)
-    (r : Result (Unit {0}) Error)
-    → WritesStyled config.display_style config config (native_database ss) d old r new
-    → is_known old ≡ true → OnOk r (new ≡ with_written old (stream_of_output config ss d))
-written_stream config ss d old new (Ok done) writes known =
-    writes.writes.received known
-    ∙ ap (with_written old) (output_stated (native_database ss) d (stated ss d) config.display_style
-    config config writes.writes.loci writes.writes.are_loci)
-written_stream config ss d old new (Err error) writes known = tt
+module _ (config : Config) (ss : List NativeFileView) (d : Diagnostic ℕ) where
+  -- a call that writes writes the output with these names
+  stream_is : {old new : Sink} {r : Result (Unit {0}) Error}
+      (writes : WritesStyled config.display_style config config (native_database ss) d old r new)
+      → writes.stream ≡ stream_of_output config ss d
+  stream_is writes =
+      writes.is_output.stream_is
+      ∙ output_stated (native_database ss) d (stated ss d) config.display_style config config
+      writes.is_output.loci writes.is_output.are_loci
+
+  -- so a writer receives it
+  pub written_stream : (old new : Sink) (r : Result (Unit {0}) Error)
+      → WritesStyled config.display_style config config (native_database ss) d old r new
+      → is_known old ≡ true → OnOk r (new ≡ with_written old (stream_of_output config ss d))
+  written_stream old new (Ok done) writes known =
+      writes.received known ∙ ap (with_written old) (stream_is writes)
+  written_stream old new (Err error) writes known = tt
+
+  -- and it is an output
+  pub stream_is_output : {old new : Sink} {r : Result (Unit {0}) Error}
+      → WritesStyled config.display_style config config (native_database ss) d old r new
+      → StreamIsOutput config ss d
+  stream_is_output writes =
+      subst (IsOutput config.display_style config config (native_database ss) d) (stream_is writes)
+      writes.is_output
 
 -- a fresh writer over some bytes holds after them the stream that was written
 pub text_after : (spelling : Spelling) (old new : Sink) (stream : Stream) (first last : List ℕ)
@@ -128,12 +142,20 @@ means_is spelling config ss d files diagnostic raw (Ok output) rendered alike sa
     λ zero_style.
     let rich : config.display_style ≡ Rich =
     ap (λ (c : Config). c.display_style) alike.others ∙ ap display_style_of zero_style in
+    let v = converted_diagnostic files diagnostic in
+    let stream = output_stream files diagnostic raw in
     record {
       d = d;
       c = config;
       is_diagnostic = viewed;
       is_config = alike;
-      means =
-          subst (λ ts. MeansLabels config config (native_database ts) d) same (rendered.means rich);
+      is_output =
+          subst (λ style. IsOutput style config config (converted_files files) d stream) rich
+          (subst (λ ts. IsOutput config.display_style config config (native_database ts) d stream)
+          same
+          (subst (IsOutput config.display_style config config (native_database ss) d)
+          (output_is (converted_config raw) config ss (map converted_file files) d v alike same
+          viewed)
+          rendered.is_output));
     }
 means_is spelling config ss d files diagnostic raw (Err e) rendered alike same viewed = tt

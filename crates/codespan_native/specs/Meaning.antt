@@ -2,10 +2,11 @@
 use Rattle.std.specs.Prelude.{◌≡◌, ℕ, List}
 use Rattle.codespan_base.specs.Diagnostics.{diagnostic_view}
 use Rattle.codespan_base.specs.ConfigEquality.{IsEqualConfig}
-use Rattle.codespan_base.specs.Streams.{spelled}
+use Rattle.codespan_base.specs.Streams.{Stream, spelled}
 use Rattle.codespan_base.specs.declared.diagnostic.Diagnostic.{Diagnostic}
 use Rattle.codespan_base.specs.declared.term.config.Config.{Config}
-use Rattle.codespan_picture.specs.RichLaws.{MeansLabels}
+use Rattle.codespan_base.specs.declared.term.config.DisplayStyle.TheVariants.{Rich}
+use Rattle.codespan_picture.specs.RichLaws.{IsOutput}
 use Rattle.codespan_picture.specs.Lookups.{AllSucceed, lookups_in}
 use Rattle.codespan_picture.specs.ViewPictures.{picture_of_diagnostic_view}
 use Rattle.codespan_native.specs.declared.raw.RawConfig.{RawConfig}
@@ -14,22 +15,28 @@ use Rattle.codespan_native.specs.declared.raw.RawFile.{RawFile}
 use Rattle.codespan_native.specs.Converted.{converted_diagnostic, converted_config, spelling_of}
 use Rattle.codespan_native.specs.Converted.{converted_files}
 
--- the bytes of the output that the structs describe
+-- the output that the structs describe
+abbrev pub output_stream : List RawFile → RawDiagnostic → RawConfig → Stream
+output_stream files diagnostic config =
+    let database = converted_files files in
+    picture_of_diagnostic_view (converted_config config) database.same database.file
+    (converted_diagnostic files diagnostic)
+
+-- its bytes
 unfoldable pub output_bytes : List RawFile → RawDiagnostic → RawConfig → List ℕ
 output_bytes files diagnostic config =
-    let database = converted_files files in
-    spelled (spelling_of config)
-    (picture_of_diagnostic_view (converted_config config) database.same database.file
-    (converted_diagnostic files diagnostic))
+    spelled (spelling_of config) (output_stream files diagnostic config)
 
--- the output of the structs means their labels, as `MeansLabels` says
+-- this output is the rich one of the Rust values for which the structs stand, and means their
+-- labels, as `IsOutput` says
 pub record Means (files : List RawFile) (diagnostic : RawDiagnostic) (config : RawConfig)
     : Type 0 where
   pub d : Diagnostic ℕ
   pub c : Config
   pub is_diagnostic : diagnostic_view d ≡ converted_diagnostic files diagnostic
   pub is_config : IsEqualConfig (converted_config config) c
-  pub means : MeansLabels c c (converted_files files) d
+  pub is_output :
+      IsOutput Rich c c (converted_files files) d (output_stream files diagnostic config)
 
 -- no lookup of the rendering fails, whatever the configuration is, and for each `Diagnostic` of
 -- Rust that the struct stands for

@@ -2,9 +2,8 @@
 use Rattle.std.specs.Prelude.{◌≡◌, ◌++◌, ℕ, List}
 use Rattle.codespan_base.specs.declared.diagnostic.Diagnostic.{Diagnostic}
 use Rattle.codespan_base.specs.declared.term.config.Config.{Config}
-use Rattle.codespan_base.specs.declared.term.config.DisplayStyle.TheVariants.{Rich}
 use Rattle.codespan_base.specs.Streams.{Spelling, Stream, spelled}
-use Rattle.codespan_picture.specs.RichLaws.{MeansLabels}
+use Rattle.codespan_picture.specs.RichLaws.{IsOutput}
 use Rattle.codespan_picture.specs.Picture.{picture}
 use Rattle.codespan_native.specs.SourceTexts.{NativeFileView, native_database}
 
@@ -13,11 +12,12 @@ module _ (config : Config) (files : List NativeFileView) (d : Diagnostic ℕ) wh
   abbrev pub stream_of_output : Stream
   stream_of_output = picture config.display_style config config (native_database files) d
 
-  -- in rich style the output means the labels
-  abbrev pub MeansIfRich : Type 0
-  MeansIfRich = config.display_style ≡ Rich → MeansLabels config config (native_database files) d
+  -- this stream is an output, and so in rich style means the labels
+  abbrev pub StreamIsOutput : Type 0
+  StreamIsOutput =
+      IsOutput config.display_style config config (native_database files) d stream_of_output
 
   -- the bytes are those in front, and then the output, its style marks spelled so
   pub record IsSpelledOutput (spelling : Spelling) (front bytes : List ℕ) : Type 0 where
     pub value : bytes ≡ front ++ spelled spelling stream_of_output
-    pub means : MeansIfRich
+    pub is_output : StreamIsOutput

@@ -7,7 +7,7 @@ ghost use Rattle.codespan_native.specs.StyleMarkBytes.{style_mark_spelling};
 ghost use Rattle.codespan_base.specs.StyleSpellings.{ansi_spelling};
 ghost use Rattle.codespan_native.specs.SourceModel.{native_file_views};
 ghost use Rattle.codespan_native.specs.Spellings.{spelling_by_kind};
-ghost use Rattle.codespan_native.specs.RenderedStreams.{IsSpelledOutput, MeansIfRich};
+ghost use Rattle.codespan_native.specs.RenderedStreams.{IsSpelledOutput, StreamIsOutput};
 ghost use Rattle.codespan_native.specs.RenderedStreams.{stream_of_output};
 
 use crate::convert::{Settings, SpellingKind};
@@ -114,8 +114,8 @@ fn write_to<W: WriteStyle>(
     ensures value { is_known (W.sink writer.old) ≡ true → OnOk result (W.sink writer.new
         ≡ with_written (W.sink writer.old)
         (stream_of_output config.now (native_file_views files.now) diagnostic.now)) }
-    ensures means { IfOk result (λ _.
-        MeansIfRich config.now (native_file_views files.now) diagnostic.now) }
+    ensures is_output { OnOk result
+        (StreamIsOutput config.now (native_file_views files.now) diagnostic.now) }
 {
     match emit_to_write_style(writer, config, files, diagnostic) {
         Ok(()) => Ok(()),

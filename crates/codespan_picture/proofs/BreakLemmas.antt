@@ -1,7 +1,7 @@
 -- For `breaks_replace_lines`: there are break rows where shown lines are three or more apart.
 use Rattle.codespan_core.proofs.Std.{◌≡◌, ℕ, ◌+◌, Bool, true, false, cond, ◌==◌, nat_le, List, []}
 use Rattle.codespan_core.proofs.Std.{◌∷◌, ◌++◌, map, filter, filter_map, reverse, Some, None, refl}
-use Rattle.codespan_core.proofs.Std.{ap, ap₂, ◌∙◌, arith, filter_map-append, nat_tests}
+use Rattle.codespan_core.proofs.Std.{ap, ap₂, ◌∙◌, append-nil, arith, filter_map-append, nat_tests}
 use Rattle.codespan_core.specs.Labels.{LabelModel, LaneMark}
 use Rattle.codespan_picture.specs.Types.{Config}
 use Rattle.codespan_picture.specs.{leading_whitespace, Row, Line, SourceRow, HangingRow}
@@ -9,7 +9,8 @@ use Rattle.codespan_picture.specs.{UnderlineRow, BreakRow, caret_rows, pointer_a
 use Rattle.codespan_picture.specs.{underline_rows, rows_of, hanging_labels, has_underline}
 use Rattle.codespan_picture.specs.{gap_between, LabeledFileModel, line_at, line_rows, break_rows}
 use Rattle.codespan_picture.specs.{rows_of_shown, break_lanes, lines_after_breaks, shown_lines}
-use Rattle.codespan_picture.specs.{BreaksReplaceLines, RowsAreOfShownLines}
+use Rattle.codespan_picture.specs.{BreaksReplaceLines, RowsAreOfShownLines, Locus, empty_row_after}
+use Rattle.codespan_picture.specs.{snippet}
 use Rattle.codespan_picture.specs.Rows.{Lanes}
 
 -- ---- rows that are not breaks
@@ -88,8 +89,17 @@ breaks_from_start line (d ∷ more) =
     breaks-append (rows_of (line d)) (rows_of_shown line (Some d) more)
     ∙ ap₂ (λ s t. s ++ t) (no_break_line (line d)) (breaks_of line d more)
 
-pub breaks_replace_lines : (config : Config) (s : LabeledFileModel) → RowsAreOfShownLines config s
-    → BreaksReplaceLines config s
-breaks_replace_lines config s drawn =
-    λ locus. ap (filter_map break_lanes) drawn
-    ∙ breaks_from_start (line_at s) (shown_lines config s)
+no_break_after : (followed : Bool) (s : LabeledFileModel)
+    → filter_map break_lanes (empty_row_after followed s) ≡ []
+no_break_after true s = refl
+no_break_after false s = refl
+
+pub breaks_replace_lines : (config : Config) (locus : Locus) (followed : Bool)
+    (s : LabeledFileModel) → RowsAreOfShownLines config s
+    → BreaksReplaceLines config s (snippet config locus s ++ empty_row_after followed s)
+breaks_replace_lines config locus followed s drawn =
+    breaks-append (snippet config locus s) (empty_row_after followed s)
+    ∙ ap₂ (λ s t. s ++ t)
+    (ap (filter_map break_lanes) drawn ∙ breaks_from_start (line_at s) (shown_lines config s))
+    (no_break_after followed s)
+    ∙ append-nil (map (λ l. (line_at s l).lanes) (lines_after_breaks (shown_lines config s)))

@@ -1,9 +1,9 @@
 -- For `lanes_join_corners`: each lane is one line, by the drawn lines of the file.
 use Rattle.codespan_core.proofs.Std.{◌≡◌, ℕ, zero, suc, ◌+◌, ◌-◌, ◌<◌, ◌≤◌, Bool, true, false, not}
-use Rattle.codespan_core.proofs.Std.{cond, ◌&&◌, ◌||◌, nat_lt, nat_le, ⊎_elim, List, [], ◌∷◌, ◌++◌}
-use Rattle.codespan_core.proofs.Std.{filter, length, Option, Some, None, refl, sym, ap, ◌∙◌}
-use Rattle.codespan_core.proofs.Std.{zero-add, append_assoc, arith, if◌then◌else◌, range_with_len}
-use Rattle.codespan_core.proofs.Std.{AllByRecursion, cases_lt, count_by-le-length}
+use Rattle.codespan_core.proofs.Std.{cond, nat_le, ⊎_elim, List, [], ◌∷◌, ◌++◌, filter, length}
+use Rattle.codespan_core.proofs.Std.{Option, Some, None, refl, sym, ap, ◌∙◌, zero-add, append_assoc}
+use Rattle.codespan_core.proofs.Std.{arith, range_with_len, AllByRecursion, cases_lt}
+use Rattle.codespan_core.proofs.Std.{count_by-le-length}
 use Rattle.codespan_core.specs.FileModel.{line_start, line_of, line_count}
 use Rattle.codespan_core.specs.Labels.{LabelModel, is_single, first_line, last_line, multi_label_on}
 use Rattle.codespan_core.specs.Labels.{lane_mark_of, lane_marks_on, multi_line_labels, MultiLabel}
@@ -15,7 +15,7 @@ use Rattle.codespan_picture.specs.{empty_or_break_shape, lane_mark_in, shape_of,
 use Rattle.codespan_picture.specs.{drawn_lines, has_break_between, Row, BreakRow, SnippetStartRow}
 use Rattle.codespan_picture.specs.{EmptyRow, rows_of, LabeledFileModel, line_at, rows_of_drawn}
 use Rattle.codespan_picture.specs.{empty_row_after, snippet, empty_lanes, HasLane, LanesJoinCorners}
-use Rattle.codespan_picture.specs.{NoneReversed}
+use Rattle.codespan_picture.specs.{NoneReversed, Locus}
 use Rattle.codespan_picture.proofs.FillLemmas.{breaks_before}
 use Rattle.codespan_picture.proofs.BarLemmas.{lane_mark_in-from}
 use Rattle.codespan_picture.proofs.RangeLemmas.{kept, has_lane-ordered, shown-by, shows-first}
@@ -104,11 +104,6 @@ module _ (layout : Layout) (s : LabeledFileModel) (lane : ℕ) (x : LabelModel)
       (lane_mark_at l (Some (bottom_of l)) (bottom_at l h))
       (split_on l (bottom_of l) (bottom_at l h))
 
-  bars_line : (l : ℕ) → first_line s.file x < l → l < last_line s.file x
-      → AllByRecursion (Shows layout lane Bar) (rows_of (line_at s l))
-  bars_line l low high = left_lane_mark layout lane (line_at s l) x.style
-      (lane_mark_at l (Some Left) (left_at l low high))
-
   gaps_with : (previous : Option ℕ) (l : ℕ) → NoLaneMark l
       → AllByRecursion (Shows layout lane Space)
       (breaks_before s previous l ++ rows_of (line_at s l))
@@ -185,7 +180,8 @@ module _ (layout : Layout) (s : LabeledFileModel) (lane : ℕ) (x : LabelModel)
               (rows_from (Some a) (a + 1) n)
               (all-append (Shows layout lane Bar) (breaks_before s previous a)
               (rows_of (line_at s a)) (bar_break previous a Left refl (left_at a low h))
-              (bars_line a low h))
+              (left_lane_mark layout lane (line_at s a) x.style
+              (lane_mark_at a (Some Left) (left_at a low h))))
               (rest (Some a) h))
 
           ended : last_line s.file x ≤ a → Finishes layout lane (rows_from previous a (suc n))
@@ -267,12 +263,10 @@ has_line : (starts : List ℕ) (a b : ℕ) → line_of starts a < line_of starts
 unfolding line_of
 has_line starts a b h = omega (arith, count_by-le-length (λ s. nat_le s b) starts)
 
-shown_is_drawn : (b d : Bool) → b ≡ true → (b || d) ≡ true
-shown_is_drawn b d h = simp h
-
-pub lanes_join_corners : (config : Config) (layout : Layout) (s : LabeledFileModel)
-    → NoneReversed s.labels → LanesJoinCorners config layout s
-lanes_join_corners config layout s ordered = λ locus is_followed lane x has.
+pub lanes_join_corners : (config : Config) (layout : Layout) (locus : Locus) (is_followed : Bool)
+    (s : LabeledFileModel) → NoneReversed s.labels
+    → LanesJoinCorners layout s (snippet config locus s ++ empty_row_after is_followed s)
+lanes_join_corners config layout locus is_followed s ordered = λ lane x has.
     let several = has_lane-ordered s lane x ordered has in
     let inside = (kept (λ x. not (is_single s.file x)) s.labels lane x has).0 in
     let some : 0 < line_count s.file = has_line s.file.starts x.start x.end several in
@@ -280,7 +274,7 @@ lanes_join_corners config layout s ordered = λ locus is_followed lane x has.
     let high = line_of_below s.file.starts x.end some in
     one_line layout s (snippet config locus s ++ empty_row_after is_followed s) lane x
     (whole_before layout lane (line_at s (first_line s.file x)) (snippet config locus s)
-    (trailing_empty_rows is_followed)
+    (empty_row_after is_followed s)
     (whole_later layout lane (line_at s (first_line s.file x))
     (SnippetStartRow locus ∷ EmptyRow (empty_lanes s) ∷ [])
     (rows_of_drawn s None (drawn_lines config s.file s.labels))
@@ -295,18 +289,11 @@ lanes_join_corners config layout s ordered = λ locus is_followed lane x has.
     (shows-last config (first_line s.file x) (last_line s.file x))))))
     (ended lane is_followed))
   where
-    trailing_empty_rows : Bool → List Row
-    trailing_empty_rows is_followed = if is_followed then EmptyRow (empty_lanes s) ∷ [] else []
-
     ended : (lane : ℕ) (is_followed : Bool)
-        → AllByRecursion (Shows layout lane Space) (trailing_empty_rows is_followed)
+        → AllByRecursion (Shows layout lane Space) (empty_row_after is_followed s)
     ended lane true = (refl, tt)
     ended lane false = tt
 
     drawn : (l : ℕ) → is_shown config s.file s.labels l ≡ true
         → is_drawn config s.file s.labels l ≡ true
-    drawn l h =
-        shown_is_drawn (is_shown config s.file s.labels l)
-        (nat_lt 0 l && is_shown config s.file s.labels (l - 1)
-        && is_shown config s.file s.labels (l + 1))
-        h
+    drawn l h = simp h

@@ -15,7 +15,7 @@ use Rattle.codespan_picture.specs.Types.{Config, Diagnostic, Label, Severity, Ri
 use Rattle.codespan_picture.specs.{drawn_lines, HeaderText, Locus, RowContext, stream_of_rows}
 use Rattle.codespan_picture.specs.{LabeledFileModel, LabelInFile, file_ids, labeled_file_model}
 use Rattle.codespan_picture.specs.{labeled_file_models, rich_rows, AreLoci, IsLocus, header_text_of}
-use Rattle.codespan_picture.specs.{label_of, labels_of, context_of, notes_of, rendered}
+use Rattle.codespan_picture.specs.{label_of, labels_of, context_of, notes_of, output, rendered}
 use Rattle.codespan_picture.specs.{snippet_locus_byte, padding_of, slotted, all_slotted}
 use Rattle.codespan_picture.specs.{message_text, slotted_output, MessagesAppearOnce}
 use Rattle.codespan_picture.proofs.Loci.{zip_length}
@@ -255,6 +255,7 @@ pub messages_appear_once : {Id : Type 0} (renderer_config view_config : Config)
     → IsEquivalence files.same → ((id : Id) → 0 < line_count (files.file id))
     → (loci : List Locus) → AreLoci files d Rich loci
     → MessagesAppearOnce renderer_config view_config files d loci
+    (output Rich renderer_config view_config files d loci)
 messages_appear_once {Id = Id} renderer_config view_config files d equal has_line loci are =
     let many = as_many files.same files.file (labels_of d) loci are in
     record {

@@ -3,7 +3,7 @@ use Rattle.codespan_core.proofs.Std.{◌≡◌, ℕ, zero, suc, ◌+◌, ◌-◌
 use Rattle.codespan_core.proofs.Std.{false, cond, ◌&&◌, ◌||◌, nat_lt, nat_le, List, [], ◌∷◌, ◌++◌}
 use Rattle.codespan_core.proofs.Std.{map, filter, reverse, length, Option, Some, None, refl, ap}
 use Rattle.codespan_core.proofs.Std.{arith, count_by, sum_by, range_with_len, list_any, nat_tests}
-use Rattle.codespan_core.proofs.Std.{sum_by-cons, sum_by-append}
+use Rattle.codespan_core.proofs.Std.{if◌then◌else◌, and_parts, sum_by-cons, sum_by-append}
 use Rattle.std.proofs.lemmas.List.Sums.{sum_by-le-sum_by, length-filter}
 use Rattle.codespan_core.specs.FileModel.{FileModel, line_count}
 use Rattle.codespan_core.specs.Labels.{LabelModel, LaneMark, first_line, last_line}
@@ -13,7 +13,8 @@ use Rattle.codespan_picture.specs.{leading_whitespace, Line, SourceRow, BreakRow
 use Rattle.codespan_picture.specs.{UnderlineRow, PointerRow, caret_rows, pointer_and_hanging_rows}
 use Rattle.codespan_picture.specs.{underline_rows, rows_of, hanging_labels, has_underline}
 use Rattle.codespan_picture.specs.{LabeledFileModel, line_at, rows_of_drawn, is_source_row}
-use Rattle.codespan_picture.specs.{max_shown_lines, SourceRowsAreFew}
+use Rattle.codespan_picture.specs.{max_shown_lines, SourceRowsAreFew, Locus, Row, EmptyRow}
+use Rattle.codespan_picture.specs.{empty_lanes, empty_row_after, snippet}
 use Rattle.codespan_picture.proofs.FillLemmas.{breaks_before}
 
 -- ---- counts
@@ -136,8 +137,7 @@ count-shows config s e n =
 count-any : (config : Config) (f : FileModel) (labels : List LabelModel) (n : ℕ)
     → count_by (λ l. list_any (λ x. shows config (first_line f x) (last_line f x) l) labels)
     (range_with_len 0 n) ≤ sum_by (λ _. max_shown_lines config) labels
-count-any config f [] n = let none = count-none (λ l. false) (range_with_len 0 n) (λ l. refl) in
-    omega (arith, none)
+count-any config f [] n = omega (arith, count-none (λ l. false) (range_with_len 0 n) (λ l. refl))
 count-any config f (x ∷ xs) n =
     omega (
       arith,
@@ -149,14 +149,6 @@ count-any config f (x ∷ xs) n =
       sum_by-cons (λ _. max_shown_lines config) x xs,
     )
 
-last-and : (b d : Bool) → (b && d) ≡ true → d ≡ true
-last-and true d h = h
-last-and false d h = cc
-
-first-and : (b d : Bool) → (b && d) ≡ true → b ≡ true
-first-and true d h = refl
-first-and false d h = cc
-
 count-shown : (config : Config) (s : LabeledFileModel) (n : ℕ)
     → count_by (is_shown config s.file s.labels) (range_with_len 0 n) ≤ sum_by
     (λ _. max_shown_lines config) s.labels
@@ -166,8 +158,8 @@ count-shown config s n =
       count-le (is_shown config s.file s.labels)
           (λ l. list_any (λ x. shows config (first_line s.file x) (last_line s.file x) l) s.labels)
           (range_with_len 0 n)
-          (λ l. last-and (nat_lt l (line_count s.file))
-          (list_any (λ x. shows config (first_line s.file x) (last_line s.file x) l) s.labels)),
+          (λ l h. (and_parts (nat_lt l (line_count s.file)) (list_any (λ x. shows config
+          (first_line s.file x) (last_line s.file x) l) s.labels) h).1),
       count-any config s.file s.labels n,
     )
 
@@ -184,7 +176,7 @@ module _ (shown : ℕ → Bool) where
   count-after a (suc n) =
       let back : a + 1 - 1 ≡ a = omega arith in
       let one = one-le (is_after (a + 1)) (shown a)
-      (λ h. rw back at (last-and (nat_lt 0 (a + 1)) (shown (a + 1 - 1)) h)) in
+      (λ h. rw back at (and_parts (nat_lt 0 (a + 1)) (shown (a + 1 - 1)) h).1) in
       omega (
         arith,
         one,
@@ -215,8 +207,7 @@ module _ (shown : ℕ → Bool) where
         e,
         count-after 0 n,
         count-longer 0 n,
-        count-cons is_after 0
-            (range_with_len 1 n),
+        count-cons is_after 0 (range_with_len 1 n),
       )
 
   abbrev pub fills : ℕ → Bool
@@ -230,21 +221,21 @@ module _ (shown : ℕ → Bool) where
         arith,
         count-or shown fills (range_with_len 0 n),
         count-le fills is_after (range_with_len 0 n)
-            (λ l. first-and (nat_lt 0 l && shown (l - 1)) (shown (l + 1))),
+            (λ l h. (and_parts (nat_lt 0 l && shown (l - 1)) (shown (l + 1)) h).0),
         count-all-after n,
       )
 
 -- ---- source rows
 
+none_if : (b : Bool) (row : Row) → is_source_row row ≡ false
+    → count_by is_source_row (if b then row ∷ [] else []) ≡ 0
+none_if true row h = simp h
+none_if false row h = refl
+
 no_source_break : (s : LabeledFileModel) (previous : Option ℕ) (l : ℕ)
     → count_by is_source_row (breaks_before s previous l) ≡ 0
 no_source_break s None l = refl
-no_source_break s (Some c) l = by_test (has_break_between c l)
-  where
-    by_test : (b : Bool)
-        → count_by is_source_row (cond b (BreakRow (line_at s l).lanes ∷ []) []) ≡ 0
-    by_test true = refl
-    by_test false = refl
+no_source_break s (Some c) l = none_if (has_break_between c l) (BreakRow (line_at s l).lanes) refl
 
 no_source_caret : (line : Line) (labels : List LabelModel)
     → count_by is_source_row (caret_rows line labels) ≡ 0
@@ -294,10 +285,13 @@ count-rows_of_drawn s previous (l ∷ ls) =
       count-rows_of_drawn s (Some l) ls,
     )
 
-pub source_rows_few : (config : Config) (s : LabeledFileModel) → SourceRowsAreFew config s
-source_rows_few config s = λ locus.
+pub source_rows_few : (config : Config) (locus : Locus) (followed : Bool) (s : LabeledFileModel)
+    → SourceRowsAreFew config s (snippet config locus s ++ empty_row_after followed s)
+source_rows_few config locus followed s =
     omega (
       arith,
+      count-append is_source_row (snippet config locus s) (empty_row_after followed s),
+      none_if followed (EmptyRow (empty_lanes s)) refl,
       count-rows_of_drawn s None (drawn_lines config s.file s.labels),
       length-filter (is_drawn config s.file s.labels) (range_with_len 0 (line_count s.file)),
       count-drawn (is_shown config s.file s.labels) (line_count s.file),

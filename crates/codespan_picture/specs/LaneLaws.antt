@@ -1,10 +1,10 @@
 -- The laws of lanes: what a lane shows in each row says where its label goes, and is what the row's
 -- stream has there.
-use Rattle.std.specs.Prelude.{◌≡◌, ℕ, ◌<◌, ◌≤◌, ◌⊎◌, ◌↔◌, Bool, false, List, [], ◌++◌, length}
-use Rattle.std.specs.Prelude.{slice_get, flat_map, Option, Some, None}
+use Rattle.std.specs.Prelude.{◌≡◌, ℕ, ◌<◌, ◌≤◌, ◌⊎◌, ◌↔◌, false, List, [], ◌++◌, length, slice_get}
+use Rattle.std.specs.Prelude.{flat_map, Option, Some, None}
 use Rattle.std.specs.List.{range_with_len}
 use Rattle.std.specs.Option.{option_map, option_map_or}
-use Rattle.codespan_picture.specs.Types.{Config, Layout}
+use Rattle.codespan_picture.specs.Types.{Layout}
 use Rattle.codespan_core.specs.FileModel.{FileModel}
 use Rattle.codespan_core.specs.Labels.{LabelModel, first_line, last_line, multi_line_labels}
 use Rattle.codespan_core.specs.Streams.{Stream}
@@ -14,12 +14,12 @@ use Rattle.codespan_picture.specs.declared.lane_shapes.Shape.TheVariants.{Bottom
 use Rattle.codespan_picture.specs.Lanes.{LaneRowKind, Source, EmptyOrBreak, SingleLabels, Underline}
 use Rattle.codespan_picture.specs.Lanes.{row_shape, row_crossing, lane_mark_in, shape_of}
 use Rattle.codespan_picture.specs.Lanes.{style_of_lane_mark, is_unbroken, lane_characters}
-use Rattle.codespan_picture.specs.Rows.{Locus, RowContext, Lanes, Line, Row, EmptyRow, BreakRow}
-use Rattle.codespan_picture.specs.Rows.{SourceRow, CaretRow, PointerRow, HangingRow, UnderlineRow}
+use Rattle.codespan_picture.specs.Rows.{RowContext, Lanes, Line, Row, EmptyRow, BreakRow, SourceRow}
+use Rattle.codespan_picture.specs.Rows.{CaretRow, PointerRow, HangingRow, UnderlineRow}
 use Rattle.codespan_picture.specs.RowParts.{outer_gutter, outer_gutter_number, border_left}
 use Rattle.codespan_picture.specs.RowParts.{border_left_break, leading_of}
 use Rattle.codespan_picture.specs.RowStreams.{stream_of}
-use Rattle.codespan_picture.specs.Snippets.{LabeledFileModel, line_at, empty_row_after, snippet}
+use Rattle.codespan_picture.specs.Snippets.{LabeledFileModel, line_at}
 
 -- the line of a row that has one
 abbrev pub line_of_row : Row → Option Line
@@ -97,12 +97,10 @@ pub record IsCornerToCorner (layout : Layout) (s : LabeledFileModel) (rows : Lis
   pub before : (k : ℕ) → k < top → shape_at layout rows k lane ≡ Some Space
   pub after : (k : ℕ) → bottom < k → k < length rows → shape_at layout rows k lane ≡ Some Space
 
--- each lane of a file is one line through the rows of its snippet and the empty row after it, if it
--- has one, whatever the locus
-abbrev pub LanesJoinCorners : Config → Layout → LabeledFileModel → Type 0
-LanesJoinCorners config layout s =
-    (locus : Locus) (is_followed : Bool) (lane : ℕ) (x : LabelModel) → HasLane s lane x
-    → IsCornerToCorner layout s (snippet config locus s ++ empty_row_after is_followed s) lane x
+-- each lane of a file is one line through these rows
+abbrev pub LanesJoinCorners : Layout → LabeledFileModel → List Row → Type 0
+LanesJoinCorners layout s rows =
+    (lane : ℕ) (x : LabelModel) → HasLane s lane x → IsCornerToCorner layout s rows lane x
 
 -- ---- what each lane shows is what the stream of its row has there
 

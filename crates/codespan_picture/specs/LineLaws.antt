@@ -9,9 +9,8 @@ use Rattle.codespan_core.specs.Labels.{LabelModel}
 use Rattle.codespan_picture.specs.declared.lane_shapes.Shape.TheVariants.{Bar}
 use Rattle.codespan_picture.specs.Lanes.{is_unbroken}
 use Rattle.codespan_picture.specs.Lines.{drawn_lines, has_break_between, is_shown}
-use Rattle.codespan_picture.specs.Rows.{Lanes, Locus, Row, BreakRow, SourceRow}
+use Rattle.codespan_picture.specs.Rows.{Lanes, Row, BreakRow, SourceRow}
 use Rattle.codespan_picture.specs.Snippets.{LabeledFileModel, rows_of_drawn, rows_of_shown, line_at}
-use Rattle.codespan_picture.specs.Snippets.{snippet}
 use Rattle.codespan_picture.specs.Padding.{padding_of, count_digits}
 use Rattle.codespan_picture.specs.LaneLaws.{shape_in, HasLane, IsBarLine}
 
@@ -41,10 +40,10 @@ abbrev pub break_lanes : Row → Option Lanes
 break_lanes (BreakRow lanes) = Some lanes
 break_lanes _ = None
 
--- the snippet has one break row for each of `lines_after_breaks`, in order, with that line's lanes
-abbrev pub BreaksReplaceLines : Config → LabeledFileModel → Type 0
-BreaksReplaceLines config s = (locus : Locus)
-    → filter_map break_lanes (snippet config locus s)
+-- these rows have one break row for each of `lines_after_breaks`, in order, with that line's lanes
+abbrev pub BreaksReplaceLines : Config → LabeledFileModel → List Row → Type 0
+BreaksReplaceLines config s rows =
+    filter_map break_lanes rows
     ≡ map (λ l. (line_at s l).lanes) (lines_after_breaks (shown_lines config s))
 
 -- a lane has a bar in a break row exactly where its label covers every line that is left out there
@@ -69,11 +68,10 @@ max_shown_lines config =
     2 + config.before_label_lines + config.after_label_lines + config.start_context_lines
     + config.end_context_lines
 
--- a file has at most twice as many source rows as its labels may show lines
-abbrev pub SourceRowsAreFew : Config → LabeledFileModel → Type 0
-SourceRowsAreFew config s = (locus : Locus)
-    → count_by is_source_row (snippet config locus s)
-    ≤ 2 * sum_by (λ _. max_shown_lines config) s.labels
+-- these rows have at most twice as many source rows as the file's labels may show lines
+abbrev pub SourceRowsAreFew : Config → LabeledFileModel → List Row → Type 0
+SourceRowsAreFew config s rows =
+    count_by is_source_row rows ≤ 2 * sum_by (λ _. max_shown_lines config) s.labels
 
 -- no line of the file has a lower number than the line before it
 abbrev pub NumbersAscend : FileModel → Type 0

@@ -9,8 +9,7 @@ use Rattle.codespan_core.specs.Labels.{has_message, is_empty_stream}
 use Rattle.codespan_core.specs.Streams.{Stream, Item, Slot, text_of, with_messages}
 use Rattle.codespan_picture.specs.Rows.{Locus}
 use Rattle.codespan_picture.specs.Snippets.{LabelInFile, labeled_file_models}
-use Rattle.codespan_picture.specs.OutputStreams.{header_text_of, labels_of, notes_of, output}
-use Rattle.codespan_picture.specs.OutputStreams.{rendered}
+use Rattle.codespan_picture.specs.OutputStreams.{header_text_of, labels_of, notes_of, rendered}
 
 -- a label with a slot instead of its message, where it has a message
 abbrev pub slotted : {Id : Type 0} → ℕ → LabelInFile Id → LabelInFile Id
@@ -31,19 +30,16 @@ is_slot k _ = false
 abbrev pub message_text : {Id : Type 0} → List (LabelInFile Id) → ℕ → List ℕ
 message_text xs k = option_map_or (λ x. text_of x.label.message) (slice_get xs k) []
 
--- the rich output with slots instead of the messages
-abbrev pub slotted_output : {Id : Type 0}
-    → Config → Config → FileDatabase Id → Diagnostic Id → List Locus → Stream
-slotted_output renderer_config view_config files d loci =
-    rendered Rich renderer_config view_config d.severity (header_text_of d) loci
-    (labeled_file_models files.same files.file (all_slotted (labels_of d))) (notes_of d)
+module _ {Id : Type 0} (renderer_config view_config : Config) (files : FileDatabase Id)
+    (d : Diagnostic Id) (loci : List Locus) where
+  -- the rich output with slots instead of the messages
+  abbrev pub slotted_output : Stream
+  slotted_output =
+      rendered Rich renderer_config view_config d.severity (header_text_of d) loci
+      (labeled_file_models files.same files.file (all_slotted (labels_of d))) (notes_of d)
 
--- the output with slots has one slot for each message, and with its slots filled it is the output
-pub record MessagesAppearOnce {Id : Type 0} (renderer_config view_config : Config)
-    (files : FileDatabase Id) (d : Diagnostic Id) (loci : List Locus) : Type 0 where
-  pub once : (k : ℕ) (x : LabelInFile Id) → slice_get (labels_of d) k ≡ Some x
-      → count_by (is_slot k) (slotted_output renderer_config view_config files d loci)
-      ≡ (if has_message x.label then 1 else 0)
-  pub whole : with_messages (message_text (labels_of d))
-      (slotted_output renderer_config view_config files d loci)
-      ≡ output Rich renderer_config view_config files d loci
+  -- this output has one slot for each message, and with its slots filled it is the stream
+  pub record MessagesAppearOnce (stream : Stream) : Type 0 where
+    pub once : (k : ℕ) (x : LabelInFile Id) → slice_get (labels_of d) k ≡ Some x
+        → count_by (is_slot k) slotted_output ≡ (if has_message x.label then 1 else 0)
+    pub whole : with_messages (message_text (labels_of d)) slotted_output ≡ stream

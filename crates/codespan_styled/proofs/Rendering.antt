@@ -1,15 +1,16 @@
 -- The runs that a writer received are those of the output, and which errors are of lookups: for
 -- `styled_text`.
 use Rattle.std.proofs.Common.{◌≡◌, ℕ, true, false, List, [], ◌∷◌, ◌++◌, Some, Result, Ok, Err, inl}
-use Rattle.std.proofs.Common.{inr, ⊎_elim, sym, ap, ◌∙◌, true≢false}
-use Rattle.std.specs.Prelude.{MatchResult}
+use Rattle.std.proofs.Common.{inr, ⊎_elim, sym, ap, subst, ◌∙◌, true≢false}
+use Rattle.std.specs.Prelude.{IfErr, IfOk, MatchResult}
+use Rattle.std.specs.Str.{IsUtf8}
 use Rattle.codespan_base.specs.declared.diagnostic.Diagnostic.{Diagnostic}
 use Rattle.codespan_base.specs.declared.files.Error.{Error}
 use Rattle.codespan_base.specs.declared.files.Error.TheVariants.{OutOfMemory}
 use Rattle.codespan_base.specs.declared.term.config.Config.{Config}
 use Rattle.codespan_base.specs.FileModel.{FileDatabase}
 use Rattle.codespan_base.specs.LawfulFiles.{IsLawful}
-use Rattle.codespan_base.specs.Streams.{Stream, Byte, Mark, Slot, Spelling, spelled}
+use Rattle.codespan_base.specs.Streams.{Stream, Byte, Mark, Slot, Spelling, spelled, text_of}
 use Rattle.codespan_base.specs.WriterLaw.{Frame, Sink, are_known, extended, is_known, with_written}
 use Rattle.codespan_base.specs.Writers.{fresh_sink}
 use Rattle.codespan_base.specs.declared.term.config.style_mark.StyleMark.{StyleMark}
@@ -23,7 +24,7 @@ use Rattle.codespan_styled.specs.Private.Recorded.{recorded_runs, style_number, 
 use Rattle.codespan_styled.specs.Runs.{TextsAreUtf8, joined, runs_from, styled_runs}
 use Rattle.codespan_styled.proofs.Bytes.{runs-bytes, utf8-bytes}
 use Rattle.codespan_styled.proofs.Decoding.{joined_runs, runs_of_recorded}
-use Rattle.codespan_styled.specs.Outputs.{AreRuns, EmitsRuns, RunsAreUtf8, output_at}
+use Rattle.codespan_styled.specs.Outputs.{AreRuns, RunsAreUtf8, output_at}
 
 -- a fresh writer that received a stream holds its bytes last
 bytes_after : (spelling : Spelling) (old new : Sink) (s : Stream) (first last : List ℕ)
@@ -44,22 +45,22 @@ module _ {Id : Type 0} {config : Config} {files : FileDatabase Id} {d : Diagnost
       → CharsAreScalars config.chars → ((id : Id) → IsLawful (files.file id))
       → recorded_runs (styled_runs text) ≡ last → AreRuns config files d (styled_runs text)
   runs_rendered {old} {new} {last} text rendered fresh contents characters lawful are =
-      let loci = rendered.writes.loci in
-      let stream : Stream = output_at config files d loci in
-      let utf8 = (text-output files d lawful config.display_style config config characters loci
-      rendered.writes.on_end.1.names_are_utf8).utf8 in
+      let stream : Stream = rendered.stream in
+      let utf8 : IsUtf8 (text_of stream) = subst (λ s. IsUtf8 (text_of s))
+      (sym rendered.is_output.stream_is)
+      (text-output files d lawful config.display_style config config characters
+      rendered.is_output.loci rendered.on_end.1.names_are_utf8).utf8 in
       let whole =
       bytes_after style_spelling old new stream (style_number Reset ∷ []) last fresh contents
-      rendered.writes.received in
+      rendered.received in
       let runs = runs_of_recorded (styled_runs text) stream (runs-bytes text.runs.items)
       (utf8-bytes _ utf8) (are ∙ whole) in
       record {
-        loci = loci;
-        are_loci = rendered.writes.are_loci;
+        stream = stream;
+        is_output = rendered.is_output;
         runs_are = runs;
         text_is = ap joined runs ∙ joined_runs stream;
-        succeeds = rendered.writes.on_end.1;
-        means = rendered.means;
+        succeeds = rendered.on_end.1;
       }
 
   -- the same of what the writer returns
@@ -68,10 +69,10 @@ module _ {Id : Type 0} {config : Config} {files : FileDatabase Id} {d : Diagnost
       → old ≡ fresh_sink style_spelling (Some (style_number Reset ∷ [])) → new.contents ≡ Some last
       → CharsAreScalars config.chars → ((id : Id) → IsLawful (files.file id))
       → MatchResult r (λ text. recorded_runs (styled_runs text) ≡ last) (λ e. e ≡ OutOfMemory)
-      → EmitsRuns config files d styled_runs r
+      → IfOk r (λ text. AreRuns config files d (styled_runs text))
   runs_emitted (Ok text) rendered fresh contents characters lawful are =
       runs_rendered text rendered fresh contents characters lawful are
-  runs_emitted (Err e) rendered fresh contents characters lawful is = inl is
+  runs_emitted (Err e) rendered fresh contents characters lawful is = tt
 
   -- an error of a writer that has not failed is one of lookups
   pub error_emitted : {old new : Sink} (e : Error)
@@ -79,7 +80,15 @@ module _ {Id : Type 0} {config : Config} {files : FileDatabase Id} {d : Diagnost
       → new.frame.failed ≡ false → IsEmitError config files d e
   error_emitted {old} {new} e rendered not_failed =
       ⊎_elim (λ own. absurd (true≢false (sym (ap (λ (f : Frame). f.failed) own.1) ∙ not_failed)))
-      (λ found. inr found.1) rendered.writes.on_end.error_is
+      (λ found. inr found.1) rendered.on_end.error_is
+
+-- where it returns an error instead, that is `OutOfMemory`, which is one of emitting
+pub memory_error : {Id : Type 0} (config : Config) (files : FileDatabase Id) (d : Diagnostic Id)
+    (last : List ℕ) (r : Result StyledText Error)
+    → MatchResult r (λ text. recorded_runs (styled_runs text) ≡ last) (λ e. e ≡ OutOfMemory)
+    → IfErr r (IsEmitError config files d)
+memory_error config files d last (Ok text) are = tt
+memory_error config files d last (Err e) is = inl is
 
 -- ---- texts
 

@@ -1,14 +1,14 @@
 -- What the call that returns the runs of a diagnostic's output does.
-use Rattle.std.specs.Prelude.{◌≡◌, List, Result, MatchResult}
-use Rattle.codespan_picture.specs.Types.{Diagnostic, Error, Config, Rich}
+use Rattle.std.specs.Prelude.{◌≡◌, List}
+use Rattle.codespan_picture.specs.Types.{Diagnostic, Config}
 use Rattle.codespan_base.specs.FileModel.{FileDatabase}
 use Rattle.codespan_base.specs.LawfulFiles.{IsLawful}
 use Rattle.codespan_base.specs.Streams.{Stream, text_of}
-use Rattle.codespan_picture.specs.RichLaws.{MeansLabels}
+use Rattle.codespan_picture.specs.RichLaws.{IsOutput}
 use Rattle.codespan_picture.specs.Utf8Laws.{CharsAreScalars}
-use Rattle.codespan_picture.specs.OutputStreams.{AreLoci, NamesAreUtf8, output}
+use Rattle.codespan_picture.specs.OutputStreams.{NamesAreUtf8, output}
 use Rattle.codespan_picture.specs.Rows.{Locus}
-use Rattle.codespan_views.specs.Output.{IsEmitError, Succeeds}
+use Rattle.codespan_views.specs.Output.{Succeeds}
 use Rattle.codespan_styled.specs.Runs.{TextsAreUtf8, RunView, joined, runs_of}
 
 module _ {Id : Type 0} (config : Config) (files : FileDatabase Id) (d : Diagnostic Id) where
@@ -16,15 +16,13 @@ module _ {Id : Type 0} (config : Config) (files : FileDatabase Id) (d : Diagnost
   abbrev pub output_at : List Locus → Stream
   output_at loci = output config.display_style config config files d loci
 
-  -- the runs are those of the output with some loci; their texts, one after another, are its plain
-  -- text, and in rich style the output means the labels
+  -- the runs are those of the output; their texts, one after another, are its plain text
   pub record AreRuns (runs : List RunView) : Type 0 where
-    pub loci : List Locus
-    pub are_loci : AreLoci files d config.display_style loci
-    pub runs_are : runs ≡ runs_of (output_at loci)
-    pub text_is : joined runs ≡ text_of (output_at loci)
-    pub succeeds : Succeeds config files d config.display_style loci
-    pub means : config.display_style ≡ Rich → MeansLabels config config files d
+    pub stream : Stream
+    pub is_output : IsOutput config.display_style config config files d stream
+    pub runs_are : runs ≡ runs_of stream
+    pub text_is : joined runs ≡ text_of stream
+    pub succeeds : Succeeds config files d config.display_style is_output.loci
 
   -- the runs of the output are texts, where the characters of the configuration are Unicode scalar
   -- values, its files are lawful, and the names of the loci are texts: no style mark is inside a
@@ -32,7 +30,3 @@ module _ {Id : Type 0} (config : Config) (files : FileDatabase Id) (d : Diagnost
   abbrev pub RunsAreUtf8 : Type 0
   RunsAreUtf8 = CharsAreScalars config.chars → ((id : Id) → IsLawful (files.file id))
       → (loci : List Locus) → NamesAreUtf8 loci → TextsAreUtf8 (runs_of (output_at loci))
-
-  -- the call returns the runs of the output, or fails as `emit_into_string` does
-  abbrev pub EmitsRuns : {T : Type 0} → (T → List RunView) → Result T Error → Type 0
-  EmitsRuns runs r = MatchResult r (λ t. AreRuns (runs t)) (IsEmitError config files d)

@@ -1,7 +1,9 @@
 //! The output of a diagnostic as runs of text, each in one style.
 
+ghost use Rattle.std.specs.Prelude.{IfErr, IfOk};
+ghost use Rattle.codespan_views.specs.Output.{IsEmitError};
 ghost use Rattle.codespan_styled.specs.Runs.{styled_runs};
-ghost use Rattle.codespan_styled.specs.Outputs.{EmitsRuns};
+ghost use Rattle.codespan_styled.specs.Outputs.{AreRuns};
 
 pub mod laws;
 
@@ -43,7 +45,9 @@ pub fn styled_text<'files, F: Files<'files>>(
     files: &'files F,
     diagnostic: &Diagnostic<F::FileId>,
 ) -> Result<StyledText, Error>
-    ensures { EmitsRuns config.now (F.database files.now) diagnostic.now styled_runs result }
+    ensures ok { IfOk result (λ text.
+        AreRuns config.now (F.database files.now) diagnostic.now (styled_runs text)) }
+    ensures err { IfErr result (IsEmitError config.now (F.database files.now) diagnostic.now) }
 {
     // Does nothing: shows the prover that the characters are Unicode scalar values.
     chars_are_scalars(&config.chars);

@@ -14,7 +14,8 @@ use Rattle.codespan_picture.specs.Types.{DisplayStyle, Rich, Medium, Short, Conf
 use Rattle.codespan_picture.specs.Types.{Error}
 use Rattle.codespan_picture.specs.Rows.{Locus}
 use Rattle.codespan_picture.specs.Utf8Laws.{CharsAreScalars}
-use Rattle.codespan_views.specs.{FailsAtLabel, WrittenBefore, IsRendered, WritesStyled, WritesText}
+use Rattle.codespan_views.specs.{FailsAtLabel, WrittenBefore, IsRendered, TextMeansLabels}
+use Rattle.codespan_views.specs.{WritesStyled, WritesText}
 use Rattle.codespan_picture.proofs.PictureTexts.{text-output}
 
 -- a plain writer that was empty and received a stream has its text
@@ -91,12 +92,17 @@ module _ {Id : Type 0} {config : Config} {files : FileDatabase Id} {d : Diagnost
       → old ≡ fresh_sink plain_spelling (Some []) → new.contents ≡ Some bytes
       → IsRendered config files d bytes
   string_rendered rendered fresh contents = record {
-    loci = rendered.writes.loci;
-    are_loci = rendered.writes.are_loci;
-    text_is = written_text _ fresh contents rendered.writes.received;
-    succeeds = rendered.writes.on_end.1;
-    means = rendered.means;
+    stream = rendered.stream;
+    is_output = rendered.is_output;
+    text_is = written_text _ fresh contents rendered.received;
+    succeeds = rendered.on_end.1;
   }
+
+  -- a rich output that was rendered as text means the labels
+  pub text_means_labels : {bytes : List ℕ} → IsRendered config files d bytes
+      → config.display_style ≡ Rich → TextMeansLabels config files d bytes
+  text_means_labels rendered rich =
+      (rendered.stream, rendered.text_is, rendered.is_output.loci, rendered.is_output.means rich)
 
   -- and it is UTF-8
   pub text_is_utf8 : {old new : Sink} {bytes : List ℕ}
@@ -104,18 +110,20 @@ module _ {Id : Type 0} {config : Config} {files : FileDatabase Id} {d : Diagnost
       → old ≡ fresh_sink plain_spelling (Some []) → new.contents ≡ Some bytes
       → CharsAreScalars config.chars → ((id : Id) → IsLawful (files.file id)) → IsUtf8 bytes
   text_is_utf8 rendered fresh contents characters lawful =
-      subst IsUtf8 (sym (written_text _ fresh contents rendered.writes.received))
+      subst IsUtf8
+      (sym
+      (written_text _ fresh contents rendered.received ∙ ap text_of rendered.is_output.stream_is))
       (text-output files d lawful config.display_style config config characters
-      rendered.writes.loci rendered.writes.on_end.1.names_are_utf8).utf8
+      rendered.is_output.loci rendered.on_end.1.names_are_utf8).utf8
 
   -- a call writes through the references that it wrote through
   references_of : {old : Sink} (r : Result (Unit {0}) Error) {new : Sink}
       → WritesStyled config.display_style config config files d old r new
       → new.frame.borrows ≡ old.frame.borrows
-  references_of (Ok done) rendered = ap (λ (f : Frame). f.borrows) rendered.writes.on_end.0
+  references_of (Ok done) rendered = ap (λ (f : Frame). f.borrows) rendered.on_end.0
   references_of (Err e) rendered =
       ⊎_elim (λ w. ap (λ (f : Frame). f.borrows) w.1) (λ w. ap (λ (f : Frame). f.borrows) w.0)
-      rendered.writes.on_end.error_is
+      rendered.on_end.error_is
 
   -- a writer of plain text has received the output's text, or a prefix of it
   written : (old new : Sink) → old.frame.spelling ≡ plain_spelling → (r : Result (Unit {0}) Error)
@@ -123,28 +131,26 @@ module _ {Id : Type 0} {config : Config} {files : FileDatabase Id} {d : Diagnost
       → WritesText config files d old.contents r new.contents
   unfolding is_known
   written old new plain (Ok done) rendered = record {
-    loci = rendered.writes.loci;
-    are_loci = rendered.writes.are_loci;
-    received = λ known. text_written old new _ plain (rendered.writes.received known);
-    on_end = rendered.writes.on_end.1;
-    means = rendered.means;
+    stream = rendered.stream;
+    is_output = rendered.is_output;
+    received = λ known. text_written old new _ plain (rendered.received known);
+    on_end = rendered.on_end.1;
   }
   written old new plain (Err e) rendered = record {
-    loci = rendered.writes.loci;
-    are_loci = rendered.writes.are_loci;
-    received = λ known. text_prefix old new _ plain (rendered.writes.received known);
+    stream = rendered.stream;
+    is_output = rendered.is_output;
+    received = λ known. text_prefix old new _ plain (rendered.received known);
     on_end = record {
       error_is = ⊎_elim (λ w. inl (w.0, tt)) (λ w. inr (
         tt,
         w.1,
-        written_before-other files config d rendered.writes.loci
+        written_before-other files config d rendered.is_output.loci
             config.display_style e (λ same. ap (λ (x : Sink). x.contents) same)
             (λ ps wrote known. text_written old new _ plain (wrote known)) w.2,
       ))
-          rendered.writes.on_end.error_is;
-      early = λ rich p. ap (λ (x : Sink). x.contents) (rendered.writes.on_end.early rich p);
+          rendered.on_end.error_is;
+      early = λ rich p. ap (λ (x : Sink). x.contents) (rendered.on_end.early rich p);
     };
-    means = rendered.means;
   }
 
   -- an output that was rendered to a borrowed writer: the writer behind the reference has received

@@ -19,13 +19,14 @@ use Rattle.codespan_picture.specs.Picture.{headers_at, stated_locus}
 use Rattle.codespan_picture.specs.Rows.{Locus, Row}
 use Rattle.codespan_picture.specs.RowStreams.{stream_of_rows}
 use Rattle.codespan_picture.specs.Snippets.{LabelInFile, has_any, header_rows, primary_of}
-use Rattle.codespan_views.specs.{Succeeds, style_with_notes, WritesOutput}
+use Rattle.codespan_views.specs.{Succeeds, style_with_notes, WritesStyled}
 use Rattle.codespan_views.specs.Private.{IsLocusOfLabel, header_row_with_newline}
 use Rattle.codespan_core.proofs.Chains.{WroteStream, WrotePrefix, failed-before, failed-then}
 use Rattle.codespan_core.proofs.Chains.{writes-last, written-then}
 use Rattle.codespan_core.proofs.Writes.{PrefixWritten-first, PrefixWritten-last, with_written-nil}
 use Rattle.codespan_picture.proofs.Loci.{locus_there, zip_append, zip_each, zip_length, zip_map}
 use Rattle.codespan_picture.proofs.Loci.{zip_weaker}
+use Rattle.codespan_picture.proofs.RichLemmas.{other_output}
 use Rattle.codespan_views.proofs.FirstErrors.{all_succeed, first_error-none, first_error-some}
 use Rattle.codespan_views.proofs.HeaderStreams.{context, has_any-last, headers-last, no_loci, noted}
 use Rattle.codespan_views.proofs.HeaderStreams.{noted-after, primary_before, primary_from}
@@ -130,14 +131,14 @@ module _ {Id : Type 0} {config : Config} {files : FileDatabase Id} {d : Diagnost
     pub header_cut : {locus : Locus} {new : Sink} {e : Error}
         → IsLocusOfLabel files.file here locus → IsIo e
         → WrotePrefix mid (header_row_with_newline d (Some locus)) new
-        → WritesOutput Short config config files d old (Err e) new
+        → WritesStyled Short config config files d old (Err e) new
     header_cut {locus} {new} there io wrote =
         let cut = subst (λ (s : Stream). WrotePrefix old s new)
         (sym (short-some config d before.loci locus _))
         (failed-before _ (failed-then (headers_at config d before.loci) before.wrote wrote)) in
         record {
-          loci = loci_with locus;
-          are_loci = loci_with-are locus there.is_locus;
+          stream = _;
+          is_output = other_output _ (λ rich. cc) (loci_with-are locus there.is_locus);
           received = cut.1;
           on_end = record { error_is = inl (io, cut.0); early = λ rich. cc };
         }
@@ -154,12 +155,13 @@ module _ {Id : Type 0} {config : Config} {files : FileDatabase Id} {d : Diagnost
     pub lookup_failed : {e : Error}
         → (e ≢ OutOfMemory → e ≢ FormatError
         → first_error files.failure (header_lookups_of here) ≡ Some e)
-        → WritesOutput Short config config files d old (Err e) mid
+        → WritesStyled Short config config files d old (Err e) mid
     lookup_failed {e} known =
         let locus : Locus = stated_of here in
         record {
-          loci = loci_with locus;
-          are_loci = loci_with-are locus (locus_there (label_locus_byte files.file here));
+          stream = _;
+          is_output = other_output _ (λ rich. cc)
+              (loci_with-are locus (locus_there (label_locus_byte files.file here)));
           received = λ is_known.
               subst (λ (s : Stream). PrefixWritten old s mid)
               (sym (short-some config d before.loci locus _))
@@ -240,16 +242,16 @@ written_whole : {Id : Type 0} {style : DisplayStyle} {config : Config} {files : 
     {d : Diagnostic Id} {old new : Sink} {loci : List Locus} (r : Result (Unit {0}) Error)
     → (style ≡ Rich → ⊥) → AreLoci files d style loci → Succeeds config files d style loci
     → Writes old (output style config config files d loci) r new → IfErr r IsIo
-    → WritesOutput style config config files d old r new
-written_whole {loci = loci} (Ok x) other are succeeds writes io = record {
-  loci = loci;
-  are_loci = are;
+    → WritesStyled style config config files d old r new
+written_whole (Ok x) other are succeeds writes io = record {
+  stream = _;
+  is_output = other_output _ other are;
   received = writes.1;
   on_end = (writes.0, succeeds);
 }
-written_whole {loci = loci} (Err e) other are succeeds writes io = record {
-  loci = loci;
-  are_loci = are;
+written_whole (Err e) other are succeeds writes io = record {
+  stream = _;
+  is_output = other_output _ other are;
   received = writes.1;
   on_end = record { error_is = inl (io, writes.0); early = λ rich. absurd (other rich) };
 }
@@ -260,7 +262,7 @@ module _ {Id : Type 0} {config : Config} {files : FileDatabase Id} {d : Diagnost
   -- no lookup failed, so what is written is an output where it has these headers
   whole : {new : Sink} (r : Result (Unit {0}) Error)
       → Writes old (short config d written.loci) r new → IfErr r IsIo
-      → WritesOutput Short config config files d old r new
+      → WritesStyled Short config config files d old r new
   whole r writes io =
       written_whole r (λ rich. cc) (label_loci files d written.loci written.are)
       (record {
@@ -272,7 +274,7 @@ module _ {Id : Type 0} {config : Config} {files : FileDatabase Id} {d : Diagnost
 
   -- there are some
   pub headers_written : has_header ≡ true
-      → WritesOutput Short config config files d old (Ok tt) mid
+      → WritesStyled Short config config files d old (Ok tt) mid
   headers_written some =
       whole (Ok tt)
       (subst
@@ -284,7 +286,7 @@ module _ {Id : Type 0} {config : Config} {files : FileDatabase Id} {d : Diagnost
   -- there are none, and then a header without a locus was written
   pub bare_header : {new : Sink} (r : Result (Unit {0}) Error) → has_header ≡ false
       → Writes mid (header_row_with_newline d None) r new → IfErr r IsIo
-      → WritesOutput Short config config files d old r new
+      → WritesStyled Short config config files d old r new
   bare_header {new} r none writes io =
       let nowhere : written.loci ≡ [] =
       no_loci (IsLocusOfLabel files.file) (primary_labels d) written.loci
@@ -299,45 +301,42 @@ module _ {Id : Type 0} {config : Config} {files : FileDatabase Id} {d : Diagnost
 
 -- ---- the notes after them
 
--- neither style is the rich one
-pub not_rich : (show_notes : Bool) → style_with_notes show_notes ≡ Rich → ⊥
-not_rich true rich = cc
-not_rich false rich = cc
-
 -- the headers were cut short, with the notes after them or not
 pub cut_before_notes : {Id : Type 0} {config : Config} {files : FileDatabase Id}
     {d : Diagnostic Id} {old new : Sink} {e : Error} (show_notes : Bool)
-    → WritesOutput Short config config files d old (Err e) new
-    → WritesOutput (style_with_notes show_notes) config config files d old (Err e) new
+    → WritesStyled Short config config files d old (Err e) new
+    → WritesStyled (style_with_notes show_notes) config config files d old (Err e) new
 cut_before_notes false rendered = rendered
 cut_before_notes {config = config} {d = d} {old = old} {new = new} true rendered = record {
-  loci = rendered.loci;
-  are_loci = rendered.are_loci;
+  stream = _;
+  is_output = other_output {style = Medium} _ (λ rich. cc) rendered.is_output.are_loci;
   received = λ known.
       subst (λ (s : Stream). PrefixWritten old s new)
-      (sym (noted-after config d (header_rows (header_text_of d) rendered.loci)))
-      (PrefixWritten-first old (short config d rendered.loci) new (noted config d)
-      (rendered.received known));
+      (sym (noted-after config d (header_rows (header_text_of d) rendered.is_output.loci)))
+      (PrefixWritten-first old (short config d rendered.is_output.loci) new (noted config d)
+      (subst (λ (s : Stream). PrefixWritten old s new) rendered.is_output.stream_is
+      (rendered.received known)));
   on_end = record { error_is = rendered.on_end.error_is; early = λ rich. cc };
 }
 
 -- the headers have been written, and then the notes were, by an equal configuration
 pub medium_written : {Id : Type 0} {config now : Config} {files : FileDatabase Id}
     {d : Diagnostic Id} {old mid new : Sink} (r : Result (Unit {0}) Error)
-    → WritesOutput Short config config files d old (Ok tt) mid → now ≡ config
+    → WritesStyled Short config config files d old (Ok tt) mid → now ≡ config
     → Writes mid (noted now d) r new → IfErr r IsIo
-    → WritesOutput Medium config config files d old r new
+    → WritesStyled Medium config config files d old r new
 medium_written {config = config} {d = d} {old = old} {mid = mid} {new = new} r rendered equal writes
     io =
     let succeeds = rendered.on_end.1 in
-    written_whole r (λ rich. cc) rendered.are_loci
+    written_whole r (λ rich. cc) rendered.is_output.are_loci
     (record {
       lookups_succeed = succeeds.lookups_succeed;
       names_are_utf8 = succeeds.names_are_utf8;
     })
     (subst (λ (s : Stream). Writes old s r new)
-    (sym (noted-after config d (header_rows (header_text_of d) rendered.loci)))
-    (writes-last old (short config d rendered.loci) (noted config d) new r
-    (rendered.on_end.0, rendered.received)
+    (sym (noted-after config d (header_rows (header_text_of d) rendered.is_output.loci)))
+    (writes-last old (short config d rendered.is_output.loci) (noted config d) new r
+    (subst (λ (s : Stream). WroteStream old s mid) rendered.is_output.stream_is
+    (rendered.on_end.0, rendered.received))
     (subst (λ (k : Config). Writes mid (noted k d) r new) equal writes)))
     io

@@ -1,25 +1,28 @@
 -- Rendering in rich style, what has been written for each way to end: for the clause `renders` of
 -- `RichDiagnostic::render`.
 use Rattle.codespan_core.proofs.Std.{◌≡◌, ◌≢◌, ◌<◌, List, [], ◌++◌, length, None, Some, Ok, Err}
-use Rattle.codespan_core.proofs.Std.{Result, inl, inr, refl, sym, subst, ap, ◌∙◌, arith, ⊎_elim}
+use Rattle.codespan_core.proofs.Std.{Result, inl, inr, refl, sym, ap, ◌∙◌, arith, ⊎_elim}
 use Rattle.codespan_core.proofs.Std.{length-append, IfErr, Option, AllZip}
 use Rattle.codespan_core.specs.Errors.{IsIo}
 use Rattle.codespan_core.specs.FileModel.{FileDatabase, Lookup}
 use Rattle.codespan_core.specs.Streams.{Stream}
 use Rattle.codespan_core.specs.WriterLaw.{Sink, PrefixWritten, Writes}
 use Rattle.codespan_picture.specs.Types.{Config, Diagnostic, Error, FormatError, OutOfMemory, Rich}
-use Rattle.codespan_picture.specs.OutputStreams.{files_of, labels_of, output}
+use Rattle.codespan_picture.specs.OutputStreams.{NamesAreUtf8, files_of, labels_of, output}
 use Rattle.codespan_picture.specs.Picture.{stated_loci}
 use Rattle.codespan_picture.specs.Rows.{Locus}
 use Rattle.codespan_picture.specs.Lookups.{early_lookups, late_lookups, first_error}
-use Rattle.codespan_views.specs.{WritesOutput}
+use Rattle.codespan_picture.specs.RichLaws.{IsOutput}
+use Rattle.codespan_views.specs.{WritesStyled}
 use Rattle.codespan_views.specs.Private.{FailedWithLookups, WritesWithLookups, IsLocusOfFile}
 use Rattle.codespan_views.specs.Private.{late_failure}
-use Rattle.codespan_core.proofs.Chains.{WroteStream, WrotePrefix}
+use Rattle.codespan_core.proofs.Chains.{WrotePrefix}
 use Rattle.codespan_core.proofs.KnownBytes.{extended-nil}
 use Rattle.codespan_picture.proofs.Loci.{stated_are_loci}
+use Rattle.codespan_picture.proofs.RichLemmas.{rich_output}
 use Rattle.codespan_views.proofs.EmitErrors.{some_fails}
 use Rattle.codespan_views.proofs.FirstErrors.{first_error-some, first_error-none, all_succeed}
+use Rattle.codespan_views.proofs.LabelIndexing.{AreFiles}
 use Rattle.codespan_views.proofs.OutputLoci.{file_loci, file_texts}
 
 -- nothing has been written, which is a prefix of everything
@@ -48,22 +51,34 @@ module _ {Id : Type 0} (view_config : Config) (files : FileDatabase Id) (d : Dia
   abbrev pub early_failure : Option Error
   early_failure = first_error files.failure before_header
 
--- the stream is a rich output, with some loci of its snippets
-pub record IsOutput {Id : Type 0} (renderer_config view_config : Config) (files : FileDatabase Id)
-    (d : Diagnostic Id) (items : Stream) : Type 0 where
-  pub loci : List Locus
-  pub are : AllZip IsLocusOfFile (files_of files d) loci
-  pub is : items ≡ output Rich renderer_config view_config files d loci
+-- the stream is a rich output, with loci whose names are texts
+pub record IsRichOutput {Id : Type 0} (renderer_config view_config : Config)
+    (files : FileDatabase Id) (d : Diagnostic Id) (items : Stream) : Type 0 where
+  pub is_output : IsOutput Rich renderer_config view_config files d items
+  pub names_are_utf8 : NamesAreUtf8 is_output.loci
 
 module _ {Id : Type 0} {renderer_config view_config : Config} {files : FileDatabase Id}
     {d : Diagnostic Id} where
+  -- a rich output over lawful files, with loci of its snippets
+  pub output_with : {items : Stream} (loci : List Locus) → AreFiles files
+      → AllZip IsLocusOfFile (files_of files d) loci
+      → items ≡ output Rich renderer_config view_config files d loci
+      → IsRichOutput renderer_config view_config files d items
+  output_with loci lawful are is = record {
+    is_output = rich_output renderer_config view_config files d lawful.equivalence lawful.has_line
+        loci (file_loci files d loci are) is;
+    names_are_utf8 = file_texts files d loci are;
+  }
+
   -- a lookup before the header failed: nothing has been written
-  pub failed_early : {s : Sink} {e : Error} → 0 < length (before_header view_config files d)
+  pub failed_early : {s : Sink} {e : Error} → AreFiles files
+      → 0 < length (before_header view_config files d)
       → (e ≢ OutOfMemory → e ≢ FormatError → early_failure view_config files d ≡ Some e)
-      → WritesOutput Rich renderer_config view_config files d s (Err e) s
-  failed_early {s} {e} some known = record {
-    loci = stated_loci files d Rich;
-    are_loci = stated_are_loci files d Rich;
+      → WritesStyled Rich renderer_config view_config files d s (Err e) s
+  failed_early {s} {e} lawful some known = record {
+    stream = _;
+    is_output = rich_output renderer_config view_config files d lawful.equivalence lawful.has_line
+        (stated_loci files d Rich) (stated_are_loci files d Rich) refl;
     received = λ are_known. PrefixWritten-none s _ s refl;
     on_end = record {
       error_is = inr (
@@ -83,14 +98,14 @@ module _ {Id : Type 0} {renderer_config view_config : Config} {files : FileDatab
   }
 
   module _ {items : Stream} {old new : Sink} (succeeded : early_failure view_config files d ≡ None)
-      (of : IsOutput renderer_config view_config files d items) where
+      (of : IsRichOutput renderer_config view_config files d items) where
     -- the writer failed
     failed_by_writer : {e : Error} → IsIo e → WrotePrefix old items new
-        → WritesOutput Rich renderer_config view_config files d old (Err e) new
+        → WritesStyled Rich renderer_config view_config files d old (Err e) new
     failed_by_writer io wrote = record {
-      loci = of.loci;
-      are_loci = file_loci files d of.loci of.are;
-      received = (subst (λ (s : Stream). WrotePrefix old s new) of.is wrote).1;
+      stream = items;
+      is_output = of.is_output;
+      received = wrote.1;
       on_end = record {
         error_is = inl (io, wrote.0);
         early = λ rich p. absurd (some_fails files (before_header view_config files d) succeeded p);
@@ -100,12 +115,11 @@ module _ {Id : Type 0} {renderer_config view_config : Config} {files : FileDatab
     -- a lookup after the header failed
     failed_late : {e : Error} → 0 < length (after_header view_config files d)
         → FailedWithLookups (late_failure view_config files d) old items e new
-        → WritesOutput Rich renderer_config view_config files d old (Err e) new
+        → WritesStyled Rich renderer_config view_config files d old (Err e) new
     failed_late {e} some failed = record {
-      loci = of.loci;
-      are_loci = file_loci files d of.loci of.are;
-      received = λ known. subst (λ (s : Stream). PrefixWritten old s new) of.is
-          (failed.prefix known);
+      stream = items;
+      is_output = of.is_output;
+      received = failed.prefix;
       on_end = record {
         error_is = inr (
           failed.frame,
@@ -126,11 +140,11 @@ module _ {Id : Type 0} {renderer_config view_config : Config} {files : FileDatab
     -- the output was written or cut short, and no lookup failed
     pub finished : (r : Result (Unit {0}) Error) → late_failure view_config files d ≡ None
         → Writes old items r new → IfErr r IsIo
-        → WritesOutput Rich renderer_config view_config files d old r new
+        → WritesStyled Rich renderer_config view_config files d old r new
     finished (Ok x) succeeded_late wrote io = record {
-      loci = of.loci;
-      are_loci = file_loci files d of.loci of.are;
-      received = (subst (λ (s : Stream). WroteStream old s new) of.is wrote).1;
+      stream = items;
+      is_output = of.is_output;
+      received = wrote.1;
       on_end = (
         wrote.0,
         record {
@@ -138,7 +152,7 @@ module _ {Id : Type 0} {renderer_config view_config : Config} {files : FileDatab
               (before_header view_config files d ++ after_header view_config files d)
               (first_error-none files.failure (before_header view_config files d)
               (after_header view_config files d) succeeded ∙ succeeded_late);
-          names_are_utf8 = file_texts files d of.loci of.are;
+          names_are_utf8 = of.names_are_utf8;
         },
       );
     }
@@ -147,7 +161,7 @@ module _ {Id : Type 0} {renderer_config view_config : Config} {files : FileDatab
     -- the output was rendered, with the lookups after its header, however that ended
     pub rendered : (r : Result (Unit {0}) Error) → 0 < length (after_header view_config files d)
         → WritesWithLookups (late_failure view_config files d) old items r new
-        → WritesOutput Rich renderer_config view_config files d old r new
+        → WritesStyled Rich renderer_config view_config files d old r new
     rendered (Ok x) some run = finished (Ok x) run.ends.0 run.ends.1 tt
     rendered (Err e) some run =
         ⊎_elim (λ (w : IsIo e × WrotePrefix old items new). failed_by_writer w.0 w.1)

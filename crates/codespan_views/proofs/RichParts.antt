@@ -20,16 +20,15 @@ use Rattle.codespan_views.specs.Private.{Collected, IsLookedUpEarly, loci_view, 
 use Rattle.codespan_views.specs.Private.{WritesWithLookups, IsLocusOfFile, RendersSnippets}
 use Rattle.codespan_views.specs.Private.{closing_rows, header_row_with_newline, late_failure}
 use Rattle.codespan_views.specs.Private.{snippet_rows}
-use Rattle.codespan_views.specs.{WritesOutput, WritesStyled}
+use Rattle.codespan_views.specs.{WritesStyled}
 use Rattle.codespan_core.proofs.Chains.{WroteStream, WrotePrefix, failed-before}
-use Rattle.codespan_picture.proofs.RichLemmas.{output_means_labels}
 use Rattle.codespan_views.proofs.CollectedFiles.{loci-of_all}
 use Rattle.codespan_views.proofs.EarlyErrors.{labels-failed, labels-succeeded, later_failure}
 use Rattle.codespan_views.proofs.FirstErrors.{or_failure-none}
 use Rattle.codespan_views.proofs.LabelIndexing.{AreFiles}
 use Rattle.codespan_views.proofs.LookupRuns.{run_as, run_cut, run_of_writes, run_then}
-use Rattle.codespan_views.proofs.Renderings.{IsOutput, early_failure, failed_early, finished}
-use Rattle.codespan_views.proofs.Renderings.{rendered}
+use Rattle.codespan_views.proofs.Renderings.{IsRichOutput, early_failure, failed_early, finished}
+use Rattle.codespan_views.proofs.Renderings.{output_with, rendered}
 
 -- where there is a label there is a lookup before the header
 some_early : {Id : Type 0} (files : FileDatabase Id) (view_config : Config) (ls : List (Label Id))
@@ -43,16 +42,6 @@ some_late : {Id : Type 0} (files : FileDatabase Id) (view_config : Config) (ls :
 some_late files view_config [] some = absurd (omega arith)
 some_late files view_config (l ∷ ls) some = omega arith
 
--- what is written means the labels, whether there are any or not
-meaning : {Id : Type 0} {renderer_config view_config : Config} {files : FileDatabase Id}
-    {d : Diagnostic Id} {old new : Sink} {r : Result (Unit {0}) Error} → AreFiles files
-    → WritesOutput Rich renderer_config view_config files d old r new
-    → WritesStyled Rich renderer_config view_config files d old r new
-meaning lawful writes = record {
-  writes = writes;
-  means = λ rich. output_means_labels _ _ _ _ lawful.equivalence lawful.has_line;
-}
-
 -- without labels the output is its header and its notes
 pub bare-whole : {Id : Type 0} {renderer_config view_config : Config} {files : FileDatabase Id}
     {d : Diagnostic Id} {old new : Sink} (r : Result (Unit {0}) Error) → AreFiles files
@@ -65,24 +54,21 @@ pub bare-whole : {Id : Type 0} {renderer_config view_config : Config} {files : F
 bare-whole {renderer_config = renderer_config} {view_config = view_config} {files = files} {d = d}
     r lawful no_labels writes io =
     let none : labels_of d ≡ [] = ap (map label_of) (nil_from_length d.labels.items no_labels) in
-    meaning lawful
-    (finished
+    finished
     (ap (λ (xs : List (LabelInFile _)). first_error files.failure
     (early_lookups files xs view_config)) none)
-    (record {
-      loci = [];
-      are = subst (λ (xs : List (LabelInFile _)). AllZip IsLocusOfFile
-          (labeled_file_models files.same files.file xs) []) (sym none) tt;
-      is = ap (λ (xs : List (LabelInFile _)). stream_of_rows
-          (context_of renderer_config d.severity
-          (padding_of view_config (labeled_file_models files.same files.file xs)))
-          (HeaderRow None (header_text_of d) ∷ (note_rows (notes_of d) ++ (FinalRow ∷ []))))
-          (sym none);
-    })
+    (output_with [] lawful
+    (subst (λ (xs : List (LabelInFile _)). AllZip IsLocusOfFile
+    (labeled_file_models files.same files.file xs) []) (sym none) tt)
+    (ap (λ (xs : List (LabelInFile _)). stream_of_rows
+    (context_of renderer_config d.severity
+    (padding_of view_config (labeled_file_models files.same files.file xs)))
+    (HeaderRow None (header_text_of d) ∷ (note_rows (notes_of d) ++ (FinalRow ∷ []))))
+    (sym none)))
     r
     (ap (λ (xs : List (LabelInFile _)). first_error files.failure
     (late_lookups files xs view_config)) none)
-    writes io)
+    writes io
 
 -- ---- before the header
 
@@ -119,10 +105,9 @@ module _ {Id : Type 0} {view_config : Config} {database : FileDatabase Id} {d : 
       → labels_failure view_config database (map label_of source_labels) ≡ Some e)
       → WritesStyled Rich renderer_config view_config database d s (Err e) s
   failed-collecting {e = e} known =
-      meaning lawful
-      (failed_early (some_early database view_config d.labels.items some)
+      failed_early lawful (some_early database view_config d.labels.items some)
       (λ memory display. ap (early_of database view_config) (sym source_labels_are)
-      ∙ labels-failed database view_config (map label_of source_labels) e (known memory)))
+      ∙ labels-failed database view_config (map label_of source_labels) e (known memory))
 
   module _ (succeeded : labels_failure view_config database (map label_of source_labels) ≡ None)
     where
@@ -132,10 +117,9 @@ module _ {Id : Type 0} {view_config : Config} {database : FileDatabase Id} {d : 
           → later_failure database view_config (map label_of source_labels) ≡ Some e)
           → WritesStyled Rich renderer_config view_config database d s (Err e) s
       failed-looking_up known =
-          meaning lawful
-          (failed_early (some_early database view_config d.labels.items some)
+          failed_early lawful (some_early database view_config d.labels.items some)
           (λ memory display. early-is view_config database source_labels_are succeeded
-          ∙ known memory display))
+          ∙ known memory display)
 
       -- all of these lookups succeed
       pub ready : {numbers : List ℕ} {collected : Collected Id}
@@ -173,25 +157,21 @@ module _ {Id : Type 0} (renderer_config : Config) {view_config : Config}
   end = rows_by renderer_config (closing_rows d)
 
   -- all of these are an output
-  output-is : IsOutput renderer_config view_config database d ((header ++ middle) ++ end)
+  output-is : IsRichOutput renderer_config view_config database d ((header ++ middle) ++ end)
   output-is =
       let rows = snippet_rows view_config database d collected in
       let context = context_of renderer_config d.severity collected.padding.digit_count in
-      record {
-        loci = loci_view collected.files.items;
-        are = loci-of_all ready.lawful ready.looked_up.collected_is ready.looked_up.loci;
-        is = sym
-            (ap
-            (λ n. stream_of_rows (context_of renderer_config d.severity n)
-            ((HeaderRow None (header_text_of d) ∷ rows) ++ note_rows (notes_of d)
-            ++ (FinalRow ∷ [])))
-            (sym ready.looked_up.padding_is)
-            ∙ ap (stream_of_rows context) (append_assoc (HeaderRow None (header_text_of d) ∷ rows)
-            (note_rows (notes_of d)) (FinalRow ∷ []))
-            ∙ flat_map-append (λ row. stream_of context row ++ newline)
-            (HeaderRow None (header_text_of d) ∷ rows)
-            (note_rows (notes_of d) ++ (FinalRow ∷ [])));
-      }
+      output_with (loci_view collected.files.items) ready.lawful
+      (loci-of_all ready.lawful ready.looked_up.collected_is ready.looked_up.loci)
+      (sym
+      (ap
+      (λ n. stream_of_rows (context_of renderer_config d.severity n)
+      ((HeaderRow None (header_text_of d) ∷ rows) ++ note_rows (notes_of d) ++ (FinalRow ∷ [])))
+      (sym ready.looked_up.padding_is)
+      ∙ ap (stream_of_rows context) (append_assoc (HeaderRow None (header_text_of d) ∷ rows)
+      (note_rows (notes_of d)) (FinalRow ∷ []))
+      ∙ flat_map-append (λ row. stream_of context row ++ newline)
+      (HeaderRow None (header_text_of d) ∷ rows) (note_rows (notes_of d) ++ (FinalRow ∷ []))))
 
   -- the whole was rendered, with the lookups after the header, however that ended
   whole : {old new : Sink} (r : Result (Unit {0}) Error)
@@ -199,9 +179,8 @@ module _ {Id : Type 0} (renderer_config : Config) {view_config : Config}
       new
       → WritesStyled Rich renderer_config view_config database d old r new
   whole r run =
-      meaning ready.lawful
-      (rendered ready.early output-is r
-      (some_late database view_config d.labels.items ready.some) run)
+      rendered ready.early output-is r
+      (some_late database view_config d.labels.items ready.some) run
 
   -- the header was cut short
   pub failed-in_header : {old new : Sink} {e : Error} → WrotePrefix old header new → IsIo e

@@ -1,7 +1,9 @@
 //! The five calls that emit a diagnostic.
 
-ghost use Rattle.std.specs.Prelude.{string_bytes};
-ghost use Rattle.codespan_views.specs.Output.{Appends, Emits};
+ghost use Rattle.std.specs.Prelude.{IfErr, IfOk, OnErr, OnOk, string_bytes, ◌≡◌};
+ghost use Rattle.codespan_core.specs.declared.term.config.DisplayStyle.TheVariants.{Rich};
+ghost use Rattle.codespan_views.specs.Output.{IsAppended, IsEmitError, IsRendered};
+ghost use Rattle.codespan_views.specs.Output.{TextMeansLabels};
 ghost use Rattle.codespan_views.specs.WriteCalls.{WritesStyled, WritesText};
 
 use crate::rich::RichDiagnostic;
@@ -62,7 +64,11 @@ pub fn emit_into_string<'files, F: Files<'files>>(
     files: &'files F,
     diagnostic: &Diagnostic<F::FileId>,
 ) -> Result<String, Error>
-    ensures { Emits config.now (F.database files.now) diagnostic.now string_bytes result }
+    ensures ok { IfOk result (λ text.
+        IsRendered config.now (F.database files.now) diagnostic.now (string_bytes text)) }
+    ensures means { config.now.display_style ≡ Rich → IfOk result (λ text.
+        TextMeansLabels config.now (F.database files.now) diagnostic.now (string_bytes text)) }
+    ensures err { IfErr result (IsEmitError config.now (F.database files.now) diagnostic.now) }
 {
     // Does nothing: shows the prover that the characters are Unicode scalar values.
     chars_are_scalars(&config.chars);
@@ -101,8 +107,10 @@ pub fn emit_to_string<'files, F: Files<'files>>(
     files: &'files F,
     diagnostic: &Diagnostic<F::FileId>,
 ) -> Result<(), Error>
-    ensures { Appends config.now (F.database files.now)
-        diagnostic.now (string_bytes string.old) result (string_bytes string.new) }
+    ensures ok { OnOk result (IsAppended config.now (F.database files.now) diagnostic.now
+        (string_bytes string.old) (string_bytes string.new)) }
+    ensures err { IfErr result (IsEmitError config.now (F.database files.now) diagnostic.now) }
+    ensures unchanged { OnErr result (string_bytes string.new ≡ string_bytes string.old) }
 {
     let text = emit_into_string(config, files, diagnostic)?;
     string.push_str(text.as_str())?;

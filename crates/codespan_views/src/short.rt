@@ -2,7 +2,7 @@
 
 ghost use Rattle.codespan_core.specs.declared.term.config.DisplayStyle.TheVariants.{Short};
 ghost use Rattle.codespan_renderer.specs.Renderers.{SameRenderer, config_of, writer_of};
-ghost use Rattle.codespan_views.specs.WriteCalls.{WritesOutput, WritesStyled};
+ghost use Rattle.codespan_views.specs.WriteCalls.{WritesStyled};
 ghost use Rattle.std.specs.Prelude.{◌≡◌};
 
 use crate::labeled_files::is_primary;
@@ -107,7 +107,7 @@ fn render_headers<'files, F: Files<'files>, W: WriteStyle>(
     renderer: &mut Renderer<'_, '_, W>,
 ) -> Result<(), Error>
     ensures same { SameRenderer renderer.old renderer.new }
-    ensures renders { WritesOutput Short (config_of renderer.old) (config_of renderer.old)
+    ensures renders { WritesStyled Short (config_of renderer.old) (config_of renderer.old)
         (F.database files.now) diagnostic.now
         (W.sink (writer_of renderer.old)) result (W.sink (writer_of renderer.new)) }
 {

@@ -13,7 +13,7 @@ use Rattle.codespan_picture.specs.OutputStreams.{labels_of}
 use Rattle.codespan_picture.specs.Snippets.{LabelInFile}
 use Rattle.codespan_picture.specs.StatedNames.{NamesAreStated}
 use Rattle.codespan_picture.proofs.StatedNames.{output_stated}
-use Rattle.codespan_styled.specs.Outputs.{EmitsRuns}
+use Rattle.codespan_styled.specs.Outputs.{AreRuns}
 use Rattle.codespan_styled.specs.Runs.{RunView, runs_of}
 use Rattle.gallery_cases.specs.Documents.{AreRunsOver}
 use Rattle.gallery_cases.specs.Database.{BorrowedFile}
@@ -21,16 +21,18 @@ use Rattle.gallery_cases.specs.Database.{BorrowedFile}
 module _ {Id : Type 0} (config : Config) (files : FileDatabase Id) (d : Diagnostic Id) where
   -- where names are stated, the runs of an output with some loci are those of the output
   pub stated_runs : {T : Type 0} (runs : T → List RunView) (r : Result T Error)
-      → EmitsRuns config files d runs r → NamesAreStated files d
+      → IfOk r (λ t. AreRuns config files d (runs t)) → NamesAreStated files d
       → IfOk r (λ t. AreRunsOver config files d (runs t))
-  stated_runs runs (Ok t) emits stated = record {
-    lookups_succeed = emits.succeeds.lookups_succeed;
+  stated_runs runs (Ok t) are stated = record {
+    lookups_succeed = are.succeeds.lookups_succeed;
     are =
-        emits.runs_are
+        are.runs_are
         ∙ ap runs_of
-        (output_stated files d stated config.display_style config config emits.loci emits.are_loci);
+        (are.is_output.stream_is
+        ∙ output_stated files d stated config.display_style config config are.is_output.loci
+        are.is_output.are_loci);
   }
-  stated_runs runs (Err error) emits stated = tt
+  stated_runs runs (Err error) are stated = tt
 
 -- the names of the files of a database are stated
 pub stated_in_database : (files : List BorrowedFile) (diagnostic : Diagnostic ℕ) (x : LabelInFile ℕ)

@@ -10,7 +10,7 @@ use Rattle.codespan_core.specs.Streams.{text_of}
 use Rattle.codespan_picture.specs.Types.{Diagnostic, Error, Config, DisplayStyle}
 use Rattle.codespan_picture.specs.Lookups.{Failures}
 use Rattle.codespan_picture.specs.ViewPictures.{picture_of_diagnostic_view}
-use Rattle.codespan_views.specs.Output.{Emits, IsRendered}
+use Rattle.codespan_views.specs.Output.{IsRendered}
 use Rattle.codespan_picture.proofs.StatedNames.{output_stated}
 use Rattle.codespan_picture.proofs.ViewPictures.{picture-of_view}
 use Rattle.report.specs.RenderedTexts.{report_config, only_file, output_text}
@@ -44,8 +44,9 @@ module _ (d : Diagnostic (Unit {0})) where
       let plain = report_config config.display_style in
       is_rendered.text_is
       ∙ ap text_of
-      (output_stated (table_at name source failure) d (λ x has. refl) config.display_style config
-      config is_rendered.loci is_rendered.are_loci)
+      (is_rendered.is_output.stream_is
+      ∙ output_stated (table_at name source failure) d (λ x has. refl) config.display_style config
+      config is_rendered.is_output.loci is_rendered.is_output.are_loci)
       ∙ ap text_of (picture-of_view plain config (table_at name source failure) d equal)
       ∙ ap
       (λ m. text_of
@@ -58,7 +59,7 @@ module _ (d : Diagnostic (Unit {0})) where
   pub rendered_result : {T : Type 0} (style : DisplayStyle) (text : T → List ℕ)
       (name source : List ℕ) (config : Config) (failure : Failures (Unit {0})) (r : Result T Error)
       → IsEqualConfig (report_config style) config
-      → Emits config (table_at name source failure) d text r
+      → IfOk r (λ t. IsRendered config (table_at name source failure) d (text t))
       → (named contents : List ℕ) → name ≡ named → source ≡ contents
       → IfOk r (λ t. text t ≡ output_text style named contents (diagnostic_view d))
   rendered_result style text name source config failure (Ok

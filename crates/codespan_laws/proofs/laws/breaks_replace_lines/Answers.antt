@@ -3,4 +3,6 @@ use Rattle.codespan_picture.proofs.BreakLemmas as breaks
 use Rattle.codespan_laws.proofs.laws.breaks_replace_lines.Goals as goal
 
 pub returns : goal.returns
-returns c = λ config s. breaks.breaks_replace_lines config s (rows_of_shown_lines config s)
+returns c =
+    λ config locus followed s. breaks.breaks_replace_lines config locus followed s
+    (rows_of_shown_lines config s)

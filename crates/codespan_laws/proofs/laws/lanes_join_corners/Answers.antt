@@ -2,4 +2,6 @@ use Rattle.codespan_picture.proofs.LaneLineRuns as lanes
 use Rattle.codespan_laws.proofs.laws.lanes_join_corners.Goals as goal
 
 pub returns : goal.returns
-returns c = λ config layout s ordered. lanes.lanes_join_corners config layout s ordered
+returns c =
+    λ config layout locus followed s ordered. lanes.lanes_join_corners config layout locus followed
+    s ordered

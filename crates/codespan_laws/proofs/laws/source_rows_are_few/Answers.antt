@@ -2,4 +2,4 @@ use Rattle.codespan_picture.proofs.RowBoundLemmas.{source_rows_few}
 use Rattle.codespan_laws.proofs.laws.source_rows_are_few.Goals as goal
 
 pub returns : goal.returns
-returns c = λ config s. source_rows_few config s
+returns c = λ config locus followed s. source_rows_few config locus followed s

@@ -21,5 +21,5 @@ returns c =
           ∙ ap (λ (a : Ansi (Vec ℕ Global)). (ansi_inner a).items) c.into_inner.ensures
           ∙ text_after spelling _ _ stream first _ begins written refl
           ∙ ap (λ (v : Vec ℕ Global). v.items ++ spelled spelling stream) c.new.ensures;
-      means = c.in_ok-write_to.ensures.means;
+      is_output = c.in_ok-write_to.ensures.is_output;
     }

@@ -15,5 +15,5 @@ returns c =
     record {
       value = ap (λ (v : Vec ℕ Global). v.items) c.into_inner.ensures
           ∙ text_after style_mark_spelling _ _ stream first _ begins written refl;
-      means = c.in_ok-write_to.ensures.means;
+      is_output = c.in_ok-write_to.ensures.is_output;
     }

@@ -2,12 +2,12 @@ use Rattle.std.proofs.Common.{rules, refl, inl, subst, sym, ◌∙◌}
 use Rattle.codespan_base.specs.declared.files.Error.{Error}
 use Rattle.codespan_base.specs.LawfulFiles.{IsLawful}
 use Rattle.codespan_views.specs.Output.{IsEmitError}
-use Rattle.codespan_styled.proofs.Rendering.{error_emitted, runs_emitted}
+use Rattle.codespan_styled.proofs.Rendering.{error_emitted, memory_error, runs_emitted}
 use Rattle.codespan_styled.proofs.render.styled_text.Goals.{then-has_failed, else-has_failed}
 use Rattle.codespan_styled.proofs.render.styled_text.Goals as goal
 
-pub returns-in-Ok : goal.returns-in-Ok
-returns-in-Ok g c =
+pub returns-in-Ok-clause-ok : goal.returns-in-Ok-clause-ok
+returns-in-Ok-clause-ok g c =
     let file = ((g.F.Files.database c.args.files.now).file) in
     let claim : g.claim c.lifetimes = search rules in
     let lawful : (id : g.row.F-FileId.Denot) → IsLawful (file id) =
@@ -15,9 +15,14 @@ returns-in-Ok g c =
     runs_emitted c.into_text.result c.in-Ok.ensures c.new-recorder.ensures refl
     c.chars_are_scalars.ensures lawful c.into_text.ensures
 
+pub returns-in-Ok-clause-err : goal.returns-in-Ok-clause-err
+returns-in-Ok-clause-err g c =
+    memory_error c.args.config.now (g.F.Files.database c.args.files.now) c.args.diagnostic.now _
+    c.into_text.result c.into_text.ensures
+
 -- the error is `OutOfMemory` where the writer has failed, and else one of lookups
-pub returns-after-has_failed : goal.returns-after-has_failed
-returns-after-has_failed g c =
+pub returns-after-has_failed-clause-err : goal.returns-after-has_failed-clause-err
+returns-after-has_failed-clause-err g c =
     let IsError : Error → Type 0 =
     IsEmitError c.args.config.now (g.F.Files.database c.args.files.now) c.args.diagnostic.now in
     elim c.if-has_failed.branch [

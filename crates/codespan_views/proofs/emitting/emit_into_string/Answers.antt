@@ -4,6 +4,7 @@ use Rattle.codespan_core.specs.Streams.{plain_spelling}
 use Rattle.codespan_core.specs.WriterLaw.{Sink}
 use Rattle.codespan_core.specs.Writers.{fresh_sink}
 use Rattle.codespan_views.proofs.EmittedOutputs.{string_rendered, text_is_utf8}
+use Rattle.codespan_views.proofs.EmittedOutputs.{text_means_labels}
 use Rattle.codespan_views.proofs.emitting.emit_into_string.Goals as goal
 
 -- a writer of plain text over an empty buffer begins with nothing
@@ -22,7 +23,13 @@ from_utf8_unchecked-requires g c =
     (begins-empty c.new-plain.ensures.begins c.in_ok-bytes.ensures.items) (search rules)
     c.chars_are_scalars.ensures lawful
 
-pub returns-in-Ok : goal.returns-in-Ok
-returns-in-Ok g c =
+pub returns-in-Ok-clause-ok : goal.returns-in-Ok-clause-ok
+returns-in-Ok-clause-ok g c =
     string_rendered c.in-Ok.ensures
     (begins-empty c.new-plain.ensures.begins c.in_ok-bytes.ensures.items) (search rules)
+
+pub returns-in-Ok-clause-means : goal.returns-in-Ok-clause-means
+returns-in-Ok-clause-means g c =
+    text_means_labels
+    (string_rendered c.in-Ok.ensures
+    (begins-empty c.new-plain.ensures.begins c.in_ok-bytes.ensures.items) (search rules))

@@ -11,6 +11,6 @@ loop-diagnostic-preserved g c =
       sym c.diagnostic-item.is,
     ) (
       string_bytes c.emit_to_string.new.string,
-      c.in_ok-emit_to_string.ensures,
+      c.in_ok-emit_to_string.ensures.ok,
       rw (add-one c.loop-diagnostic.diagnostic-index) at rest,
     ))
