@@ -9,7 +9,7 @@ from unittest import mock
 
 from tree import REPOSITORY, run_script
 
-FURTHER = ('codespan_styled', 'codespan_lsp', 'codespan_edits')
+FURTHER = ('codespan_styled', 'codespan_lsp', 'codespan_edits', 'codespan_suggestions')
 LINK = re.compile(r'\]\(([^)\s#]+)')
 
 

@@ -1,8 +1,8 @@
 //! Tests of files, diagnostics and writers, of the calls that emit, of the views and the rows, of
-//! styled text, of `codespan_lsp`, of `codespan_edits` and of the call for C. Some repeat on worked
-//! values what a contract says; others test what none says, such as which calls flush. `files` and
-//! `lsp` have the code of `docs/FILES.md` and of `docs/LSP.md`, and `quick_start` that of
-//! `README.md`.
+//! styled text, of `codespan_lsp`, of `codespan_edits`, of `codespan_suggestions` and of the call
+//! for C. Some repeat on worked values what a contract says; others test what none says, such as
+//! which calls flush. `files` and `lsp` have the code of `docs/FILES.md` and of `docs/LSP.md`, and
+//! `quick_start` that of `README.md`.
 #![tactic(auto)]
 
 #[cfg(test)]
@@ -27,5 +27,7 @@ mod quick_start;
 mod rows;
 #[cfg(test)]
 mod styled;
+#[cfg(test)]
+mod suggestions;
 #[cfg(test)]
 mod writers;

@@ -1,0 +1,5 @@
+pub mod FileLemmas
+pub mod TextLemmas
+pub mod SameEdits
+pub mod FilesOnce
+pub mod NamedEdits
