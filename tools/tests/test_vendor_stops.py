@@ -15,7 +15,7 @@ class Arguments(VendorCase):
             self.assert_stops(*arguments, says='usage: tools/vendor')
 
     def test_unknown_name(self):
-        self.assert_stops(self.dest, 'codespan_lsp', 'codespan_html', says='vendor: codespan_html: no further library; these are codespan_styled, codespan_lsp and')
+        self.assert_stops(self.dest, 'codespan_lsp', 'codespan_html', says='vendor: codespan_html: no further library; these are codespan_styled, codespan_lsp, ')
         self.assert_stops('--drop', 'codespan_base', self.dest, says='vendor: codespan_base: no further library')
 
 

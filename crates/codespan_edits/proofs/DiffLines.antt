@@ -16,7 +16,8 @@ use Rattle.codespan_edits.specs.Diffs.{pieces_from, is_block, blocks_from, Row, 
 use Rattle.codespan_edits.specs.Diffs.{common_start, common_end, rows_to_end, block_rows}
 use Rattle.codespan_edits.specs.declared.rows.RowSign.{RowSign}
 use Rattle.codespan_edits.specs.declared.rows.RowSign.TheVariants.{Kept, Removed, Added}
-use Rattle.codespan_edits.specs.DiffLaws.{is_old, is_new, lines_with, DiffHasAllLines}
+use Rattle.codespan_edits.specs.Numbers.{is_old, is_new}
+use Rattle.codespan_edits.specs.DiffLaws.{lines_with, DiffHasAllLines}
 use Rattle.codespan_edits.specs.Private.Places.{FitFrom}
 use Rattle.codespan_edits.proofs.FitLemmas.{fit-in_order}
 use Rattle.codespan_edits.proofs.LineLemmas.{lines-append, lines-whole}
@@ -79,7 +80,7 @@ common-take (x ∷ xs) (y ∷ ys) = by_test (bytes_eq x y) refl (common-take xs 
   by_test false h rest = refl
 
 -- and no more than there are
-common-le : (xs ys : List (List ℕ))
+pub common-le : (xs ys : List (List ℕ))
     → (common_start xs ys ≤ length xs) × (common_start xs ys ≤ length ys)
 common-le [] ys = (omega arith, omega arith)
 common-le (x ∷ xs) [] = (omega arith, omega arith)
@@ -115,7 +116,7 @@ common-drop xs ys =
     ∙ end-reverse (common_end xs ys) ys (omega (arith, bound.1, length-reverse ys)))
 
 -- the lines that pass of two lists of rows
-with-append : (test : RowSign → Bool) (rs ss : List Row)
+pub with-append : (test : RowSign → Bool) (rs ss : List Row)
     → lines_with test (rs ++ ss) ≡ lines_with test rs ++ lines_with test ss
 with-append test rs ss =
     ap (map (λ (r : Row). r.line)) (filter-append (λ (r : Row). test r.sign) rs ss)
@@ -123,13 +124,13 @@ with-append test rs ss =
     (filter (λ r. test r.sign) ss)
 
 -- rows of one sign pass
-with-sign : (test : RowSign → Bool) (sign : RowSign) (ls : List (List ℕ)) → test sign ≡ true
+pub with-sign : (test : RowSign → Bool) (sign : RowSign) (ls : List (List ℕ)) → test sign ≡ true
     → lines_with test (rows_with sign ls) ≡ ls
 with-sign test sign [] h = refl
 with-sign test sign (l ∷ ls) h = rw h (ap (λ ms. l ∷ ms) (with-sign test sign ls h))
 
 -- or none of them does
-without-sign : (test : RowSign → Bool) (sign : RowSign) (ls : List (List ℕ)) → test sign ≡
+pub without-sign : (test : RowSign → Bool) (sign : RowSign) (ls : List (List ℕ)) → test sign ≡
     false
     → lines_with test (rows_with sign ls) ≡ []
 without-sign test sign [] h = refl

@@ -1,13 +1,11 @@
 -- Facts on the loops that make the rows of a diff, for the clauses of `rows`.
-use Rattle.codespan_core.proofs.Std.{inl, inr, ◌≡◌, ◌≢◌, ℕ, zero, suc, ◌+◌, ◌-◌, ◌<◌, ◌≤◌, Bool}
-use Rattle.codespan_core.proofs.Std.{true, false, cond, List, [], ◌∷◌, ◌++◌, length, get_or, take}
-use Rattle.codespan_core.proofs.Std.{drop, map, reverse, min, refl, sym, ap, ◌∙◌, subst, arith}
-use Rattle.codespan_core.proofs.Std.{append_assoc, append-nil, length-drop, ◌==◌, not, slice_range}
-use Rattle.codespan_core.proofs.Std.{slice_get, Some, bytes_eq, cases_lt, nat_tests, drop_more}
-use Rattle.codespan_core.proofs.Std.{drop_all, get_or-map, get_or-drop, drop-drop, length-map}
+use Rattle.codespan_core.proofs.Std.{◌≡◌, ℕ, zero, suc, ◌+◌, ◌-◌, ◌<◌, ◌≤◌, Bool, true, false, cond}
+use Rattle.codespan_core.proofs.Std.{List, [], ◌∷◌, length, get_or, drop, map, reverse, min, refl}
+use Rattle.codespan_core.proofs.Std.{sym, ap, ◌∙◌, arith, length-drop, ◌==◌, not, slice_get, Some}
+use Rattle.codespan_core.proofs.Std.{bytes_eq, drop_more, get_or-map, length-map}
 use Rattle.std.specs.Borrow.{Bor}
 use Rattle.std.proofs.lemmas.List.{get_or-reverse}
-use Rattle.codespan_edits.specs.Diffs.{byte_before, lines, is_whole, common_start}
+use Rattle.codespan_edits.specs.Diffs.{is_whole, common_start}
 
 -- two lists of lines, and the test whether the lines at an index differ
 module _ (xs ys : List (List ℕ)) (n : ℕ) (in_x : n < length xs) (in_y : n < length ys)
@@ -98,96 +96,3 @@ line-from_end xs n d h =
     get_or-reverse (map (λ x. x.now) xs) n [] (rw length-map h)
     ∙ (ap (λ m. get_or (map (λ x. x.now) xs) (m - 1 - n) []) size
     ∙ get_or-map (λ x. x.now) xs (length xs - 1 - n) d [] (omega (arith, h)))
-
--- a byte that is no newline does not end a line
-no-newline : (b : ℕ) → b ≢ 10 → (b == 10) ≡ false
-no-newline b h = grind (arith, nat_tests)
-
--- the first line of a text, up to its first newline
-cut-line : (n : ℕ) (bs : List ℕ) → n < length bs →
-    ((k : ℕ) → k < n → get_or bs k 0 ≢ 10)
-    → get_or bs n 0 ≡ 10 → lines bs ≡ take (n + 1) bs ∷ lines (drop (n + 1) bs)
-cut-line n [] h none newline = absurd (omega (arith, h))
-cut-line zero (b ∷ bs) h none newline = rw newline refl
-cut-line (suc n) (b ∷ bs) h none newline =
-    let step : suc n + 1 ≡ suc (n + 1) = omega arith in
-    ap (λ t. cond t ((b ∷ []) ∷ lines bs) (byte_before b (lines bs)))
-    (no-newline b (none 0 (omega arith)))
-    ∙ (ap (byte_before b)
-    (cut-line n bs (omega (arith, h)) (λ k i. none (suc k) (omega (arith, i))) newline)
-    ∙ ap (λ m. take m (b ∷ bs) ∷ lines (drop m (b ∷ bs))) (sym step))
-
--- the only line of a text without a newline
-last-line : (bs : List ℕ) → 0 < length bs →
-    ((k : ℕ) → k < length bs → get_or bs k 0 ≢ 10)
-    → lines bs ≡ bs ∷ []
-last-line [] h none = absurd (omega (arith, h))
-last-line (b ∷ []) h none =
-    ap (λ t. cond t ((b ∷ []) ∷ []) (byte_before b [])) (no-newline b (none 0 (omega arith)))
-last-line (b ∷ (c ∷ cs)) h none =
-    ap (λ t. cond t ((b ∷ []) ∷ lines (c ∷ cs)) (byte_before b (lines (c ∷ cs))))
-    (no-newline b (none 0 (omega arith)))
-    ∙ ap (byte_before b)
-    (last-line (c ∷ cs) (omega arith) (λ k i. none (suc k) (omega (arith, i))))
-
--- one more byte is no newline
-pub unbroken-more : (text : List ℕ) (start i : ℕ)
-    → ((k : ℕ) → start + k < i → get_or text (start + k) 0 ≢ 10) → get_or text i 0 ≢
-    10
-    → (k : ℕ) → start + k < i + 1 → get_or text (start + k) 0 ≢ 10
-unbroken-more text start i unbroken other k h =
-    elim (cases_lt (start + k) i) [
-      | inl before ↦ unbroken k before
-      | inr after ↦
-          let here : i ≡ start + k = omega (arith, h, after) in
-          subst (λ n. get_or text n 0 ≢ 10) here other
-    ]
-
--- in the loop over the bytes of a text: no newline is from the start of a line to the index
-module _ (text : List ℕ) (start i : ℕ) (done : List (List ℕ)) (up : start ≤ i)
-    (unbroken : (k : ℕ) → start + k < i → get_or text (start + k) 0 ≢ 10)
-    (all : done ++ lines (drop start text) ≡ lines text) where
-  -- a newline is there
-  pub lines-more : (new : List (List ℕ)) (part : List ℕ) → i < length text → get_or text i 0
-      ≡ 10
-      → new ≡ done ++ part ∷ [] → part ≡ slice_range text start (i + 1)
-      → new ++ lines (drop (i + 1) text) ≡ lines text
-  lines-more new part inside newline pushed is =
-      let n = i - start in
-      let size : i - start + 1 ≡ i + 1 - start = omega (arith, up) in
-      let end : start + (i - start + 1) ≡ i + 1 = omega (arith, up) in
-      let last : start + (i - start) ≡ i = omega (arith, up) in
-      let cut : lines (drop start text)
-      ≡ take (n + 1) (drop start text) ∷ lines (drop (n + 1) (drop start text)) =
-      cut-line n (drop start text) (omega (arith, length-drop start text, up, inside))
-      (λ k h. subst (λ b. b ≢ 10) (sym (get_or-drop start text k 0))
-      (unbroken k (omega (arith, h, up))))
-      (get_or-drop start text n 0 ∙ (ap (λ m. get_or text m 0) last ∙ newline)) in
-      let part_is : take (n + 1) (drop start text) ≡ part =
-      ap (λ m. take m (drop start text)) size ∙ sym is in
-      let rest_is : drop (n + 1) (drop start text) ≡ drop (i + 1) text =
-      drop-drop (n + 1) start text ∙ ap (λ m. drop m text) end in
-      ap (λ ls. ls ++ lines (drop (i + 1) text)) pushed
-      ∙ (append_assoc done (part ∷ []) (lines (drop (i + 1) text))
-      ∙ (ap (λ ls. done ++ ls) (sym
-      (cut ∙ (ap (λ l. l ∷ lines (drop (n + 1) (drop start text))) part_is
-      ∙ ap (λ bs. part ∷ lines bs) rest_is))) ∙ all))
-
-  -- the text ends with a line without newline
-  pub lines-last : (new : List (List ℕ)) (part : List ℕ) → i ≡ length text → start <
-      length text
-      → new ≡ done ++ part ∷ [] → part ≡ drop start text
-      → new ≡ lines text
-  lines-last new part at_end inside pushed is =
-      let size : length (drop start text) ≡ length text - start = length-drop start text in
-      let one : lines (drop start text) ≡ drop start text ∷ [] =
-      last-line (drop start text) (omega (arith, size, inside))
-      (λ k h. subst (λ b. b ≢ 10) (sym (get_or-drop start text k 0))
-      (unbroken k (omega (arith, h, size, at_end)))) in
-      pushed ∙ (ap (λ l. done ++ l ∷ []) is ∙ (ap (λ ls. done ++ ls) (sym one) ∙ all))
-
-  -- or with a newline
-  pub lines-end : length text ≤ start → done ≡ lines text
-  lines-end past =
-      sym (append-nil done)
-      ∙ (ap (λ bs. done ++ lines bs) (sym (drop_all start text past)) ∙ all)

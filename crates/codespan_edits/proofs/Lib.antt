@@ -5,8 +5,14 @@ pub mod PartLemmas
 pub mod FitLemmas
 pub mod OneByOne
 pub mod Overlaps
+pub mod Members
 pub mod SameEdits
 pub mod LineLemmas
 pub mod DiffLines
+pub mod TrimmedBlocks
+pub mod PatchLemmas
 pub mod DiffLoops
+pub mod CutLemmas
 pub mod DiffBlocks
+pub mod KeptLines
+pub mod NumberLemmas

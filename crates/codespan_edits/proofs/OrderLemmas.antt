@@ -8,7 +8,7 @@ use Rattle.codespan_core.proofs.Std.{IsPermutation-trans, IsPermutation-cons, su
 use Rattle.std.specs.Cmp.{IsTotalOrder, then_total, on_total, nat_cmp_total}
 use Rattle.std.proofs.lemmas.List.Sorted.{IsPermutation-middle}
 use Rattle.codespan_edits.specs.Edits.{TextEdit, ListedEdit, compare, is_before, insert_in_order}
-use Rattle.codespan_edits.specs.Edits.{in_order}
+use Rattle.codespan_edits.specs.Edits.{listed_from, in_order}
 use Rattle.codespan_edits.specs.Private.Places.{replacement_at}
 
 -- the comparison is a total order
@@ -186,3 +186,9 @@ same_order edits (x ∷ xs) (y ∷ ys) up_x up_y of_x of_y sums =
     same_order edits xs ys up_x.1 up_y.1 of_x.1 of_y.1
     (λ f. omega (arith, sums f, sum_by-cons f x xs, sum_by-cons f y ys, ap f e)) in
     rw (e, rest) refl
+
+-- what holds of edits holds of them with their indices
+pub all-listed : (P : TextEdit → Type 0) (i : ℕ) (es : List TextEdit) → AllByRecursion P es
+    → AllByRecursion (λ x. P x.edit) (listed_from i es)
+all-listed P i [] all = tt
+all-listed P i (e ∷ es) all = (all.0, all-listed P (i + 1) es all.1)

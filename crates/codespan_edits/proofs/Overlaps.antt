@@ -8,7 +8,7 @@ use Rattle.codespan_edits.specs.Edits.{TextEdit, ListedEdit, in_order, listed, l
 use Rattle.codespan_edits.specs.Faults.{first_own_fault, neighbor_fault, fault}
 use Rattle.codespan_edits.specs.EditLaws.{are_overlapping, AreApart, OverlapsAreFound}
 use Rattle.codespan_edits.specs.Private.Places.{FitFrom}
-use Rattle.codespan_edits.proofs.OrderLemmas.{Ascends, ascends-in_order, all-in_order}
+use Rattle.codespan_edits.proofs.OrderLemmas.{Ascends, ascends-in_order, all-in_order, all-listed}
 use Rattle.codespan_edits.proofs.OrderLemmas.{in_order-permutation}
 use Rattle.codespan_edits.proofs.FitLemmas.{FitsAlone, all_fit, fit-in_order}
 
@@ -74,14 +74,7 @@ neighbors-apart text (x ∷ (y ∷ ys)) up fit apart =
     fit.0.ordered fit.1.0.ordered))
     (neighbors-apart text (y ∷ ys) up.1 fit.1 apart.1)
 
--- what one edit does to those of a list, with indices and without
-all-listed : (e : TextEdit) (i k : ℕ) (es : List TextEdit)
-    → AllByRecursion (λ f. are_overlapping e f ≡ false) es
-    → AllByRecursion (λ y. overlap (record { index = i; edit = e }) y ≡ false)
-    (listed_from k es)
-all-listed e i k [] all = tt
-all-listed e i k (f ∷ fs) all = (all.0, all-listed e i (k + 1) fs all.1)
-
+-- what one edit does to those of a list with indices it does to those without
 all-unlisted : (e : TextEdit) (i k : ℕ) (es : List TextEdit)
     → AllByRecursion (λ y. overlap (record { index = i; edit = e }) y ≡ false)
     (listed_from k es)
@@ -94,8 +87,10 @@ distinct-listed : (i : ℕ) (es : List TextEdit) → AreApart es → IsDistinct 
     (listed_from i es)
 unfolding IsDistinct
 distinct-listed i [] apart = tt
-distinct-listed i (e ∷ es) apart =
-    (all-listed e i (i + 1) es apart.0, distinct-listed (i + 1) es apart.1)
+distinct-listed i (e ∷ es) apart = (
+  all-listed (λ f. are_overlapping e f ≡ false) (i + 1) es apart.0,
+  distinct-listed (i + 1) es apart.1,
+)
 
 distinct-unlisted : (i : ℕ) (es : List TextEdit) → IsDistinct overlap (listed_from i es) →
     AreApart es

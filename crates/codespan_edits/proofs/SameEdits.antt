@@ -1,73 +1,25 @@
--- Lists with the same edits make the same, for the clause of `laws::order_matters_to_insertions`.
-use Rattle.codespan_core.proofs.Std.{◌≡◌, ℕ, zero, suc, ◌+◌, ◌<◌, ◌≤◌, Bool, true, false, cond}
-use Rattle.codespan_core.proofs.Std.{List, [], ◌∷◌, ◌++◌, length, get_or, map, None, inl, inr}
-use Rattle.codespan_core.proofs.Std.{if◌then◌else◌, refl, sym, ap, ◌∙◌, subst, arith, nat_lt, ◌⊎◌}
-use Rattle.codespan_core.proofs.Std.{◌==◌, ◌&&◌, slice_range, AllByRecursion, Contains, filter}
-use Rattle.codespan_core.proofs.Std.{IsPermutation, nat_cmp, ordering_then, is_lt, true≢false}
-use Rattle.codespan_core.proofs.Std.{nat_tests, IsPermutation-sym, IsPermutation-trans}
-use Rattle.codespan_core.proofs.Std.{IsPermutation-map}
-use Rattle.std.proofs.lemmas.List.Sorted.{Contains-permutation}
+-- Lists with the same edits make the same, for the clauses of `laws::order_matters_to_insertions`
+-- and `laws::same_edits_have_same_diff`.
+use Rattle.codespan_core.proofs.Std.{◌≡◌, ℕ, ◌+◌, ◌<◌, ◌≤◌, Bool, true, false, cond, List, [], ◌∷◌}
+use Rattle.codespan_core.proofs.Std.{◌++◌, length, map, None, inl, inr, if◌then◌else◌, refl, sym}
+use Rattle.codespan_core.proofs.Std.{ap, ◌∙◌, subst, arith, nat_lt, ◌==◌, ◌&&◌, slice_range}
+use Rattle.codespan_core.proofs.Std.{AllByRecursion, filter, IsPermutation, nat_cmp, ordering_then}
+use Rattle.codespan_core.proofs.Std.{is_lt, true≢false, nat_tests, IsPermutation-sym}
+use Rattle.codespan_core.proofs.Std.{IsPermutation-trans, IsPermutation-map, flat_map}
 use Rattle.std.proofs.lemmas.Map.Keys.{IsDistinct-IsPermutation}
 use Rattle.codespan_core.specs.Lines.{is_char_boundary}
 use Rattle.codespan_edits.specs.Edits.{TextEdit, ListedEdit, is_before, insert_in_order, in_order}
 use Rattle.codespan_edits.specs.Edits.{listed, listed_from, edited_from}
 use Rattle.codespan_edits.specs.Faults.{own_fault, first_own_fault, fault}
-use Rattle.codespan_edits.specs.EditLaws.{are_overlapping, is_insertion_at}
+use Rattle.codespan_edits.specs.EditLaws.{are_overlapping, is_insertion_at, HaveSameEdits}
 use Rattle.codespan_edits.specs.EditLaws.{OrderMattersToInsertions}
+use Rattle.codespan_edits.specs.Diffs.{lines, kept, pieces_from, no_change, blocks_from, block_rows}
+use Rattle.codespan_edits.specs.DiffLaws.{SameEditsHaveSameDiff}
 use Rattle.codespan_edits.specs.Private.Places.{FitFrom}
 use Rattle.codespan_edits.proofs.OrderLemmas.{all-in_order, in_order-permutation}
+use Rattle.codespan_edits.proofs.Members.{IsMember, member-moved, member-filter, filter-member}
 use Rattle.codespan_edits.proofs.FitLemmas.{tests-pass, neither, fit-in_order}
 use Rattle.codespan_edits.proofs.Overlaps.{flips, apart-from_none, none-from_apart}
-
--- an edit is one of a list
-abbrev IsMember : TextEdit → List TextEdit → Type 0
-IsMember e [] = ⊥
-IsMember e (f ∷ fs) = (e ≡ f) ⊎ IsMember e fs
-
--- the edit at an index is one of the list
-member-at : (es : List TextEdit) (e : TextEdit) (k : ℕ) → k < length es → get_or es k e ≡ e
-    → IsMember e es
-member-at [] e k h is = absurd (omega (arith, h))
-member-at (f ∷ fs) e zero h is = inl (sym is)
-member-at (f ∷ fs) e (suc k) h is = inr (member-at fs e k (omega (arith, h)) is)
-
--- and one of the list is at an index
-contains-member : (es : List TextEdit) (e : TextEdit) → IsMember e es → Contains es e
-contains-member [] e m = absurd m
-contains-member (f ∷ fs) e (inl is) = (0, omega arith, sym is)
-contains-member (f ∷ fs) e (inr m) =
-    let c = contains-member fs e m in (suc c.0, omega (arith, c.1), c.2)
-
--- an edit of a list is one of each permutation
-member-moved : (es fs : List TextEdit) → IsPermutation es fs → (e : TextEdit) → IsMember e es
-    → IsMember e fs
-member-moved es fs moved e m =
-    let c = Contains-permutation es fs e moved (contains-member es e m) in member-at fs e c.0 c.1
-    c.2
-
--- an edit that passes a test is one of those that pass it
-member-filter : (test : TextEdit → Bool) (e : TextEdit) (es : List TextEdit) → test e ≡ true
-    → IsMember e es → IsMember e (filter test es)
-member-filter test e [] passes m = m
-member-filter test e (f ∷ fs) passes (inl is) =
-    rw (ap test (sym is) ∙ passes) (inl is)
-member-filter test e (f ∷ fs) passes (inr m) = by_test (member-filter test e fs passes m) (test f)
-  where
-    by_test : IsMember e (filter test fs) → (b : Bool)
-        → IsMember e (cond b (f ∷ filter test fs) (filter test fs))
-    by_test rest true = inr rest
-    by_test rest false = rest
-
--- and those are of the list
-filter-member : (test : TextEdit → Bool) (e : TextEdit) (es : List TextEdit)
-    → IsMember e (filter test es) → IsMember e es
-filter-member test e [] m = m
-filter-member test e (f ∷ fs) m = by_test (filter-member test e fs) (test f) m where
-  by_test : (IsMember e (filter test fs) → IsMember e fs) → (b : Bool)
-      → IsMember e (cond b (f ∷ filter test fs) (filter test fs)) → IsMember e (f ∷ fs)
-  by_test rest true (inl is) = inl is
-  by_test rest true (inr m) = inr (rest m)
-  by_test rest false m = inr (rest m)
 
 -- from a byte on each edit starts at the end of the one before it, or later
 abbrev Rises : ℕ → List TextEdit → Type 0
@@ -289,8 +241,12 @@ none-moved text es fs moved none =
     (member-moved fs es (IsPermutation-sym es fs moved) e m)))
     (IsDistinct-IsPermutation are_overlapping flips es fs moved (apart-from_none text es none))
 
-pub order-matters-to-insertions : OrderMattersToInsertions
-order-matters-to-insertions text es fs same none =
+-- and in order both have the same edits
+ordered-same : (text : List ℕ) (es fs : List TextEdit) → HaveSameEdits es fs
+    → fault text es ≡ None
+    → (fault text fs ≡ None)
+    × (map (λ z. z.edit) (in_order (listed fs)) ≡ map (λ z. z.edit) (in_order (listed es)))
+ordered-same text es fs same none =
     let gone : fault text fs ≡ None = none-moved text es fs same.permutation none in
     let ordered = λ (gs : List TextEdit). map (λ (z : ListedEdit). z.edit)
     (in_order (listed gs)) in
@@ -298,12 +254,43 @@ order-matters-to-insertions text es fs same none =
     IsPermutation-trans (ordered fs) fs (ordered es)
     (IsPermutation-sym fs (ordered fs) (ordered-permutation fs))
     (IsPermutation-trans fs es (ordered es) (IsPermutation-sym es fs same.permutation)
-    (ordered-permutation es)) in
-    let all : ordered fs ≡ ordered es =
-    rising-same 0 (ordered fs) (ordered es)
-    (rises-fit text 0 (in_order (listed fs)) (fit-in_order text fs gone))
-    (rises-fit text 0 (in_order (listed es)) (fit-in_order text es none))
-    (member-moved (ordered fs) (ordered es) moved)
-    (member-moved (ordered es) (ordered fs) (IsPermutation-sym (ordered fs) (ordered es) moved))
-    (λ p. order-stable p 0 fs ∙ (sym (same.insertions p) ∙ sym (order-stable p 0 es))) in
-    (gone, edited-same text 0 (in_order (listed fs)) (in_order (listed es)) all)
+    (ordered-permutation es)) in (
+      gone,
+      rising-same 0 (ordered fs) (ordered es)
+          (rises-fit text 0 (in_order (listed fs)) (fit-in_order text fs gone))
+          (rises-fit text 0 (in_order (listed es)) (fit-in_order text es none))
+          (member-moved (ordered fs) (ordered es) moved)
+          (member-moved (ordered es) (ordered fs)
+          (IsPermutation-sym (ordered fs) (ordered es) moved))
+          (λ p. order-stable p 0 fs ∙ (sym (same.insertions p) ∙ sym (order-stable p 0 es))),
+    )
+
+pub order-matters-to-insertions : OrderMattersToInsertions
+order-matters-to-insertions text es fs same none =
+    let both = ordered-same text es fs same none in
+    (both.0, edited-same text 0 (in_order (listed fs)) (in_order (listed es)) both.1)
+
+-- nor do the pieces
+pieces-same : (text : List ℕ) (byte : ℕ) (xs ys : List ListedEdit)
+    → map (λ z. z.edit) xs ≡ map (λ z. z.edit) ys → pieces_from text byte xs ≡ pieces_from
+    text byte ys
+pieces-same text byte [] [] same = refl
+pieces-same text byte [] (y ∷ ys) same = cc
+pieces-same text byte (x ∷ xs) [] same = cc
+pieces-same text byte (x ∷ xs) (y ∷ ys) same =
+    let first : x.edit ≡ y.edit = cc in
+    let rest : map (λ z. z.edit) xs ≡ map (λ z. z.edit) ys = cc in
+    ap (λ (e : TextEdit). map kept (lines (slice_range text byte e.start))
+    ++ (record { old = slice_range text e.start e.end; new = e.replacement }
+    ∷ pieces_from text e.end xs)) first
+    ∙ ap (λ r. map kept (lines (slice_range text byte y.edit.start))
+    ++ (record { old = slice_range text y.edit.start y.edit.end; new = y.edit.replacement } ∷ r))
+    (pieces-same text y.edit.end xs ys rest)
+
+pub same-edits-have-same-diff : SameEditsHaveSameDiff
+same-edits-have-same-diff text es fs same none =
+    let both = ordered-same text es fs same none in (
+      both.0,
+      ap (λ ps. flat_map block_rows (blocks_from no_change ps))
+          (pieces-same text 0 (in_order (listed fs)) (in_order (listed es)) both.1),
+    )

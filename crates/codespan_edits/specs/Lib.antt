@@ -5,8 +5,10 @@ pub mod Faults
 pub mod ErrorText
 -- the diff
 pub mod Diffs
+pub mod Numbers
 -- laws of edits
 pub mod EditLaws
 pub mod DiffLaws
+pub mod Patches
 -- of this crate alone: places
 pub mod Private

@@ -2,7 +2,9 @@
 
 ghost use Rattle.codespan_edits.specs.EditLaws.{EditsAreOneByOne, OverlapsAreFound};
 ghost use Rattle.codespan_edits.specs.EditLaws.{OrderMattersToInsertions};
-ghost use Rattle.codespan_edits.specs.DiffLaws.{DiffHasAllLines};
+ghost use Rattle.codespan_edits.specs.DiffLaws.{DiffHasAllLines, BlocksAreTrimmed};
+ghost use Rattle.codespan_edits.specs.DiffLaws.{UnchangedTextIsKept, SameEditsHaveSameDiff};
+ghost use Rattle.codespan_edits.specs.Patches.{ShownRowsArePatch};
 
 /// States that edits without a fault make the text that they make one after another, each in the
 /// text that the later ones have made, from the last one in order to the first.
@@ -27,4 +29,28 @@ pub fn order_matters_to_insertions()
 /// removed ones those of the text after the edits.
 pub fn diff_has_all_lines()
     ensures { DiffHasAllLines }
+{}
+
+/// States that in each block of a diff the first removed and the first added line differ, and so do
+/// the last ones, and that a block whose old and new text are the same has neither.
+pub fn blocks_are_trimmed()
+    ensures { BlocksAreTrimmed }
+{}
+
+/// States that edits of which each puts there what was there have a diff without removed and added
+/// lines.
+pub fn unchanged_text_is_kept()
+    ensures { UnchangedTextIsKept }
+{}
+
+/// States that, of two lists with the same edits, and with the insertions at a byte in the same
+/// order, both have a fault, or both have the same diff.
+pub fn same_edits_have_same_diff()
+    ensures { SameEditsHaveSameDiff }
+{}
+
+/// States that the rows of a diff with their numbers are a patch: whichever of the kept rows are
+/// left out, the others make the lines of the text after the edits of those of the source.
+pub fn shown_rows_are_patch()
+    ensures { ShownRowsArePatch }
 {}

@@ -9,6 +9,8 @@ mod apply;
 mod edit;
 mod error;
 pub mod laws;
+mod lines;
+mod numbers;
 mod order;
 mod rows;
 

@@ -7,13 +7,16 @@ ghost use Rattle.std.specs.List.{flat_map};
 ghost use Rattle.codespan_edits.specs.Edits.{text_edits};
 ghost use Rattle.codespan_edits.specs.Faults.{fault, FailsBy};
 ghost use Rattle.codespan_edits.specs.Diffs.{Change, lines, diff_rows, rows_with, block_rows};
-ghost use Rattle.codespan_edits.specs.Diffs.{common_start, common_end, kept, is_whole};
+ghost use Rattle.codespan_edits.specs.Diffs.{common_start, common_end, kept};
 ghost use Rattle.codespan_edits.specs.Diffs.{blocks_from, no_change, pieces_from};
 ghost use Rattle.codespan_edits.specs.Private.Places.{edits_at, FitFrom};
-ghost use Rattle.codespan_edits.specs.Private.Differs.{rows_view, all_rows};
+ghost use Rattle.codespan_edits.specs.Numbers.{is_old, is_new, numbered};
+ghost use Rattle.codespan_edits.specs.Private.Differs.{rows_view, numbered_view, all_rows};
 
 use crate::edit::Edit;
 use crate::error::EditError;
+use crate::lines::{is_whole_text, lines_of};
+use crate::numbers::number_rows;
 use crate::order::{Place, places_in_order};
 use std::alloc::Global;
 
@@ -28,6 +31,28 @@ pub enum RowSign {
     Added,
 }
 
+impl RowSign {
+    /// Returns whether the line is in the old text.
+    pub fn is_old(self) -> bool
+        ensures { result ≡ is_old self }
+    {
+        match self {
+            RowSign::Kept | RowSign::Removed => true,
+            RowSign::Added => false,
+        }
+    }
+
+    /// Returns whether the line is in the new text.
+    pub fn is_new(self) -> bool
+        ensures { result ≡ is_new self }
+    {
+        match self {
+            RowSign::Kept | RowSign::Added => true,
+            RowSign::Removed => false,
+        }
+    }
+}
+
 /// A row of a diff.
 #[derive(Debug, Drop, PartialEq, Eq)]
 pub struct DiffRow {
@@ -35,10 +60,15 @@ pub struct DiffRow {
     pub sign: RowSign,
     /// The line, with its newline. Only the last line of a text may have none.
     pub line: String,
+    /// The number of the line in the old text, from 1, if it is in that text.
+    pub old_number: Option<usize>,
+    /// The number of the line in the new text, from 1, if it is in that text.
+    pub new_number: Option<usize>,
 }
 
 /// Returns the rows of the diff that edits make of a text: the lines of the source, but for the
-/// added ones, and those of the text after the edits, but for the removed ones.
+/// added ones, and those of the text after the edits, but for the removed ones. Each row has the
+/// numbers of its line in the texts that it is in.
 ///
 /// # Errors
 ///
@@ -51,6 +81,8 @@ pub struct DiffRow {
 /// let rows = diff(alloc, "use a;\nfn f() {}\n", &edits)?;
 /// assert_eq!(rt; rows[1].sign, RowSign::Added);
 /// assert_eq!(rt; rows[1].line.as_str(), "use b;\n");
+/// assert_eq!(rt; rows[1].new_number, Some(2));
+/// assert_eq!(rt; (rows[2].old_number, rows[2].new_number), (Some(2), Some(3)));
 /// ```
 pub fn diff<FileId>(
     alloc: Global,
@@ -59,10 +91,14 @@ pub fn diff<FileId>(
 ) -> Result<Vec<DiffRow>, EditError>
     ensures rows { IfOk result (λ rows.
         rows_view rows ≡ diff_rows source.now (text_edits edits.now)) }
+    ensures numbers { IfOk result (λ rows.
+        numbered_view rows ≡ numbered (diff_rows source.now (text_edits edits.now))) }
     ensures failed { FailsBy (fault source.now (text_edits edits.now)) result }
 {
     let places = places_in_order(alloc, source, edits)?;
-    collect_rows(alloc, source, edits, &places)
+    let mut rows = collect_rows(alloc, source, edits, &places)?;
+    number_rows(&mut rows);
+    Ok(rows)
 }
 
 /// Returns the rows of the edits that have these places.
@@ -112,9 +148,27 @@ impl Differ {
     {
         let lines = lines_of(alloc, text)?;
         for line in &lines {
-            self.push(alloc, line, line)?;
+            self.keep_line(alloc, line)?;
         }
         Ok(())
+    }
+
+    /// Takes a line that is kept. It is a row as it is, where nothing is held and it is whole.
+    #[inline(always)]
+    fn keep_line(&mut self, alloc: Global, line: &str) -> Result<(), EditError>
+        requires { lines line.now ≡ line.now ∷ [] }
+        ensures rows { IfOk result (λ _. (ps : List Change) →
+            all_rows self.new ps ≡ all_rows self.old (kept line.now ∷ ps)) }
+        ensures failed { OnErr result (IsErrOf result EditError.OutOfMemory) }
+    {
+        if is_whole_text(line)
+            && self.before.as_str().is_empty()
+            && self.after.as_str().is_empty()
+        {
+            push_row(alloc, &mut self.rows, RowSign::Kept, line)
+        } else {
+            self.push(alloc, line, line)
+        }
     }
 
     /// Takes a piece: a text, and what it is after the edits.
@@ -141,36 +195,6 @@ impl Differ {
         push_block(alloc, &mut self.rows, &self.before, &self.after)?;
         Ok(self.rows)
     }
-}
-
-/// Returns whether a text is empty or ends with a newline.
-#[inline(always)]
-fn is_whole_text(text: &str) -> bool
-    ensures { result ≡ is_whole text.now }
-{
-    match text.as_bytes().last() {
-        Some(byte) => *byte == b'\n',
-        None => true,
-    }
-}
-
-/// Returns the lines of a text, which is cut after each newline.
-fn lines_of<'a>(alloc: Global, text: &'a str) -> Result<Vec<&'a str>, EditError>
-    ensures lines { IfOk result (λ ls. map (λ l. l.now) ls.items ≡ lines text.now) }
-    ensures failed { OnErr result (IsErrOf result EditError.OutOfMemory) }
-{
-    let mut lines = Vec::new(alloc);
-    let mut start = 0;
-    for (index, byte) in text.as_bytes().iter().enumerate() {
-        if *byte == b'\n' {
-            lines.push(&text[start..index + 1])?;
-            start = index + 1;
-        }
-    }
-    if start < text.len() {
-        lines.push(&text[start..])?;
-    }
-    Ok(lines)
 }
 
 /// Adds the rows of a block.
@@ -210,11 +234,28 @@ fn push_rows(
     ensures failed { OnErr result (IsErrOf result EditError.OutOfMemory) }
 {
     for line in lines {
-        rows.push(DiffRow {
-            sign,
-            line: String::from_str(alloc, line)?,
-        })?;
+        push_row(alloc, rows, sign, line)?;
     }
+    Ok(())
+}
+
+/// Adds a row.
+fn push_row(
+    alloc: Global,
+    rows: &mut Vec<DiffRow>,
+    sign: RowSign,
+    line: &str,
+) -> Result<(), EditError>
+    ensures rows { IfOk result (λ _. rows_view rows.new
+        ≡ rows_view rows.old ++ (record { sign = sign; line = line.now }) ∷ []) }
+    ensures failed { OnErr result (IsErrOf result EditError.OutOfMemory) }
+{
+    rows.push(DiffRow {
+        sign,
+        line: String::from_str(alloc, line)?,
+        old_number: None,
+        new_number: None,
+    })?;
     Ok(())
 }
 

@@ -1,7 +1,8 @@
 //! Diffs of worked texts.
 
 use super::{WorkedRow, edits_of, outcome_of};
-use codespan_edits::{DiffRow, RowSign, diff};
+use codespan_base::diagnostic::text::display_text;
+use codespan_edits::{DiffRow, Edit, RowSign, apply_edits, diff};
 use std::alloc::Global;
 use std::panic::Expect;
 use std::process::Abort;
@@ -96,17 +97,39 @@ static WORKED_DIFFS: [WorkedRow; 16] = [
     ),
 ];
 
+/// Adds a row: its sign, and its line.
+fn push_row(rt: &impl Abort, text: &mut String, row: &DiffRow) {
+    let sign = match row.sign {
+        RowSign::Kept => " ",
+        RowSign::Removed => "-",
+        RowSign::Added => "+",
+    };
+    text.push_str(sign).expect(rt, "memory");
+    text.push_str(row.line.as_str()).expect(rt, "memory");
+}
+
 /// Returns the text of a diff: each line after its sign.
 fn diff_text(rt: &impl Abort, alloc: Global, rows: &[DiffRow]) -> String {
     let mut text = String::new(alloc);
     for row in rows {
-        let sign = match row.sign {
-            RowSign::Kept => " ",
-            RowSign::Removed => "-",
-            RowSign::Added => "+",
-        };
-        text.push_str(sign).expect(rt, "memory");
-        text.push_str(row.line.as_str()).expect(rt, "memory");
+        push_row(rt, &mut text, row);
+    }
+    text
+}
+
+/// Returns the text of a diff whose numbers have one digit: each line after its numbers, of which
+/// one that it does not have is a space, and its sign.
+fn numbered_text(rt: &impl Abort, alloc: Global, rows: &[DiffRow]) -> String {
+    let mut text = String::new(alloc);
+    for row in rows {
+        for number in [row.old_number, row.new_number] {
+            let shown = match number {
+                Some(number) => display_text(alloc, number).expect(rt, "a number"),
+                None => String::from_str(alloc, " ").expect(rt, "memory"),
+            };
+            text.push_str(shown.as_str()).expect(rt, "memory");
+        }
+        push_row(rt, &mut text, row);
     }
     text
 }
@@ -122,4 +145,36 @@ fn worked_diffs(rt: HostRuntime) {
         let outcome = outcome_of(&rt, rt.alloc(), made);
         assert_eq!(&rt; (*name, outcome.as_str()), (*name, *expected));
     }
+}
+
+/// Each row has the numbers of its line in the texts that it is in.
+#[test]
+fn numbers(rt: HostRuntime) {
+    let edits = edits_of(
+        &rt,
+        rt.alloc(),
+        &[(2, 4, ""), (6, 6, "new\nnew\n"), (8, 9, "5")],
+    );
+    let rows = diff(rt.alloc(), "1\n2\n3\n4\nfive", &edits).expect(&rt, "a diff");
+    let expected = "11 1\n2 -2\n32 3\n 3+new\n 4+new\n45 4\n5 -five 6+5ive";
+    assert_eq!(&rt; numbered_text(&rt, rt.alloc(), &rows).as_str(), expected);
+}
+
+/// The program of `docs/EDITS.md`.
+#[test]
+fn first_program(rt: HostRuntime) {
+    let source = "use a;\n\nfn main() {\n    let x = foo(y);\n    print(x);\n}\n";
+    let edits = [
+        Edit::new(rt.alloc(), (), 36..37, "&y").expect(&rt, "an edit"),
+        Edit::new(rt.alloc(), (), 7..7, "use b;\n").expect(&rt, "an edit"),
+        Edit::new(rt.alloc(), (), 40..54, "").expect(&rt, "an edit"),
+    ];
+    let text = apply_edits(rt.alloc(), source, &edits).expect(&rt, "a text");
+    let rows = diff(rt.alloc(), source, &edits).expect(&rt, "a diff");
+
+    let made = "use a;\nuse b;\n\nfn main() {\n    let x = foo(&y);\n}\n";
+    assert_eq!(&rt; text.as_str(), made);
+    let shown =
+        "11 use a;\n 2+use b;\n23 \n34 fn main() {\n4 -    let x = foo(y);\n 5+    let x = foo(&y);\n5 -    print(x);\n66 }\n";
+    assert_eq!(&rt; numbered_text(&rt, rt.alloc(), &rows).as_str(), shown);
 }

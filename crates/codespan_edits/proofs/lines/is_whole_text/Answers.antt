@@ -1,5 +1,5 @@
 use Rattle.codespan_edits.proofs.DiffLoops.{whole-last}
-use Rattle.codespan_edits.proofs.rows.is_whole_text.Goals as goal
+use Rattle.codespan_edits.proofs.lines.is_whole_text.Goals as goal
 
 -- the last byte is a newline
 pub returns-in-Some : goal.returns-in-Some
