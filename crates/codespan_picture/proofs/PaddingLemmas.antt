@@ -1,6 +1,6 @@
 -- For `padding_fits`: the numbers of drawn lines fit the padding.
 use Rattle.codespan_core.proofs.Std.{◌≡◌, ℕ, zero, suc, ◌+◌, ◌-◌, ◌<◌, ◌≤◌, ◌/◌, ◌%◌, max, Bool}
-use Rattle.codespan_core.proofs.Std.{true, false, cond, ◌&&◌, ◌||◌, nat_lt, nat_le, ◌⊎◌, inl, inr}
+use Rattle.codespan_core.proofs.Std.{true, false, cond, ◌&&◌, ◌||◌, nat_lt, ◌⊎◌, inl, inr}
 use Rattle.codespan_core.proofs.Std.{⊎_elim, List, [], ◌∷◌, ◌++◌, map, filter, flat_map, length}
 use Rattle.codespan_core.proofs.Std.{refl, sym, ap, subst, ◌∙◌, arith, Contains, fold, ◌==◌}
 use Rattle.codespan_core.proofs.Std.{if◌then◌else◌, range_with_len, list_any, cases_lt, and_parts}

@@ -1,9 +1,9 @@
 -- The annotations of all labels on one line of one file, for the clauses of `render_snippets` and
 -- `RichDiagnostic::render`.
-use Rattle.codespan_core.proofs.Std.{common_steps, ◌≡◌, ℕ, ◌+◌, ◌<◌, Bool, true, false, cond}
+use Rattle.codespan_core.proofs.Std.{common_steps, rules, ◌≡◌, ℕ, ◌+◌, ◌<◌, Bool, true, false, cond}
 use Rattle.codespan_core.proofs.Std.{if◌then◌else◌, ◌==◌, nat_lt, ◌&&◌, ◌||◌, List, [], ◌∷◌, ◌++◌}
 use Rattle.codespan_core.proofs.Std.{length, map, filter, Option, None, ⊎_elim, refl, sym, ◌∙◌, ap}
-use Rattle.codespan_core.proofs.Std.{subst, arith, length-append, option_map, cons_option, list_any}
+use Rattle.codespan_core.proofs.Std.{subst, arith, length-append, option_map, list_any}
 use Rattle.codespan_core.proofs.Std.{AllByRecursion, cases_Bool, eqb-true, eq-eqb, ltb-false}
 use Rattle.codespan_core.proofs.Std.{nat_tests, filter-append, list_any-append}
 use Rattle.std.proofs.Math.Bool.{and-false}
@@ -16,18 +16,17 @@ use Rattle.codespan_picture.specs.Lines.{shows}
 use Rattle.codespan_picture.specs.Snippets.{LabelInFile}
 use Rattle.codespan_views.specs.Private.{Annotation, Single, Multi, is_before, is_on_line}
 use Rattle.codespan_views.specs.Private.{is_of_file, annotation_if_any, shows_line}
-use Rattle.codespan_views.specs.Private.{line_annotations, annotations_of, index_of_file}
-use Rattle.codespan_views.specs.Private.{annotations_of_next, annotations_after}
-use Rattle.codespan_views.specs.Private.{num_multi_labels_of, single_labels_in}
+use Rattle.codespan_views.specs.Private.{line_annotations, index_of_file, annotations_of_next}
+use Rattle.codespan_views.specs.Private.{annotations_after, num_multi_labels_of, single_labels_in}
 use Rattle.codespan_views.proofs.AnnotationOrder.{lane_mark_annotation, index_below}
 use Rattle.codespan_views.proofs.LinesOfLabels.{is_kind}
 use Rattle.codespan_views.proofs.LabelAnnotations.{all-of_file, all-below, annotations-on_line}
 use Rattle.codespan_views.proofs.LabelAnnotations.{lane_marks-on_line, single_labels-on_line}
 use Rattle.codespan_views.proofs.LabelAnnotations.{shown-on_line}
-use Rattle.codespan_views.proofs.LabelIndexing.{num_multi_labels_of-more, label_lanes}
+use Rattle.codespan_views.proofs.LabelIndexing.{num_multi_labels_of-more}
 use Rattle.codespan_views.proofs.LaneMarks.{marks_from}
 use Rattle.codespan_picture.proofs.OrderSorts.{has_range}
-use Rattle.codespan_picture.proofs.ListElements.{all-append, all-weaker, filter-whole}
+use Rattle.codespan_picture.proofs.ListElements.{all-both, all-append, all-weaker, filter-whole}
 use Rattle.codespan_picture.proofs.ListElements.{filter-nothing}
 use Rattle.codespan_picture.proofs.SortedFilters.{Falls}
 use Rattle.codespan_views.proofs.FileLabels.{is_of_range, HasFileIndex}
@@ -53,8 +52,7 @@ module _ {Id : Type 0} {same : Id → Id → Bool} {file : Id → FileModel} {id
       × (last_line own_file x < line_count own_file)
   ends-below x = (
     line_of_below own_file.starts x.start here.has_line,
-    line_of_below own_file.starts
-        x.end here.has_line,
+    line_of_below own_file.starts x.end here.has_line,
   )
 
   -- its annotations of the file are of such lines
@@ -63,29 +61,16 @@ module _ {Id : Type 0} {same : Id → Id → Bool} {file : Id → FileModel} {id
       (annotations_after same file config ids before xs)
   annotations-below [] before = tt
   annotations-below (x ∷ xs) before =
-      all-append (λ e. is_of_file f e ≡ true → e.line < line_count own_file)
-      (annotations_of_next same file config ids before x)
+      let es = annotations_of_next same file config ids before x in
+      all-append (λ e. is_of_file f e ≡ true → e.line < line_count own_file) es
       (annotations_after same file config ids (before ++ x ∷ []) xs)
-      (⊎_elim
-      (λ (t : same id x.file_id ≡ true). all-weaker (λ e. e.line < line_count (file x.file_id))
+      (all-weaker (λ e. (e.line < line_count (file x.file_id))
+      × (e.file_index ≡ index_of_file same ids x.file_id))
       (λ e. is_of_file f e ≡ true → e.line < line_count own_file)
-      (λ e h _. subst (λ m. e.line < line_count m) (here.one_file x.file_id t) h)
-      (annotations_of_next same file config ids before x)
-      (all-below config (file x.file_id) (index_of_file same ids x.file_id) (length before)
-      (num_multi_labels_of same file before x.file_id) x.label))
-      (λ (t : same id x.file_id ≡ false). all-weaker
-      (λ e. e.file_index ≡ index_of_file same ids x.file_id)
-      (λ e. is_of_file f e ≡ true → e.line < line_count own_file)
-      (λ e h k. absurd (other x t e h k))
-      (annotations_of_next same file config ids before x)
-      (all-of_file config (file x.file_id) (index_of_file same ids x.file_id) (length before)
-      (num_multi_labels_of same file before x.file_id) x.label))
-      (cases_Bool (same id x.file_id)))
+      (λ e h k. subst (λ m. e.line < line_count m) (here.one_file x.file_id
+      (sym (here.index x.file_id) ∙ ap (λ i. i == f) (sym h.1) ∙ k)) h.0) es
+      (search (rules, all-both, all-below, all-of_file)))
       (annotations-below xs (before ++ x ∷ []))
-    where
-      other : (x : LabelInFile Id) → same id x.file_id ≡ false → (e : Annotation)
-          → e.file_index ≡ index_of_file same ids x.file_id → is_of_file f e ≡ true → ⊥
-      other x t e h k = let both = sym k ∙ ap (λ i. i == f) h ∙ here.index x.file_id ∙ t in cc
 
   module _ (l : ℕ) where
     -- the lane of a label of the file after these
@@ -119,28 +104,23 @@ module _ {Id : Type 0} {same : Id → Id → Bool} {file : Id → FileModel} {id
         (λ (t : same id x.file_id ≡ true).
         let at : index_of_file same ids x.file_id ≡ f = eqb-true (index_of_file same ids x.file_id)
         f (here.index x.file_id ∙ t) in
-        ap (filter (is_on_line l)) (filter-whole (is_of_file f) es
-        (all-weaker (λ e. e.file_index ≡ index_of_file same ids x.file_id)
-        (λ e. is_of_file f e ≡ true) (λ e h. eq-eqb e.file_index f (h ∙ at)) es of))
-        ∙ (λ i. filter (is_on_line l) (annotations_of config (here.one_file x.file_id t i) (at i)
-        (length before) (here.lanes before x.file_id t i) x.label))
-        ∙ annotations-on_line config own_file f (length before) (lane_after before) x.label l
-        ∙ sym (ap (λ b. cond (b && nat_lt l (line_count own_file)) (own_annotations before x.label)
-        []) t))
+        rw (filter-whole (is_of_file f) es (all-weaker _ (λ e. is_of_file f e ≡ true)
+        (λ e h. eq-eqb e.file_index f (h ∙ at)) es of))
+        (rw (here.lanes before x.file_id t, here.one_file x.file_id t, at, t)
+        (annotations-on_line config own_file f (length before) (lane_after before) x.label l)))
         (λ (t : same id x.file_id ≡ false).
-        ap (filter (is_on_line l)) (filter-nothing (is_of_file f) es
-        (all-weaker (λ e. e.file_index ≡ index_of_file same ids x.file_id)
-        (λ e. is_of_file f e ≡ false) (λ e h. ap (λ i. i == f) h ∙ here.index x.file_id ∙ t) es
-        of))
-        ∙ sym (ap (λ b. cond (b && nat_lt l (line_count own_file)) (own_annotations before x.label)
-        []) t))
+        rw (
+          t,
+          filter-nothing (is_of_file f) es (all-weaker _ (λ e. is_of_file f e ≡ false)
+              (λ e h. ap (λ i. i == f) h ∙ here.index x.file_id ∙ t) es of),
+        ) refl)
         (cases_Bool (same id x.file_id))
       where
         es : List Annotation
         es = annotations_of_next same file config ids before x
 
         of : AllByRecursion (λ e. e.file_index ≡ index_of_file same ids x.file_id) es
-        of = grind (arith, common_steps, all-of_file, nat_tests)
+        of = search (rules, all-of_file)
 
     -- all annotations of the line of the file
     pub all-line_annotations : (xs before : List (LabelInFile Id))
@@ -149,7 +129,7 @@ module _ {Id : Type 0} {same : Id → Id → Bool} {file : Id → FileModel} {id
         ≡ line_annotations_after before xs
     all-line_annotations [] before = refl
     all-line_annotations (x ∷ xs) before = grind
-        (arith, common_steps, filter-append, one-line_annotations, all-line_annotations xs, nat_tests)
+        (arith, common_steps, filter-append, one-line_annotations, all-line_annotations xs)
 
     -- ---- labels inside the line
 
@@ -166,8 +146,7 @@ module _ {Id : Type 0} {same : Id → Id → Bool} {file : Id → FileModel} {id
     single_label_at k x = record {
       file_index = f;
       line = l;
-      kind = Single k
-          (drawn_label own_file x);
+      kind = Single k (drawn_label own_file x);
     }
 
     -- the annotations of the labels inside the line, where their indices begin here
@@ -201,23 +180,8 @@ module _ {Id : Type 0} {same : Id → Id → Bool} {file : Id → FileModel} {id
         → single_labels_in (single_labels_from k xs) ≡ map (drawn_label own_file)
         (filter on (labels_in xs))
     single_labels-labels k [] = refl
-    single_labels-labels k (x ∷ xs) = by_tests (same id x.file_id) (on x.label) refl
-        (single_labels-labels (k + 1) xs)
-      where
-        by_tests : (s t : Bool) → on x.label ≡ t → single_labels_in (single_labels_from (k + 1) xs)
-            ≡ map (drawn_label own_file) (filter on (labels_in xs))
-            → single_labels_in (cond (s && on x.label) (single_label_at k x.label ∷ []) []
-            ++ single_labels_from (k + 1) xs)
-            ≡ map (drawn_label own_file)
-            (filter on (map (λ (y : LabelInFile Id). y.label) (cond s (x ∷ own xs) (own xs))))
-        by_tests false t h rest = rest
-        by_tests true t h rest = by_test (on x.label)
-          where
-            by_test : (b : Bool) → single_labels_in
-                (cond b (single_label_at k x.label ∷ []) [] ++ single_labels_from (k + 1) xs)
-                ≡ map (drawn_label own_file) (cond b (x.label ∷ filter on (labels_in xs))
-                (filter on (labels_in xs)))
-            by_test b = grind (arith, common_steps)
+    single_labels-labels k (x ∷ xs) = grind
+        (arith, common_steps, single_labels-labels (k + 1) xs, nat_tests)
 
     -- of the labels of one range the later ones come first
     single_labels-below : (start end k j : ℕ) (a : LabelModel) → k < j
@@ -225,50 +189,19 @@ module _ {Id : Type 0} {same : Id → Id → Bool} {file : Id → FileModel} {id
         → AllByRecursion (λ e. is_before e (single_label_at k a) ≡ true)
         (filter (is_of_range start end) (single_labels_from j xs))
     single_labels-below start end k j a h t [] = tt
-    single_labels-below start end k j a h t (x ∷ xs) = by_test (same id x.file_id && on x.label)
-        (single_labels-below start end k (j + 1) a (omega arith) t xs)
-      where
-        IsLower : Annotation → Type 0
-        IsLower e = is_before e (single_label_at k a) ≡ true
-
-        by_range : (b : Bool) → has_range start end (drawn_label own_file x.label) ≡ b
-            → AllByRecursion IsLower (filter (is_of_range start end) (single_labels_from (j + 1) xs))
-            → AllByRecursion IsLower
-            (cond b (single_label_at j x.label ∷ filter (is_of_range start end)
-            (single_labels_from (j + 1) xs))
-            (filter (is_of_range start end) (single_labels_from (j + 1) xs)))
-        by_range b u rest = grind (arith, common_steps, nat_tests, index_below)
-
-        by_test : (b : Bool) → AllByRecursion IsLower
-            (filter (is_of_range start end) (single_labels_from (j + 1) xs))
-            → AllByRecursion IsLower (filter (is_of_range start end)
-            (cond b (single_label_at j x.label ∷ []) [] ++ single_labels_from (j + 1) xs))
-        by_test b rest = grind (arith, common_steps, by_range, has_range)
+    single_labels-below start end k j a h t (x ∷ xs) =
+        let rest = single_labels-below start end k (j + 1) a (omega arith) t xs in
+        grind (arith, common_steps, nat_tests, index_below, rest)
 
     -- the annotations of the labels of one range are in descending order
     pub single_labels-fall : (start end k : ℕ) (xs : List (LabelInFile Id))
         → Falls is_before (filter (is_of_range start end) (single_labels_from k xs))
     single_labels-fall start end k [] = tt
-    single_labels-fall start end k (x ∷ xs) = by_test (same id x.file_id && on x.label)
-        (single_labels-fall start end (k + 1) xs)
-      where
-        by_range : (b : Bool) → has_range start end (drawn_label own_file x.label) ≡ b
-            → Falls is_before (filter (is_of_range start end) (single_labels_from (k + 1) xs))
-            → Falls is_before
-            (cond b (single_label_at k x.label ∷ filter (is_of_range start end)
-            (single_labels_from (k + 1) xs))
-            (filter (is_of_range start end) (single_labels_from (k + 1) xs)))
-        by_range true u rest = (
-          single_labels-below start end k (k + 1) x.label (omega arith) u xs,
-          rest,
-        )
-        by_range false u rest = rest
-
-        by_test : (b : Bool) → Falls is_before
-            (filter (is_of_range start end) (single_labels_from (k + 1) xs))
-            → Falls is_before (filter (is_of_range start end)
-            (cond b (single_label_at k x.label ∷ []) [] ++ single_labels_from (k + 1) xs))
-        by_test b rest = grind (arith, common_steps, by_range, has_range)
+    single_labels-fall start end k (x ∷ xs) =
+        let rest = single_labels-fall start end (k + 1) xs in
+        let below = λ (u : has_range start end (drawn_label own_file x.label) ≡ true).
+        single_labels-below start end k (k + 1) x.label (omega arith) u xs in
+        grind (arith, common_steps, nat_tests, below, rest)
 
     -- ---- lane marks
 
@@ -291,42 +224,32 @@ module _ {Id : Type 0} {same : Id → Id → Bool} {file : Id → FileModel} {id
         (arith, common_steps, nat_lt, lane_marks-on_line, multi_label-outside)
 
     -- the lane marks of labels that come after these, in their lanes
-    pub all-lane_marks : (xs before : List (LabelInFile Id)) (n : ℕ)
-        → num_multi_labels_of same file before id ≡ n
+    pub all-lane_marks : (xs before : List (LabelInFile Id))
         → filter (is_kind 2) (line_annotations_after before xs) ≡ map (lane_mark_annotation f l)
-        (marks_from own_file l n (multi_line_labels own_file (labels_in xs)))
-    all-lane_marks [] before n e = refl
-    all-lane_marks (x ∷ xs) before n e =
-        filter-append (is_kind 2) (line_annotations_of before x)
-        (line_annotations_after (before ++ x ∷ []) xs)
-        ∙ (λ i. (one-lane_mark before x ∙ ap
-        (λ k. cond (same id x.file_id)
-        (multi_annotations_if (is_single own_file x.label)
-        (lane_mark_of k x.label (multi_label_on own_file l x.label))) []) e) i
-        ++ all-lane_marks xs (before ++ x ∷ [])
-        (n + (if same id x.file_id then label_lanes own_file x.label else 0))
-        (num_multi_labels_of-more same file before x id ∙ ap
-        (λ k. k + (if same id x.file_id then label_lanes own_file x.label else 0)) e) i)
-        ∙ by_tests (same id x.file_id) (is_single own_file x.label) refl
+        (marks_from own_file l (lane_after before) (multi_line_labels own_file (labels_in xs)))
+    all-lane_marks [] before = refl
+    all-lane_marks (x ∷ xs) before =
+        rw (
+          filter-append (is_kind 2) (line_annotations_of before x)
+              (line_annotations_after (before ++ x ∷ []) xs),
+          one-lane_mark before x,
+          all-lane_marks xs (before ++ x ∷ []),
+          num_multi_labels_of-more same file before x id,
+        )
+        (by_tests (lane_after before) (same id x.file_id) (is_single own_file x.label) refl)
       where
         later : ℕ → List Annotation
         later k = map (lane_mark_annotation f l)
             (marks_from own_file l k (multi_line_labels own_file (labels_in xs)))
 
-        by_lane_mark : (o : Option LaneMark) → multi_annotations_if false o ++ later (n + 1)
-            ≡ map (lane_mark_annotation f l)
-            (cons_option o (marks_from own_file l (n + 1)
-            (multi_line_labels own_file (labels_in xs))))
-        by_lane_mark o = grind (arith, common_steps)
-
-        by_tests : (s t : Bool) → is_single own_file x.label ≡ t
+        by_tests : (n : ℕ) (s t : Bool) → is_single own_file x.label ≡ t
             → cond s (multi_annotations_if t
             (lane_mark_of n x.label (multi_label_on own_file l x.label))) []
             ++ later (n + (if s then (if t then 0 else 1) else 0))
             ≡ map (lane_mark_annotation f l)
             (marks_from own_file l n (multi_line_labels own_file
             (map (λ (y : LabelInFile Id). y.label) (cond s (x ∷ own xs) (own xs)))))
-        by_tests s t h = grind (arith, common_steps, by_lane_mark)
+        by_tests n s t h = grind (arith, common_steps)
 
     -- ---- lines that are shown
 

@@ -2,14 +2,14 @@
 -- snippet: for the clauses of `render_snippets` and `RichDiagnostic::render`.
 use Rattle.codespan_core.proofs.Std.{common_steps, rules, arith, ◌≡◌, ℕ, ◌<◌, Bool, true, ◌==◌}
 use Rattle.codespan_core.proofs.Std.{◌&&◌, List, [], map, filter, reverse, None, refl, sym, ◌∙◌, ap}
-use Rattle.codespan_core.proofs.Std.{subst, list_any, range_with_len, AllByRecursion, eqb-true}
+use Rattle.codespan_core.proofs.Std.{list_any, range_with_len, AllByRecursion, eqb-true}
 use Rattle.codespan_core.proofs.Std.{recursion_from_All, All-from_recursion, All-permutation}
 use Rattle.std.proofs.lemmas.List.Sorted.{list_any-IsPermutation}
 use Rattle.codespan_core.specs.FileModel.{FileDatabase, FileModel, line_count}
 use Rattle.codespan_core.specs.Labels.{LaneMark, LabelModel, is_single, first_line, drawn_label}
 use Rattle.codespan_core.specs.Labels.{lane_marks_on, single_labels, sorted}
 use Rattle.codespan_picture.specs.Types.{Config}
-use Rattle.codespan_picture.specs.Arguments.{ascend_from, starts_in_order}
+use Rattle.codespan_picture.specs.Arguments.{starts_in_order}
 use Rattle.codespan_picture.specs.Lines.{drawn_lines}
 use Rattle.codespan_picture.specs.Lookups.{filled_lines}
 use Rattle.codespan_picture.specs.Sequences.{break_between, in_sequence}
@@ -18,11 +18,11 @@ use Rattle.codespan_picture.specs.Snippets.{num_multi_labels, line_at, line_rows
 use Rattle.codespan_picture.specs.Snippets.{rows_of_drawn, file_ids}
 use Rattle.codespan_views.specs.Private.{Collected, Annotation, is_before, is_on_line, is_of_file}
 use Rattle.codespan_views.specs.Private.{shows_line, annotation_view, IsCollected, IsIdAt}
-use Rattle.codespan_views.specs.Private.{all_annotations, are_shown, lane_marks_in, lines_of}
-use Rattle.codespan_views.specs.Private.{single_labels_in, line_of_group, rows_of_lines}
-use Rattle.codespan_views.specs.Private.{filled_lines_of, drawn_lines_of, are_lane_marks_in_order}
-use Rattle.codespan_views.specs.Private.{is_line_in_order}
-use Rattle.codespan_views.proofs.AnnotationGroups.{lines_after, snippet_lines-by_line, all-on_line}
+use Rattle.codespan_views.specs.Private.{all_annotations, lane_marks_in, lines_of, single_labels_in}
+use Rattle.codespan_views.specs.Private.{line_of_group, rows_of_lines, filled_lines_of}
+use Rattle.codespan_views.specs.Private.{drawn_lines_of, are_lane_marks_in_order, is_line_in_order}
+use Rattle.codespan_views.proofs.AnnotationGroups.{are_shown, lines_after, snippet_lines-by_line}
+use Rattle.codespan_views.proofs.AnnotationGroups.{all-on_line}
 use Rattle.codespan_views.proofs.FileLabels.{HasFileIndex, is_of_range}
 use Rattle.codespan_views.proofs.AnnotationOrder.{below_order, lane_mark_annotation}
 use Rattle.codespan_views.proofs.SingleLabelOrder.{IsOn, single_labels-ascend}
@@ -35,10 +35,10 @@ use Rattle.codespan_picture.proofs.OrderSorts.{has_range, ascending-same, sorted
 use Rattle.codespan_picture.proofs.OrderSorts.{sorted-keeps}
 use Rattle.codespan_picture.proofs.ListElements.{all-weaker, all-filter, all-both, all-pass}
 use Rattle.codespan_picture.proofs.ListElements.{filter-filter, any-filtered}
-use Rattle.codespan_picture.proofs.SortedLists.{Rises, Climbs, rises-filter, rises-from_sorted}
+use Rattle.codespan_picture.proofs.SortedLists.{Rises, rises-filter, rises-from_sorted}
 use Rattle.codespan_picture.proofs.SortedFilters.{Falls, filter-reverse, filter-sorted_climbs}
 use Rattle.codespan_picture.proofs.SortedFilters.{filter-sorted_falls}
-use Rattle.codespan_views.proofs.LabelStarts.{ascends-starts}
+use Rattle.codespan_views.proofs.SingleLabelOrder.{ascends-starts}
 use Rattle.codespan_views.proofs.SnippetLineRows.{snippet_lines-rows, snippet_lines-fit}
 use Rattle.codespan_views.proofs.SnippetLineRows.{snippet_lines-lines, snippet_lines-fills}
 use Rattle.codespan_views.proofs.GroupAnnotations.{single_labels-of_range, range-rank}
@@ -53,16 +53,13 @@ module _ {Id : Type 0} {database : FileDatabase Id} (lawful : AreFiles database)
     {config : Config} {xs : List (LabelInFile Id)} {collected : Collected Id}
     (known : IsCollected database config xs collected)
     (f : ℕ) (id : Id) (at : IsIdAt (file_ids database.same xs) f id) where
-  -- which ids name one file, and the file that an id names
-  abbrev same : Id → Id → Bool
-  same = database.same
-
+  -- the file that an id names
   abbrev file : Id → FileModel
   file = database.file
 
   -- the annotations in the order of the labels
   abbrev all : List Annotation
-  all = all_annotations same file config xs
+  all = all_annotations database.same file config xs
 
   -- the annotations in order
   abbrev annotations : List Annotation
@@ -70,7 +67,7 @@ module _ {Id : Type 0} {database : FileDatabase Id} (lawful : AreFiles database)
 
   -- the file with its labels
   abbrev s : LabeledFileModel
-  s = labeled_file_model same file xs id
+  s = labeled_file_model database.same file xs id
 
   -- its annotations in order
   abbrev own : List Annotation
@@ -81,7 +78,7 @@ module _ {Id : Type 0} {database : FileDatabase Id} (lawful : AreFiles database)
   own_on_line l = filter (is_on_line l) own
 
   -- the file has this index among those of the labels
-  here : HasFileIndex same file (file_ids same xs) f id
+  here : HasFileIndex database.same file (file_ids database.same xs) f id
   here = grind (arith, common_steps, index_of_file-at, num_multi_labels_of-equal)
 
   -- its annotations are of the file
@@ -97,15 +94,11 @@ module _ {Id : Type 0} {database : FileDatabase Id} (lawful : AreFiles database)
   own-below =
       let IsInside : (e : Annotation) → Type 0 = λ e. is_of_file f e ≡ true
       → e.line < line_count (file id) in
-      let all_inside : AllByRecursion IsInside all = annotation_lines.annotations-below here config
-      xs [] in
-      let whole : AllByRecursion IsInside annotations = recursion_from_All IsInside annotations
+      let inside : AllByRecursion IsInside annotations = recursion_from_All IsInside annotations
       (All-permutation IsInside all annotations known.permutation
-      (All-from_recursion IsInside all all_inside)) in
+      (All-from_recursion IsInside all (annotation_lines.annotations-below here config xs []))) in
       all-weaker (λ e. (is_of_file f e ≡ true) × IsInside e) (λ e. e.line < line_count (file id))
-      (λ e h. h.1 h.0) own
-      (all-both (λ e. is_of_file f e ≡ true) IsInside own (all-pass (is_of_file f) annotations)
-      (all-filter IsInside (is_of_file f) annotations whole))
+      (λ e h. h.1 h.0) own (search (rules, all-both, all-pass, all-filter, inside))
 
   -- the annotations of a line are of it
   own_on_line-all : (l : ℕ) → AllByRecursion (IsOn f l) (own_on_line l)
@@ -169,8 +162,7 @@ module _ {Id : Type 0} {database : FileDatabase Id} (lawful : AreFiles database)
           (annotation_lines.all-single_labels here config l xs [] 0 refl)
 
       falls : (start end : ℕ) → Falls is_before (filter (picks l (is_of_range start end)) all)
-      falls start end =
-          subst (Falls is_before) (sym (all_in_range start end))
+      falls start end = rw (all_in_range start end)
           (annotation_lines.single_labels-fall here config l start end 0 xs)
 
       ranges : (start end : ℕ)
@@ -199,7 +191,7 @@ module _ {Id : Type 0} {database : FileDatabase Id} (lawful : AreFiles database)
       → filter (picks l (is_kind 2)) all ≡ map (lane_mark_annotation f l) (lane_marks l)
   lane_marks-of_all l =
       sym (of_picked l (is_kind 2) all) ∙ ap (filter (is_kind 2)) (line_annotations-are l)
-      ∙ annotation_lines.all-lane_marks here config l xs [] 0 refl
+      ∙ annotation_lines.all-lane_marks here config l xs []
 
   -- the lane marks of the annotations of a line
   lane_marks-are : (l : ℕ) → lane_marks_in (own_on_line l) ≡ lane_marks l
@@ -208,7 +200,7 @@ module _ {Id : Type 0} {database : FileDatabase Id} (lawful : AreFiles database)
       ∙ ap lane_marks_in (of_picked l (is_kind 2) annotations
       ∙ filter-sorted_climbs is_before below_order all annotations known.permutation known.sorted
       (picks l (is_kind 2))
-      (subst (Climbs is_before) (sym (lane_marks-of_all l))
+      (rw (lane_marks-of_all l)
       (ascend-climbs f l (num_multi_labels s) 0 (lane_marks l) (lane_marks-ascend s l)))
       ∙ lane_marks-of_all l)
       ∙ lane_marks-of_annotations f l (lane_marks l)
@@ -267,25 +259,17 @@ module _ {Id : Type 0} {database : FileDatabase Id} (lawful : AreFiles database)
 
   -- a line's labels are in the order of their starts
   starts-ascend : (l : ℕ) → starts_in_order (single_labels_in (own_on_line l)) ≡ true
-  starts-ascend l = grind (
-    arith,
-    common_steps,
-    ascends-starts,
-    single_labels-ascend,
-    own_on_line-all,
-    own_on_line-rises,
-  )
+  starts-ascend l = search
+      (rules, ascends-starts, single_labels-ascend, own_on_line-all, own_on_line-rises)
 
   -- its lane marks ascend in the lanes of the file
   lane_marks-fit : (l : ℕ) → are_lane_marks_in_order (num_multi_labels s) (own_on_line l) ≡ true
-  lane_marks-fit l = ap (ascend_from (num_multi_labels s) 0) (lane_marks-are l)
-      ∙ lane_marks-ascend s l
+  lane_marks-fit l = rw (lane_marks-are l) (lane_marks-ascend s l)
 
   -- so do those of each snippet line
   pub snippet-fits : AllByRecursion
       (λ snippet_line. is_line_in_order (num_multi_labels s) snippet_line ≡ true) (lines_of own)
   snippet-fits =
-      subst (AllByRecursion (λ snippet_line. is_line_in_order (num_multi_labels s) snippet_line
-      ≡ true)) (sym snippet_lines-are)
+      rw snippet_lines-are
       (snippet_lines-fit (num_multi_labels s) own_on_line
       (λ l i. starts-ascend l i && lane_marks-fit l i) lane_marks-fit None shown)

@@ -2,12 +2,11 @@
 -- their annotations make are those of their labels. For the clauses of `RichDiagnostic::render` and
 -- `render_snippets`.
 use Rattle.codespan_core.proofs.Std.{common_steps, ◌≡◌, ℕ, Bool, List, [], ◌∷◌, ◌++◌, map, max}
-use Rattle.codespan_core.proofs.Std.{None, get_or, drop, refl, sym, subst, ap, ◌∙◌, arith, flat_map}
-use Rattle.codespan_core.proofs.Std.{fold, AllByRecursion, AllZip, flat_map-map}
+use Rattle.codespan_core.proofs.Std.{None, refl, sym, ap, ◌∙◌, arith, flat_map, fold}
+use Rattle.codespan_core.proofs.Std.{AllByRecursion, AllZip, flat_map-map}
 use Rattle.codespan_core.specs.FileModel.{FileDatabase, FileModel}
 use Rattle.codespan_core.specs.FileModel.Lookup.{LocationAt, Name}
 use Rattle.codespan_picture.specs.Types.{Config, Layout, Classic, Unbroken}
-use Rattle.codespan_picture.specs.Arguments.{locus_view}
 use Rattle.codespan_picture.specs.Lines.{drawn_lines}
 use Rattle.codespan_picture.specs.Lookups.{filled_lines, first_error, lookups_of_file}
 use Rattle.codespan_picture.specs.Lookups.{numbers_for_padding}
@@ -16,16 +15,15 @@ use Rattle.codespan_picture.specs.Snippets.{LabelInFile, LabeledFileModel, file_
 use Rattle.codespan_picture.specs.Snippets.{labeled_file_model, labeled_file_models}
 use Rattle.codespan_picture.specs.Snippets.{num_multi_labels, rows_of_drawn}
 use Rattle.codespan_views.specs.Private.{Collected, RustFile, Annotation, annotation_view}
-use Rattle.codespan_views.specs.Private.{HasSpannedPadding, IsCollected, IsLookedUpEarly}
+use Rattle.codespan_views.specs.Private.{all_digit_counts, IsCollected, IsLookedUpEarly}
 use Rattle.codespan_views.specs.Private.{KeepsLabels, digits_of_files, early_failure}
 use Rattle.codespan_views.specs.Private.{early_number_lookups, known_numbers}
 use Rattle.codespan_views.specs.Private.{known_numbers_of_files, known_numbers_of_labels, lines_at}
-use Rattle.codespan_views.specs.Private.{padding_by_layout, of_files, digit_counts_of, numbers_of}
-use Rattle.codespan_views.specs.Private.{number_lookups, IsIdAt, AreLabeledFiles, loci_view}
-use Rattle.codespan_views.specs.Private.{with_labels, without_locus, HasLocus}
-use Rattle.codespan_views.specs.Private.{locus_lookups_of_files, locus_byte, AreInOrder}
-use Rattle.codespan_views.specs.Private.{SnippetLine, drawn_lines_of, filled_lines_of}
-use Rattle.codespan_views.specs.Private.{rows_of_lines, IsLocusOfFile, IsUtf8Locus}
+use Rattle.codespan_views.specs.Private.{padding_by_layout, of_files, digit_counts_of, IsIdAt}
+use Rattle.codespan_views.specs.Private.{AreLabeledFiles, loci_view, with_labels, without_locus}
+use Rattle.codespan_views.specs.Private.{HasLocus, locus_lookups_of_files, AreInOrder, SnippetLine}
+use Rattle.codespan_views.specs.Private.{drawn_lines_of, filled_lines_of, rows_of_lines}
+use Rattle.codespan_views.specs.Private.{IsLocusOfFile}
 use Rattle.codespan_views.proofs.AnnotationOutput.{snippet-fills, snippet-fits, snippet-lines}
 use Rattle.codespan_views.proofs.AnnotationOutput.{snippet-rows}
 use Rattle.codespan_views.proofs.EarlyErrors.{later_failure, locus_lookups_of_labels}
@@ -49,12 +47,6 @@ pub record AreLinesOfSnippet (config : Config) (s : LabeledFileModel)
   pub rows : rows_of_lines s.file (num_multi_labels s) snippet_lines ≡ rows_of_drawn s None
       (drawn_lines config s.file s.labels)
   pub in_order : AreInOrder (num_multi_labels s) snippet_lines
-
--- in the unbroken layout the numbers of drawn lines count
-numbered : (config : Config) → config.layout ≡ Unbroken → (s : LabeledFileModel)
-    → numbered_lines config s ≡ drawn_lines config s.file s.labels
-numbered config unbroken s =
-    ap (λ v. numbered_lines (record config { layout = v }) s) unbroken
 
 -- nothing of each is nothing
 abbrev pub none_of : {Id A : Type 0} → Id → List A
@@ -110,12 +102,8 @@ module _ {Id : Type 0} {database : FileDatabase Id} (lawful : AreFiles database)
       → IsElementAt collected.files.items k f → snippet_lines ≡ lines_at es k
       → IsFileOfLabels config (labeled f.file_id) f snippet_lines
   file-at {k} {f} {snippet_lines} at is = record {
-    lanes_are =
-        ap (λ t. t.2) (labels-at at all.files);
-    lines_are =
-        subst (AreLinesOfSnippet config (labeled f.file_id)) (sym is)
-        (snippet k f.file_id
-        (subst (λ ids. IsIdAt ids k f.file_id) (ids-of_labels all.files) (is-id at)));
+    lanes_are = ap (λ t. t.2) (labels-at at all.files);
+    lines_are = rw is (snippet k f.file_id (rw (← ids-of_labels all.files) (is-id at)));
   }
 
   -- ---- lookups
@@ -130,9 +118,7 @@ module _ {Id : Type 0} {database : FileDatabase Id} (lawful : AreFiles database)
           (λ id. lookups_of_file id (numbers_for_padding database xs config layout id))
           (file_ids same xs)
       by_layout Classic = sym (nothing-of_each (file_ids same xs))
-      by_layout Unbroken =
-          of-labels (λ id ls. lookups_of_file id (number_lookups (filled_lines_of ls))) _
-          (λ k id at. ap (λ ls. lookups_of_file id (number_lookups ls)) (snippet k id at).fills)
+      by_layout Unbroken = grind (arith, common_steps, of-labels, snippet)
 
   -- the lookups of the loci of files are those of their snippets
   loci-are : locus_lookups_of_files collected.files.items
@@ -159,12 +145,8 @@ module _ {Id : Type 0} {database : FileDatabase Id} (lawful : AreFiles database)
   loci-of_files [] [] known loci = tt
   loci-of_files [] (id ∷ ids) known loci = absurd (cc known)
   loci-of_files (f ∷ fs) [] known loci = absurd (cc known)
-  loci-of_files (f ∷ fs) (id ∷ ids) known loci = (
-    subst (λ n. IsUtf8Locus (file id, n) (locus_view f.locus)) (start-is same file id xs)
-        (subst (λ t. IsUtf8Locus (file t.0, locus_byte t.1) (locus_view f.locus))
-        (ap (λ ts. get_or ts 0 (without_locus f)) known) loci.0),
-    loci-of_files fs ids (ap (drop 1) known) loci.1,
-  )
+  loci-of_files (f ∷ fs) (id ∷ ids) known loci = grind
+      (arith, common_steps, start-is same file id xs, loci-of_files fs ids)
 
   -- so are those of all files
   pub loci-of_all : AllByRecursion (HasLocus file) collected.files.items
@@ -183,9 +165,7 @@ module _ {Id : Type 0} {database : FileDatabase Id} (lawful : AreFiles database)
           (λ id. known_numbers layout (file id) (filled_lines config (labeled id)))
           (file_ids same xs)
       by_layout Classic = sym (nothing-of_each (file_ids same xs))
-      by_layout Unbroken =
-          of-labels (λ id ls. numbers_of (file id) (filled_lines_of ls)) _
-          (λ k id at. ap (numbers_of (file id)) (snippet k id at).fills)
+      by_layout Unbroken = grind (arith, common_steps, of-labels, snippet)
 
   -- in the unbroken layout the digits of the drawn lines are those that the padding fits
   digits-are : config.layout ≡ Unbroken
@@ -195,21 +175,19 @@ module _ {Id : Type 0} {database : FileDatabase Id} (lawful : AreFiles database)
       ap (fold max 0)
       (of-labels (λ id ls. digit_counts_of (file id) (drawn_lines_of ls))
       (λ id. digits_of (labeled id) (numbered_lines config (labeled id)))
-      (λ k id at. ap (digit_counts_of (file id))
-      ((snippet k id at).lines ∙ sym (numbered config unbroken (labeled id))))
-      ∙ sym
-      (flat_map-map (λ (s : LabeledFileModel). digits_of s (numbered_lines config s)) labeled
-      (file_ids same xs)))
+      (λ k id at. grind (arith, common_steps, snippet))
+      ∙ sym (flat_map-map _ labeled (file_ids same xs)))
 
   -- so the padding width by the layout fits
-  padding-is : HasSpannedPadding file xs collected
+  padding-is : collected.padding.digit_count ≡ fold max 0 (all_digit_counts file xs)
       → padding_by_layout config.layout file collected
       ≡ padding_of config (labeled_file_models same file xs)
   padding-is spanned = grind (arith, common_steps, spanned-padding_width, digits-are)
 
   -- ---- what was collected, looked up
 
-  pub looked-up : {new : Collected Id} {numbers : List ℕ} → HasSpannedPadding file xs collected
+  pub looked-up : {new : Collected Id} {numbers : List ℕ}
+      → collected.padding.digit_count ≡ fold max 0 (all_digit_counts file xs)
       → numbers ≡ known_numbers_of_files config.layout file collected
       → new.padding.digit_count ≡ padding_by_layout config.layout file collected
       → AllByRecursion (HasLocus file) new.files.items

@@ -1,25 +1,30 @@
--- Annotations that are added, one after another, for the clause `added` of `push_line`.
-use Rattle.codespan_core.proofs.Std.{common_steps, ◌≡◌, ℕ, Bool, true, List, [], ◌++◌, Option, Some}
-use Rattle.codespan_core.proofs.Std.{None, refl, sym, ◌∙◌, arith, Bor, ◌&&◌, if◌then◌else◌}
-use Rattle.codespan_core.proofs.Std.{append-nil, append_assoc, map-append, nat_tests}
+-- The annotations of a line of a label, which are added one after another, by the lines on which
+-- the label starts and ends: for the clauses `added`, `padding` and `succeeded` of `push_line` and
+-- `collect_line`.
+use Rattle.codespan_core.proofs.Std.{common_steps, ◌≡◌, ℕ, true, List, [], ◌++◌, Option, Some, None}
+use Rattle.codespan_core.proofs.Std.{arith, Bor, append-nil, append_assoc, map-append, nat_tests}
+use Rattle.codespan_core.proofs.Std.{le-leb}
 use Rattle.codespan_core.specs.Labels.{LabelModel, first_line, last_line}
+use Rattle.codespan_picture.specs.Lines.{spans}
 use Rattle.codespan_picture.specs.Types.{Config, Label}
 use Rattle.codespan_picture.specs.OutputStreams.{label_of}
 use Rattle.codespan_views.specs.Private.{RustAnnotation, LabelToCollect, Annotation, AnnotationKind}
-use Rattle.codespan_views.specs.Private.{Single, annotation_if_any, line_annotations, kind_on}
-use Rattle.codespan_views.specs.Private.{multi_kind_by_ends, kind_by_ends, AppendsAnnotations}
-use Rattle.codespan_views.specs.Private.{IsLineOf, kind_view, IsFarInside}
+use Rattle.codespan_views.specs.Private.{annotation_if_any, line_annotations, multi_kind_by_ends}
+use Rattle.codespan_views.specs.Private.{kind_by_ends, AppendsAnnotations, IsLineOf, kind_view}
+use Rattle.codespan_views.specs.Private.{IsFarInside}
 use Rattle.codespan_views.specs.declared.annotation.LineInfo.{LineInfo}
 use borrow.Author.Tests.{eqb-true}
 use Rattle.codespan_picture.proofs.ListElements.{all-append, all-weaker}
+use Rattle.std.proofs.lemmas.Bool.{and_from, or_left, or_right}
+use Rattle.codespan_picture.specs.Lines.{is_around}
+use Rattle.codespan_picture.specs.Lookups.{is_looked_up}
 use Rattle.codespan_views.specs.declared.annotation.AnnotationKind.TheVariants as rust
 use Rattle.codespan_views.specs.declared.annotation.MultiLabelKind.TheVariants as label_kind
 
 module _ {Id : Type 0} {P : RustAnnotation Id → Type 0} where
   -- nothing was added
   pub AppendsAnnotations-none : {xs : List (RustAnnotation Id)} → AppendsAnnotations P xs xs []
-  AppendsAnnotations-none {xs} = record
-      { more = []; whole = sym (append-nil xs); are = refl; each = tt }
+  AppendsAnnotations-none = grind (arith, common_steps, append-nil)
 
   -- some annotations were added, and then others
   pub AppendsAnnotations-both : {xs ys zs : List (RustAnnotation Id)} {es fs : List Annotation}
@@ -31,8 +36,7 @@ module _ {Id : Type 0} {P : RustAnnotation Id → Type 0} where
   -- the same annotations in other words
   pub AppendsAnnotations-as : {xs ys : List (RustAnnotation Id)} {es fs : List Annotation} → fs ≡ es
       → AppendsAnnotations P xs ys es → AppendsAnnotations P xs ys fs
-  AppendsAnnotations-as same a = record
-      { more = a.more; whole = a.whole; are = a.are ∙ sym same; each = a.each }
+  AppendsAnnotations-as same a = grind (arith, common_steps)
 
 -- what holds of what was added is weaker
 pub AppendsAnnotations-weaker : {Id : Type 0} {P Q : RustAnnotation Id → Type 0}
@@ -42,21 +46,6 @@ pub AppendsAnnotations-weaker : {Id : Type 0} {P Q : RustAnnotation Id → Type 
 AppendsAnnotations-weaker {P = P} {Q = Q} weaker a = grind (arith, common_steps, all-weaker)
 
 module _ {Id : Type 0} (x : LabelToCollect Id) where
-  -- the drawn range of a label is its range from the start of its line
-  by_kind : (b c : Bool) (rendered here : LabelModel) (shown : Option AnnotationKind)
-      → (c ≡ true → rendered ≡ here)
-      → (if b && c then Some (Single x.index rendered) else shown)
-      ≡ (if b && c then Some (Single x.index here) else shown)
-  by_kind b c rendered here shown same = grind (arith, common_steps)
-
-  -- the annotations of a label on a line of its file, by the indices of its lines
-  kind_on-is : (line : LineInfo) → IsLineOf x.file line
-      → kind_on x.config x.file x.file_index x.index x.lane x.label line.index
-      ≡ kind_by_ends x.config x.index (first_line x.file x.label) (last_line x.file x.label)
-      line.index
-      line.start x.label
-  kind_on-is line is = grind (arith, common_steps, by_kind, eqb-true)
-
   -- the annotations of a label on a line, and its multi-line label mark on it
   pub annotation_if_any-line : {line : LineInfo} {first last : ℕ}
       {kind lane_mark : Option AnnotationKind}
@@ -67,7 +56,7 @@ module _ {Id : Type 0} (x : LabelToCollect Id) where
       ≡ annotation_if_any
       x.file_index line.index kind ++ annotation_if_any x.file_index line.index lane_mark
   annotation_if_any-line {line} is_first is_last is kind_is multi_is = grind
-      (arith, common_steps, by_kind, kind_on-is)
+      (arith, common_steps, eqb-true)
 
 -- a label does not make a line shown that is far from its ends
 pub far-kind : (config : Config) (index s e l start : ℕ) (x : LabelModel)
@@ -81,3 +70,18 @@ pub far-multi_label : {Id : Type 0} (config : Config) (lane s e l start : ℕ)
     → Some (kind_view start (rust.Multi label_kind.Left lane label)) ≡ multi_kind_by_ends lane s e l
     start (label_of label.now).label
 far-multi_label config lane s e l start label far = grind (arith, nat_tests)
+
+-- a line far from both ends is between them
+pub far-spans : (config : Config) (s e l : ℕ) → IsFarInside config s e l → spans s e l ≡ true
+far-spans config s e l far = grind (arith, common_steps, or_right, and_from, le-leb)
+
+module _ {Id : Type 0} (x : LabelToCollect Id) (s e l : ℕ) (first : first_line x.file x.label ≡ s)
+    (last : last_line x.file x.label ≡ e) where
+  -- a line that the label spans is looked up
+  pub looked_up-spanned : spans s e l ≡ true → is_looked_up x.config x.file x.label l ≡ true
+  looked_up-spanned spanned = grind (arith, common_steps, or_left)
+
+  -- and so is one around the label
+  pub looked_up-around : is_around x.config s e l ≡ true
+      → is_looked_up x.config x.file x.label l ≡ true
+  looked_up-around around = grind (arith, common_steps, or_right)

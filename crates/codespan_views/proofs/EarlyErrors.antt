@@ -1,7 +1,7 @@
 -- What fails the lookups before the header: those of the labels, and then those of filled lines and
 -- of loci. For the clause `renders` of `RichDiagnostic::render`.
-use Rattle.codespan_core.proofs.Std.{arith, common_steps, ◌≡◌, List, ◌++◌, Option, Some, None, ◌∙◌}
-use Rattle.codespan_core.proofs.Std.{ap, append_assoc, flat_map}
+use Rattle.codespan_core.proofs.Std.{arith, common_steps, ◌≡◌, List, ◌++◌, Option, Some, None}
+use Rattle.codespan_core.proofs.Std.{append_assoc, flat_map}
 use Rattle.codespan_core.specs.FileModel.{FileDatabase, Lookup, or_failure}
 use Rattle.codespan_picture.specs.Types.{Error, Config}
 use Rattle.codespan_picture.specs.Lookups.{early_lookups, first_error, locus_lookups}
@@ -43,9 +43,8 @@ module _ {Id : Type 0} (database : FileDatabase Id) (config : Config)
   -- a lookup of a label fails
   pub labels-failed : (e : Error) → labels_failure config database xs ≡ Some e
       → failed early ≡ Some e
-  labels-failed e known = early-is ∙ ap (λ (o : Option Error). or_failure o later_failure) known
+  labels-failed e known = grind (arith, common_steps, early-is)
 
   -- the labels' lookups succeed, and the files' decide the rest
   pub labels-succeeded : labels_failure config database xs ≡ None → failed early ≡ later_failure
-  labels-succeeded succeeded =
-      early-is ∙ ap (λ (o : Option Error). or_failure o later_failure) succeeded
+  labels-succeeded succeeded = grind (arith, common_steps, early-is)

@@ -1,43 +1,21 @@
 -- The turn of a file in a loop over the files, by the index of its id, for the clauses of
 -- `find_numbers` and `render_snippets`.
 use Rattle.codespan_core.proofs.Std.{common_steps, ◌≡◌, ℕ, suc, ◌+◌, ◌-◌, ◌≤◌, true, List, [], ◌∷◌}
-use Rattle.codespan_core.proofs.Std.{◌++◌, length, take, drop, map, filter, refl, sym, ap, ◌∙◌}
+use Rattle.codespan_core.proofs.Std.{length, take, drop, map, filter, refl, sym, ap, ◌∙◌}
 use Rattle.codespan_core.proofs.Std.{subst, arith, All, flat_map, AllByRecursion, prefix_len}
-use Rattle.codespan_core.proofs.Std.{IsSortedBy, eqb-true, append-nil, append_assoc, get_or-map}
-use Rattle.codespan_core.proofs.Std.{length-map, All-from_recursion}
+use Rattle.codespan_core.proofs.Std.{IsSortedBy, eqb-true}
+use Rattle.codespan_core.proofs.Std.{All-from_recursion}
 use Rattle.codespan_core.specs.FileModel.{FileModel}
 use Rattle.codespan_views.specs.Private.{RustAnnotation, RustFile, Annotation, is_before}
 use Rattle.codespan_views.specs.Private.{is_of_file, IsLineOf, IsOfFiles, annotation_view, ids_view}
 use Rattle.codespan_views.specs.Private.{IsIdAt, flat_map_indexed, lines_at, lines_of}
 use Rattle.codespan_views.proofs.FileSlices.{IsFileSlice, from_file, next-file, next_slice}
-use Rattle.codespan_views.proofs.FileIndices.{at-get}
+use Rattle.codespan_views.proofs.FilesInOrder.{is-id}
 use Rattle.codespan_views.proofs.IndexedElements.{IsElementAt}
 use Rattle.codespan_picture.proofs.ListElements.{all-both, all-mapped, all-slice, all-pass}
 use Rattle.codespan_picture.proofs.ListElements.{all-weaker}
 
 -- ---- ids at their indices
-
--- what ids have, one after the other
-pub flat_map_indexed-append : {Id A : Type 0} (image : ℕ → Id → List A) (k : ℕ) (xs ys : List Id)
-    → flat_map_indexed image k (xs ++ ys) ≡ flat_map_indexed image k xs ++ flat_map_indexed image
-    (k + length xs) ys
-flat_map_indexed-append image k [] ys = grind (arith, common_steps)
-flat_map_indexed-append {Id} {A} image k (x ∷ xs) ys =
-    let e : k + 1 + length xs ≡ k + suc (length xs) = omega arith in
-    ap (λ (r : List A). image k x ++ r)
-    (flat_map_indexed-append image (k + 1) xs ys
-    ∙ ap (λ n. flat_map_indexed image (k + 1) xs ++ flat_map_indexed image n ys) e)
-    ∙ sym
-    (append_assoc (image k x) (flat_map_indexed image (k + 1) xs)
-    (flat_map_indexed image (k + suc (length xs)) ys))
-
--- one more id
-pub flat_map_indexed-more : {Id A : Type 0} (image : ℕ → Id → List A) (f : ℕ) (ids more : List Id)
-    (id : Id)
-    → length ids ≡ f → more ≡ ids ++ id ∷ []
-    → flat_map_indexed image 0 more ≡ flat_map_indexed image 0 ids ++ image f id
-flat_map_indexed-more {Id} {A} image f ids more id len is = grind
-    (arith, common_steps, flat_map_indexed-append, append-nil)
 
 -- ids that have the same at their indices
 pub flat_map_indexed-same : {Id A : Type 0} (image : ℕ → Id → List A) (each : Id → List A) (k : ℕ)
@@ -45,14 +23,13 @@ pub flat_map_indexed-same : {Id A : Type 0} (image : ℕ → Id → List A) (eac
     → ((i : ℕ) (id : Id) → IsIdAt js i id → image (k + i) id ≡ each id)
     → flat_map_indexed image k js ≡ flat_map each js
 flat_map_indexed-same image each k [] same = refl
-flat_map_indexed-same {Id} {A} image each k (j ∷ js) same =
-    let none : k + 0 ≡ k = omega arith in
-    ap (λ (r : List A). r ++ flat_map_indexed image (k + 1) js)
-    (ap (λ n. image n j) (sym none) ∙ same 0 j refl)
-    ∙ ap (λ (r : List A). each j ++ r)
-    (flat_map_indexed-same image each (k + 1) js
-    (λ i id at. let e : k + 1 + i ≡ k + suc i = omega arith in
-    ap (λ n. image n id) e ∙ same (suc i) id at))
+flat_map_indexed-same {Id} {A} image each k (j ∷ js) same = grind (
+  arith,
+  common_steps,
+  same 0 j,
+  flat_map_indexed-same image each (k + 1) js
+      (λ i id at. grind (arith, common_steps, same (suc i) id)),
+)
 
 module _ {Id : Type 0} (file : Id → FileModel) where
   -- the annotations of a file are of lines that it has
@@ -64,14 +41,10 @@ module _ {Id : Type 0} (file : Id → FileModel) where
   slice-lines ids xs at n f id ys is_at lines own =
       let slice = take n (drop at xs) in
       let of_file = all-mapped annotation_view (λ e. is_of_file f e ≡ true) slice
-      (subst (AllByRecursion (λ e. is_of_file f e ≡ true)) (sym own)
-      (all-pass (is_of_file f) ys)) in
-      all-weaker (λ e. (is_of_file f (annotation_view e) ≡ true) × IsOfFiles file ids e)
-      (λ e. IsLineOf (file id) e.line)
-      (λ e h. h.1 id (subst (λ k. IsIdAt ids k id) (sym (eqb-true e.file_index f h.0)) is_at))
-      slice
-      (all-both (λ e. is_of_file f (annotation_view e) ≡ true) (IsOfFiles file ids) slice
-      of_file (all-slice (IsOfFiles file ids) at n xs lines))
+      (rw own (all-pass (is_of_file f) ys)) in
+      all-weaker _ _
+      (λ e h. h.1 id (subst (λ k. IsIdAt ids k id) (sym (eqb-true e.file_index f h.0)) is_at)) slice
+      (all-both _ _ slice of_file (all-slice (IsOfFiles file ids) at n xs lines))
 
 -- ---- the turn of a file
 
@@ -103,16 +76,9 @@ module _ {Id : Type 0} {files : List (RustFile Id)} {xs : List (RustAnnotation I
     pub own_lines : (file : Id → FileModel) → AllByRecursion (IsOfFiles file (ids_view files)) xs
         → All (λ e. IsLineOf (file f.file_id) e.line) (next_slice zs at n)
     own_lines file lines =
-        let inside = turn.here.inside in
-        let there : IsIdAt (ids_view files) k f.file_id = subst (IsIdAt (ids_view files) k)
-        (get_or-map (λ (g : RustFile Id). g.file_id) files k f f.file_id inside
-        ∙ ap (λ (g : RustFile Id). g.file_id) (sym turn.here.is))
-        (at-get (ids_view files) k f.file_id
-        (omega (arith, inside, length-map files (λ (g : RustFile Id). g.file_id)))) in
-        All-from_recursion (λ e. IsLineOf (file f.file_id) e.line) (next_slice zs at n)
+        All-from_recursion _ (next_slice zs at n)
         (slice-lines file (ids_view files) zs at (at + n - at) k f.file_id (map annotation_view xs)
-        there (subst (AllByRecursion (IsOfFiles file (ids_view files))) (sym same) lines)
-        own_annotations)
+        (is-id turn.here) (rw same lines) own_annotations)
 
     -- so are its snippet lines
     pub own_snippet_lines : lines_of (map annotation_view (next_slice zs at n)) ≡ lines_at

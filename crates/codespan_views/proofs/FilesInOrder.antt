@@ -1,17 +1,20 @@
 -- The files of an output, by their indices, for the clauses of `render_snippets` and
 -- `find_numbers`.
-use Rattle.codespan_core.proofs.Std.{◌≡◌, ℕ, zero, suc, ◌+◌, ◌-◌, ◌<◌, ◌≤◌, Bool, ◌||◌, List, []}
-use Rattle.codespan_core.proofs.Std.{◌∷◌, ◌++◌, length, take, drop, get_or, refl, sym, ap, subst}
+use Rattle.codespan_core.proofs.Std.{◌≡◌, ℕ, zero, suc, ◌+◌, ◌<◌, ◌≤◌, Bool, ◌||◌, List, []}
+use Rattle.codespan_core.proofs.Std.{◌∷◌, length, drop, get_or, refl, sym, ap}
 use Rattle.codespan_core.proofs.Std.{map, ◌∙◌, lt-ltb, arith, nat_lt, common_steps, get_or-map}
-use Rattle.codespan_core.proofs.Std.{length-drop, length-map, length-take-le, map-append, map-id}
+use Rattle.codespan_core.proofs.Std.{length-drop, length-map, map-id}
+use Rattle.codespan_core.proofs.Std.{nat_tests, true, false}
+use Rattle.std.proofs.lemmas.List.Sums.{fails_before_first, passes_at_first}
 use Rattle.std.proofs.lemmas.Simd.{map-map}
 use Rattle.codespan_core.specs.FileModel.{FileModel}
 use Rattle.codespan_picture.specs.Arguments.{locus_view}
 use Rattle.codespan_picture.specs.Snippets.{LabelInFile, has_any}
 use Rattle.codespan_views.specs.Private.{LeastStarts, RustFile, AreLabeledFiles, ids_view}
 use Rattle.codespan_views.specs.Private.{loci_view, with_labels, without_locus, IsIdAt}
+use Rattle.codespan_views.specs.Private.{index_of_file}
 use Rattle.codespan_views.proofs.FileIndices.{at-get}
-use Rattle.codespan_views.proofs.IndexedElements.{IsElementAt, take-at}
+use Rattle.codespan_views.proofs.IndexedElements.{IsElementAt}
 
 -- no element from the end on
 pub drop-end : {X : Type 0} (xs : List X) (k : ℕ) → length xs ≤ k → drop k xs ≡ []
@@ -27,14 +30,10 @@ followed-is : {X : Type 0} (has_notes : Bool) (ys : List X)
     → (has_any ys || has_notes) ≡ (has_notes || nat_lt 0 (length ys))
 followed-is has_notes ys = grind (arith, common_steps, lt-ltb)
 
--- something is left of a difference
-left-over : (a b : ℕ) → nat_lt 0 (b - a) ≡ nat_lt a b
-left-over a b = grind (arith, common_steps)
-
 -- something follows where there are notes or another file
 pub followed-at : {X : Type 0} (b : Bool) (xs : List X) (k : ℕ)
     → (has_any (drop (k + 1) xs) || b) ≡ (b || nat_lt (k + 1) (length xs))
-followed-at has_notes xs k = grind (arith, common_steps, followed-is, length-drop, left-over)
+followed-at has_notes xs k = grind (arith, common_steps, nat_tests, followed-is, length-drop)
 
 -- ---- the file at an index
 
@@ -55,23 +54,52 @@ module _ {Id : Type 0} {files : List (RustFile Id)} {k : ℕ} {f : RustFile Id}
     (at : IsElementAt files k f) where
   -- its id and its locus are at the same index
   pub id-inside : k < length (ids_view files)
-  id-inside = omega (arith, at.inside, ids-count files)
+  id-inside = grind (arith, common_steps, length-map)
 
   pub id-at : f.file_id ≡ get_or (ids_view files) k f.file_id
   id-at = grind (arith, common_steps, get_or-map)
 
   pub is-id : IsIdAt (ids_view files) k f.file_id
-  is-id = subst (IsIdAt (ids_view files) k) (sym id-at)
-      (at-get (ids_view files) k f.file_id id-inside)
+  is-id = grind (arith, common_steps, id-at, at-get, id-inside)
+
+  -- ---- an id that is looked for, and is at no index below this one
+
+  module _ (same : Id → Id → Bool) (id : Id) (past : k ≤ index_of_file same (ids_view files) id)
+    where
+      -- it is not at the index of another one
+      pub index-later : same f.file_id id ≡ false → k + 1 ≤ index_of_file same (ids_view files) id
+      index-later apart =
+          let not_here : k ≡ index_of_file same (ids_view files) id → ⊥ =
+          λ e. grind (
+            arith,
+            common_steps,
+            passes_at_first (λ j. same j id) (ids_view files) f.file_id,
+            id-at,
+            id-inside,
+          ) in
+          omega arith
+
+      -- it is at the index of one that is the same
+      pub index-first : same f.file_id id ≡ true → k ≡ index_of_file same (ids_view files) id
+      index-first is = grind (
+        arith,
+        common_steps,
+        id-at,
+        fails_before_first (λ j. same j id) (ids_view files) k f.file_id,
+      )
 
   -- it has the labels of its id, where each file has those of the one of these ids
   pub labels-at : {same : Id → Id → Bool} {file : Id → FileModel} {xs : List (LabelInFile Id)}
       {ids : List Id} → AreLabeledFiles same file xs ids files
       → without_locus f ≡ with_labels same file xs f.file_id
   labels-at {same} {file} {xs} {ids} labeled =
-      let long : length files ≡ length ids = sym (length-map files without_locus)
-      ∙ ap length labeled.are
-      ∙ length-map ids (with_labels same file xs) in
+      let long : length files ≡ length ids =
+      omega (
+        arith,
+        length-map files without_locus,
+        ap length labeled.are,
+        length-map ids (with_labels same file xs),
+      ) in
       let there : without_locus f ≡ with_labels same file xs (get_or ids k f.file_id) =
       ap without_locus at.is ∙ sym (get_or-map without_locus files k f (without_locus f) at.inside)
       ∙ ap (λ all. get_or all k (without_locus f)) labeled.are
@@ -85,11 +113,3 @@ module _ {Id : Type 0} {files : List (RustFile Id)} {k : ℕ} {f : RustFile Id}
 
   pub locus-at : locus_view f.locus ≡ get_or (loci_view files) k (locus_view f.locus)
   locus-at = grind (arith, common_steps, get_or-map)
-
-  -- how many files are before it
-  pub files_before : length (take k files) ≡ k
-  files_before = let inside = at.inside in length-take-le k files (omega (arith, inside))
-
-  -- the ids of these, and its own
-  pub ids-more : ids_view (take (k + 1) files) ≡ ids_view (take k files) ++ f.file_id ∷ []
-  ids-more = grind (arith, common_steps, take-at, map-append)

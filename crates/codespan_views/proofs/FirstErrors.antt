@@ -12,18 +12,9 @@ use Rattle.codespan_picture.specs.Lookups.{Failures, lookups_of_file, first_erro
 pub or_failure-none : (o : Option Error) → or_failure o None ≡ o
 or_failure-none o = grind (arith, common_steps)
 
--- three in a row
-pub or_failure_assoc : (o p q : Option Error)
-    → or_failure (or_failure o p) q ≡ or_failure o (or_failure p q)
-or_failure_assoc o p q = grind (arith, common_steps)
-
 -- an error of the first lookups is that of all, whatever is looked up after them
 pub or_failure-some : (o p : Option Error) (e : Error) → o ≡ Some e → or_failure o p ≡ Some e
 or_failure-some o p e h = ap (λ (x : Option Error). or_failure x p) h
-
--- where no lookup of the first part fails, the rest decides
-pub or_failure-succeeded : (o p : Option Error) → o ≡ None → or_failure o p ≡ p
-or_failure-succeeded o p h = ap (λ (x : Option Error). or_failure x p) h
 
 module _ {Id : Type 0} (failure : Failures Id) where
   -- the first error of some lookups and of others after them
@@ -31,23 +22,17 @@ module _ {Id : Type 0} (failure : Failures Id) where
       → first_error failure (ls ++ ms) ≡ or_failure (first_error failure ls)
       (first_error failure ms)
   first_error-append [] ms = refl
-  first_error-append (l ∷ ls) ms =
-      ap (or_failure (failure l.0 l.1)) (first_error-append ls ms)
-      ∙ sym (or_failure_assoc (failure l.0 l.1) (first_error failure ls) (first_error failure ms))
+  first_error-append (l ∷ ls) ms = grind (arith, common_steps, first_error-append ls ms)
 
   -- an error of some lookups is also that of these with more after them
   pub first_error-some : (ls ms : List (Id × Lookup)) (e : Error) → first_error failure ls ≡ Some e
       → first_error failure (ls ++ ms) ≡ Some e
-  first_error-some ls ms e h =
-      first_error-append ls ms
-      ∙ or_failure-some (first_error failure ls) (first_error failure ms) e h
+  first_error-some ls ms e h = grind (arith, common_steps, first_error-append)
 
   -- where some lookups succeed, those after them decide what all fail with
   pub first_error-none : (ls ms : List (Id × Lookup)) → first_error failure ls ≡ None
       → first_error failure (ls ++ ms) ≡ first_error failure ms
-  first_error-none ls ms h =
-      first_error-append ls ms
-      ∙ or_failure-succeeded (first_error failure ls) (first_error failure ms) h
+  first_error-none ls ms h = grind (arith, common_steps, first_error-append)
 
   first_succeeded : (o p : Option Error) → or_failure o p ≡ None → (o ≡ None) × (p ≡ None)
   first_succeeded o p h = grind (arith, common_steps)

@@ -1,7 +1,6 @@
 -- Elements of lists at their indices, for the clauses of `collect` and `find_file`.
 use Rattle.codespan_core.proofs.Std.{common_steps, ◌≡◌, ℕ, ◌+◌, ◌<◌, List, [], ◌∷◌, ◌++◌, length}
-use Rattle.codespan_core.proofs.Std.{take, drop, get_or, sym, ap, subst, ◌∙◌, arith, drop-cons}
-use Rattle.codespan_core.proofs.Std.{take_more}
+use Rattle.codespan_core.proofs.Std.{take, drop, get_or, arith, drop-cons, take_more}
 
 -- the element at an index of a list
 pub record IsElementAt {X : Type 0} (xs : List X) (index : ℕ) (x : X) : Type 0 where
@@ -11,16 +10,12 @@ pub record IsElementAt {X : Type 0} (xs : List X) (index : ℕ) (x : X) : Type 0
 -- it is there in an equal list
 pub element-equal : {X : Type 0} {ys xs : List X} {index : ℕ} {x : X} → ys ≡ xs → index < length ys
     → x ≡ get_or ys index x → IsElementAt xs index x
-element-equal {X} {index = index} {x = x} equal inside is = record {
-  inside = subst (λ (zs : List X). index < length zs) equal inside;
-  is = is ∙ ap (λ (zs : List X). get_or zs index x) equal;
-}
+element-equal equal inside is = grind (arith, common_steps)
 
 -- the elements up to it are those before it, and it
 pub take-at : {X : Type 0} {xs : List X} {index : ℕ} {x : X} → IsElementAt xs index x
     → take (index + 1) xs ≡ take index xs ++ x ∷ []
-take-at {X} {xs} {index} {x} at =
-    take_more xs index x at.inside ∙ ap (λ (y : X). take index xs ++ y ∷ []) (sym at.is)
+take-at at = grind (arith, common_steps, take_more)
 
 -- the elements from one on: that one, and those after it
 pub drop-one : {X : Type 0} (xs : List X) (k : ℕ) (x : X) → k < length xs → x ≡ get_or xs k x

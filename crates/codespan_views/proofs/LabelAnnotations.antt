@@ -1,13 +1,13 @@
 -- The annotations of one label on one line, for the clause `collected` of `collect`.
-use Rattle.codespan_core.proofs.Std.{Some, common_steps, rules, ◌≡◌, ℕ, ◌<◌, Bool, true, false, cond}
-use Rattle.codespan_core.proofs.Std.{◌==◌, nat_lt, ◌&&◌, List, [], ◌∷◌, filter, None, ⊎_elim, refl}
-use Rattle.codespan_core.proofs.Std.{sym, ◌∙◌, ap, arith, Option, option_map, list_any}
-use Rattle.codespan_core.proofs.Std.{AllByRecursion, cases_Bool, append-nil, filter-append}
-use Rattle.codespan_core.proofs.Std.{list_any-append, ◌++◌}
+use Rattle.codespan_core.proofs.Std.{common_steps, rules, ◌≡◌, ℕ, ◌<◌, Bool, false, cond, ◌==◌}
+use Rattle.codespan_core.proofs.Std.{nat_lt, ◌&&◌, List, [], ◌∷◌, filter, None, refl, ◌∙◌, ap}
+use Rattle.codespan_core.proofs.Std.{arith, option_map, list_any, AllByRecursion, append-nil}
+use Rattle.codespan_core.proofs.Std.{filter-append, list_any-append, nat_tests, Option, Some, true}
+use Rattle.codespan_core.proofs.Std.{◌++◌}
 use Rattle.std.proofs.Math.Bool.{and-false}
 use Rattle.codespan_core.specs.FileModel.{FileModel, line_count}
-use Rattle.codespan_core.specs.Labels.{LaneMark, LabelModel, first_line, last_line, is_single}
-use Rattle.codespan_core.specs.Labels.{drawn_label, lane_mark_of, multi_label_on}
+use Rattle.codespan_core.specs.Labels.{LabelModel, first_line, last_line, is_single, drawn_label}
+use Rattle.codespan_core.specs.Labels.{LaneMark, lane_mark_of, multi_label_on}
 use Rattle.codespan_picture.specs.Types.{Config}
 use Rattle.codespan_picture.specs.Lines.{shows}
 use Rattle.codespan_picture.specs.Lookups.{is_looked_up}
@@ -16,7 +16,7 @@ use Rattle.codespan_views.specs.Private.{annotation_if_any, shows_line, line_ann
 use Rattle.codespan_views.specs.Private.{annotations_of, Shown}
 use Rattle.codespan_picture.proofs.ListElements.{all-append}
 use Rattle.codespan_views.proofs.LinesOfLabels.{is_kind, among-below, all-range, on-line, not_shown}
-use Rattle.codespan_views.proofs.LinesOfLabels.{not_first, no_multi_label, own_shown}
+use Rattle.codespan_views.proofs.LinesOfLabels.{no_multi_label, own_shown}
 
 -- ---- the annotations of a label
 
@@ -29,15 +29,11 @@ module _ (config : Config) (f : FileModel) (file_index index lane : ℕ) (x : La
   abbrev carets : ℕ → Annotation
   carets l = annotation_on l (Single index (drawn_label f x))
 
-  -- its multi-line label mark on a line, where it has one
-  abbrev pub multi_annotations_where : ℕ → Bool → Option LaneMark → List Annotation
-  multi_annotations_where l a o =
-      annotation_if_any file_index l (cond a None (option_map Multi o))
-
   -- its multi-line label mark on a line
   abbrev pub multi_annotations_on : ℕ → List Annotation
   multi_annotations_on l =
-      multi_annotations_where l (is_single f x) (lane_mark_of lane x (multi_label_on f l x))
+      annotation_if_any file_index l
+      (cond (is_single f x) None (option_map Multi (lane_mark_of lane x (multi_label_on f l x))))
 
   -- what holds of each annotation that it can have on a line
   each-line_annotations : (P : Annotation → Type 0) (l : ℕ)
@@ -61,7 +57,7 @@ module _ (config : Config) (f : FileModel) (file_index index lane : ℕ) (x : La
   -- it has no annotation on a line that is not looked up for it
   not_looked_up : (l : ℕ) → is_looked_up config f x l ≡ false
       → line_annotations config f file_index index lane x l ≡ []
-  not_looked_up l h = grind (arith, common_steps, not_shown, not_first, no_multi_label, and-false)
+  not_looked_up l h = grind (arith, common_steps, not_shown, no_multi_label, and-false, nat_tests)
 
   -- on a line that the file has these are its annotations
   pub annotations-on_line : (l : ℕ)
@@ -69,33 +65,16 @@ module _ (config : Config) (f : FileModel) (file_index index lane : ℕ) (x : La
       ≡ cond (nat_lt l (line_count f))
       (line_annotations config f file_index index lane x l) []
   annotations-on_line l =
+      let es = line_annotations config f file_index index lane x l in
       on-line (line_annotations config f file_index index lane x)
       (λ k. each-line_annotations (λ e. e.line ≡ k) k (λ s. refl)) (is_looked_up config f x) l
       (line_count f) 0
-      ∙ ap (λ b. cond (b && is_looked_up config f x l)
-      (line_annotations config f file_index index lane x l) [])
-      (among-below (line_count f) l)
-      ∙ ⊎_elim
-      (λ (t : is_looked_up config f x l ≡ true). ap
-      (λ b. cond (nat_lt l (line_count f) && b)
-      (line_annotations config f file_index index lane x l) []) t
-      ∙ both (nat_lt l (line_count f)))
-      (λ (t : is_looked_up config f x l ≡ false). ap
-      (λ b. cond (nat_lt l (line_count f) && b)
-      (line_annotations config f file_index index lane x l) []) t
-      ∙ none (nat_lt l (line_count f))
-      ∙ ap (λ (r : List Annotation). cond (nat_lt l (line_count f)) r []) (sym (not_looked_up l t)))
-      (cases_Bool (is_looked_up config f x l))
+      ∙ ap (λ b. cond (b && is_looked_up config f x l) es []) (among-below (line_count f) l)
+      ∙ by (nat_lt l (line_count f)) (is_looked_up config f x l) es (not_looked_up l)
     where
-      both : (b : Bool)
-          → cond (b && true) (line_annotations config f file_index index lane x l) [] ≡ cond b
-          (line_annotations config f file_index index lane x l) []
-      both b = grind (arith, common_steps)
-
-      none : (b : Bool)
-          → cond (b && false) (line_annotations config f file_index index lane x l) []
-          ≡ cond b [] []
-      none b = grind (arith, common_steps)
+      by : (b c : Bool) (es : List Annotation) → (c ≡ false → es ≡ [])
+          → cond (b && c) es [] ≡ cond b es []
+      by b c es none = grind (arith, common_steps)
 
   -- ---- the kinds of its annotations of a line
 
@@ -118,14 +97,14 @@ module _ (config : Config) (f : FileModel) (file_index index lane : ℕ) (x : La
       (last_line f x) l
   shown-on_line l =
       by_kind (is_single f x) (first_line f x == l)
-      (shows config (first_line f x) (last_line f x) l)
+      (shows config (first_line f x) (last_line f x) l) _
       (own_shown config (first_line f x) (last_line f x) l)
     where
-      by_kind : (single own shown : Bool) → (own ≡ true → shown ≡ true)
+      by_kind : (single own shown : Bool) (m : Option LaneMark) → (own ≡ true → shown ≡ true)
           → list_any shows_line
           (annotation_if_any file_index l
           (cond (single && own) (Some (Single index (drawn_label f x)))
           (cond shown (Some Shown) None))
-          ++ multi_annotations_where l single (lane_mark_of lane x (multi_label_on f l x)))
+          ++ annotation_if_any file_index l (option_map Multi m))
           ≡ shown
-      by_kind single own shown h = grind (arith, common_steps, list_any-append)
+      by_kind single own shown m h = grind (arith, common_steps, list_any-append)

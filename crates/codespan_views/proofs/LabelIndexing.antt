@@ -1,24 +1,22 @@
 -- The files of ids, and the indices and lanes of labels, one label after another, for the clause
 -- `collected` of `collect`.
-use Rattle.codespan_core.proofs.Std.{common_steps, ◌≡◌, ℕ, ◌+◌, ◌<◌, ◌≤◌, Bool, true, false, not}
-use Rattle.codespan_core.proofs.Std.{List, [], ◌∷◌, ◌++◌, length, get_or, set, map, refl, sym, ap}
-use Rattle.codespan_core.proofs.Std.{subst, ◌∙◌, arith, true≢false, filter, if◌then◌else◌}
-use Rattle.codespan_core.proofs.Std.{IsEquivalence, AllByRecursion, append-nil, append_assoc}
-use Rattle.codespan_core.proofs.Std.{length-append, length-map, map-append, filter-append}
-use Rattle.std.proofs.lemmas.List.Filters.{length-filter_both}
+use Rattle.codespan_core.proofs.Std.{common_steps, ◌≡◌, ℕ, ◌+◌, ◌<◌, ◌≤◌, Bool, true, false, List}
+use Rattle.codespan_core.proofs.Std.{[], ◌∷◌, ◌++◌, length, get_or, set, map, refl, sym, subst}
+use Rattle.codespan_core.proofs.Std.{arith, true≢false, filter, if◌then◌else◌, IsEquivalence}
+use Rattle.codespan_core.proofs.Std.{AllByRecursion, append-nil, append_assoc, length-append}
+use Rattle.codespan_core.proofs.Std.{length-map, map-append, filter-append, count_by-le-length}
+use Rattle.std.proofs.lemmas.List.Sums.{length-filter}
 use Rattle.codespan_core.specs.FileModel.{FileDatabase, FileModel, line_count}
 use Rattle.codespan_core.specs.LawfulFiles.{IsLawful}
-use Rattle.codespan_core.specs.Labels.{LabelModel, first_line, is_single, last_line}
+use Rattle.codespan_core.specs.Labels.{LabelModel, is_single}
 use Rattle.codespan_picture.specs.Types.{Config}
 use Rattle.codespan_picture.specs.Snippets.{LabelInFile, num_multi_labels}
-use Rattle.codespan_views.specs.Private.{LabelSpan, Annotation, lanes_of_span, num_multi_labels_of}
-use Rattle.codespan_views.specs.Private.{with_labels, file_least_starts, least_starts_with}
-use Rattle.codespan_views.specs.Private.{no_starts, index_of_file, annotations_of_next}
-use Rattle.codespan_views.specs.Private.{annotations_after}
+use Rattle.codespan_views.specs.Private.{num_multi_labels_of, with_labels, file_least_starts}
+use Rattle.codespan_views.specs.Private.{least_starts_with, no_starts, index_of_file}
+use Rattle.codespan_views.specs.Private.{annotations_of_next, annotations_after, AreDistinct}
 use Rattle.codespan_picture.proofs.ListElements.{filter-nothing}
-use Rattle.codespan_views.proofs.FileOrder.{has}
+use Rattle.codespan_views.proofs.FileIndices.{has}
 use Rattle.codespan_views.proofs.LocusBytes.{start-others, start-own, start-unknown}
-use Rattle.codespan_views.proofs.FileIndices.{Differ, index-here, index-later}
 
 -- the file database is lawful: sameness of ids is an equivalence, the same ids name one file, and
 -- each file has a line
@@ -43,12 +41,6 @@ are-files is equivalence same_file lawful = record {
 abbrev pub label_lanes : FileModel → LabelModel → ℕ
 label_lanes f x = if is_single f x then 0 else 1
 
--- that is known by the lines that it starts and ends on
-pub lanes_of_span-are : (f : FileModel) (x : LabelModel) (span : LabelSpan)
-    → span.first ≡ first_line f x → span.last ≡ last_line f x → lanes_of_span span ≡ label_lanes f x
-lanes_of_span-are f x span first last = λ i. lanes_of_span
-    (record { first = first i; last = last i })
-
 module _ {Id A : Type 0} {same : Id → Id → Bool} (o : IsEquivalence same) {i : Id} {h more : Id → A}
     (others : (j : Id) → same j i ≡ false → more j ≡ h j) where
   -- where what is kept for an id changes, it stays for ids that differ from one that is the same
@@ -58,12 +50,12 @@ module _ {Id A : Type 0} {same : Id → Id → Bool} (o : IsEquivalence same) {i
   others-stay j t (k ∷ ks) apart = grind (arith, common_steps, others-stay j t ks)
 
   -- so only what is kept at the id's index changes
-  pub set-at : (ids : List Id) (d : Id) (v : A) → Differ same o ids → has same o ids i ≡ true
+  pub set-at : (ids : List Id) (d : Id) (v : A) → AreDistinct same ids → has same o ids i ≡ true
       → v ≡ more (get_or ids (index_of_file same ids i) d)
       → set (map h ids) (index_of_file same ids i) v ≡ map more ids
   set-at [] d v differ there is = absurd (true≢false (sym there))
   set-at (j ∷ js) d v differ there is = grind
-      (arith, common_steps, index-here, others-stay, index-later, set-at js d v)
+      (arith, common_steps, others-stay, set-at js d v)
 
 -- equal ids have as many lanes
 pub num_multi_labels_of-equal : {Id : Type 0} {database : FileDatabase Id}
@@ -88,14 +80,8 @@ module _ {Id : Type 0} (same : Id → Id → Bool) (file : Id → FileModel) whe
   -- a file has a lane for each label at most
   pub lanes-within : (id : Id) (xs : List (LabelInFile Id))
       → num_multi_labels_of same file xs id ≤ length xs
-  lanes-within id xs =
-      let a = length-filter_both (λ (x : LabelInFile Id). same id x.file_id)
-      (λ (x : LabelInFile Id). not (same id x.file_id)) (λ x. refl) xs in
-      let own = filter (λ (x : LabelInFile Id). same id x.file_id) xs in
-      let b = length-filter_both (λ y. not (is_single (file id) y))
-      (λ y. not (not (is_single (file id) y))) (λ y. refl)
-      (map (λ (x : LabelInFile Id). x.label) own) in
-      omega (arith, a, b, length-map own (λ (x : LabelInFile Id). x.label))
+  lanes-within id xs = grind
+      (arith, common_steps, length-filter, count_by-le-length, length-map)
 
   -- the lanes with one more label
   pub num_multi_labels_of-more : (before : List (LabelInFile Id)) (x : LabelInFile Id) (id : Id)
@@ -135,13 +121,5 @@ module _ {Id : Type 0} (same : Id → Id → Bool) (file : Id → FileModel) whe
       ≡ annotations_after same file config ids before xs
       ++ annotations_of_next same file config ids (before ++ xs) x
   annotations_after-more config ids before [] x = grind (arith, common_steps, append-nil)
-  annotations_after-more config ids before (y ∷ ys) x =
-      ap (λ (es : List Annotation). annotations_of_next same file config ids before y ++ es)
-      (annotations_after-more config ids (before ++ y ∷ []) ys x)
-      ∙ sym
-      (append_assoc (annotations_of_next same file config ids before y)
-      (annotations_after same file config ids (before ++ y ∷ []) ys)
-      (annotations_of_next same file config ids ((before ++ y ∷ []) ++ ys) x))
-      ∙ ap (λ (zs : List (LabelInFile Id)). annotations_after same file config ids before (y ∷ ys)
-      ++ annotations_of_next same file config ids zs x)
-      (append_assoc before (y ∷ []) ys)
+  annotations_after-more config ids before (y ∷ ys) x = grind
+      (arith, common_steps, append_assoc, annotations_after-more config ids (before ++ y ∷ []) ys x)

@@ -1,13 +1,11 @@
 -- The order of the lane marks on a line, for the clauses `in_order` of `render_line` and
 -- `render_break`, and those of `render_snippets` and `RichDiagnostic::render`.
-use Rattle.codespan_core.proofs.Std.{common_steps, ◌≡◌, ℕ, ◌+◌, ◌≤◌, Bool, true, ◌&&◌, List, []}
-use Rattle.codespan_core.proofs.Std.{◌∷◌, length, map, Option, refl, arith, nat_le, nat_lt}
-use Rattle.codespan_core.proofs.Std.{AllByRecursion, enumerate_from, filter_map, cons_option}
-use Rattle.codespan_core.proofs.Std.{nat_tests}
-use Rattle.std.proofs.lemmas.Bool.{leb-true}
+use Rattle.codespan_core.proofs.Std.{common_steps, ◌≡◌, ℕ, ◌+◌, ◌≤◌, true, ◌&&◌, List, [], ◌∷◌}
+use Rattle.codespan_core.proofs.Std.{length, map, refl, arith, nat_le, nat_lt, AllByRecursion}
+use Rattle.codespan_core.proofs.Std.{enumerate_from, filter_map, nat_tests, and_parts}
 use Rattle.codespan_core.specs.FileModel.{FileModel}
-use Rattle.codespan_core.specs.Labels.{LabelModel, LaneMark, MultiLabel, lane_mark_of}
-use Rattle.codespan_core.specs.Labels.{lane_marks_on, multi_label_on}
+use Rattle.codespan_core.specs.Labels.{LabelModel, LaneMark, lane_mark_of, lane_marks_on}
+use Rattle.codespan_core.specs.Labels.{multi_label_on}
 use Rattle.codespan_picture.specs.Arguments.{ascend_from}
 use Rattle.codespan_picture.specs.Snippets.{LabeledFileModel, num_multi_labels}
 use Rattle.codespan_views.specs.Private.{is_before}
@@ -29,15 +27,13 @@ marks_from f l n ys =
 ascend-from : (f : FileModel) (l count n least : ℕ) (ys : List LabelModel) → least ≤ n
     → n + length ys ≡ count → ascend_from count least (marks_from f l n ys) ≡ true
 ascend-from f l count n least [] low total = refl
-ascend-from f l count n least (y ∷ ys) low total =
-    by_multi_label (multi_label_on f l y)
-    (λ k h. ascend-from f l count (n + 1) k ys h (omega arith))
-  where
-    by_multi_label : (o : Option MultiLabel)
-        → ((k : ℕ) → k ≤ n + 1 → ascend_from count k (marks_from f l (n + 1) ys) ≡ true)
-        → ascend_from count least
-        (cons_option (lane_mark_of n y o) (marks_from f l (n + 1) ys)) ≡ true
-    by_multi_label o rest = grind (arith, common_steps, nat_le, nat_tests, nat_lt)
+ascend-from f l count n least (y ∷ ys) low total = grind (
+  arith,
+  common_steps,
+  nat_tests,
+  ascend-from f l count (n + 1) (n + 1) ys,
+  ascend-from f l count (n + 1) least ys,
+)
 
 -- the lane marks of a line ascend in the lanes of its file
 pub lane_marks-ascend : (s : LabeledFileModel) (l : ℕ)
@@ -46,24 +42,12 @@ lane_marks-ascend s l = grind (arith, common_steps, ascend-from)
 
 -- ---- lane marks that ascend
 
--- both of two are true
-pub both-true : (a b : Bool) → (a && b) ≡ true → (a ≡ true) × (b ≡ true)
-both-true a b h = grind (arith, common_steps)
-
 -- they are in no lesser lane
 ascend-above : (count least : ℕ) (ms : List LaneMark) → ascend_from count least ms ≡ true
     → AllByRecursion (λ (m : LaneMark). least ≤ m.lane) ms
 ascend-above count least [] up = tt
-ascend-above count least (m ∷ ms) up =
-    let parts =
-    both-true (nat_le least m.lane && nat_lt m.lane count) (ascend_from count (m.lane + 1) ms)
-    up in
-    let low : least ≤ m.lane =
-    leb-true least m.lane (both-true (nat_le least m.lane) (nat_lt m.lane count) parts.0).0 in (
-      low,
-      all-weaker (λ (k : LaneMark). m.lane + 1 ≤ k.lane) (λ k. least ≤ k.lane)
-          (λ k h. omega arith) ms (ascend-above count (m.lane + 1) ms parts.1),
-    )
+ascend-above count least (m ∷ ms) up = grind
+    (arith, common_steps, nat_tests, and_parts, all-weaker, ascend-above count (m.lane + 1) ms)
 
 -- their annotations ascend
 pub ascend-climbs : (f l count least : ℕ) (ms : List LaneMark) → ascend_from count least ms ≡ true
@@ -71,7 +55,7 @@ pub ascend-climbs : (f l count least : ℕ) (ms : List LaneMark) → ascend_from
 ascend-climbs f l count least [] up = tt
 ascend-climbs f l count least (m ∷ ms) up =
     let parts =
-    both-true (nat_le least m.lane && nat_lt m.lane count) (ascend_from count (m.lane + 1) ms)
+    and_parts (nat_le least m.lane && nat_lt m.lane count) (ascend_from count (m.lane + 1) ms)
     up in (
       later ms (ascend-above count (m.lane + 1) ms parts.1),
       ascend-climbs f l count (m.lane + 1) ms parts.1,
@@ -81,4 +65,4 @@ ascend-climbs f l count least (m ∷ ms) up =
         → AllByRecursion (λ e. is_before (lane_mark_annotation f l m) e ≡ true)
         (map (lane_mark_annotation f l) ks)
     later [] h = tt
-    later (k ∷ ks) h = (lane_below f l m k (let low = h.0 in omega arith), later ks h.1)
+    later (k ∷ ks) h = grind (arith, common_steps, lane_below, later ks)

@@ -1,27 +1,20 @@
 -- files of labels, and the order of annotations
 pub mod IndexedElements
-pub mod FileOrder
 pub mod FileIndices
-pub mod FileSearch
 pub mod AnnotationOrder
 pub mod FileLengths
 pub mod KeptElements
-pub mod Utf8Loci
 -- what is collected, looked up and rendered
 pub mod FirstErrors
 pub mod LabelIndexing
-pub mod LabelsBefore
 pub mod LabelAnnotations
 pub mod LinesOfLabels
 pub mod LabelFiles
 pub mod LocusBytes
-pub mod NearLines
 pub mod RangeMaps
 pub mod Collecting
-pub mod CollectedLines
 pub mod Contexts
 pub mod LabelsCollected
-pub mod CollectedInOrder
 pub mod AnnotationGroups
 pub mod SnippetLineRows
 pub mod SingleLabelOrder
@@ -30,12 +23,10 @@ pub mod AnnotationLines
 pub mod GroupAnnotations
 pub mod AnnotationOutput
 pub mod FileSlices
-pub mod LabelStarts
 pub mod LaneMarks
 pub mod FilledNumbers
 pub mod NumbersFound
 pub mod LociFound
-pub mod GroupLines
 pub mod SnippetLineViews
 pub mod SnippetStarts
 pub mod CollectedFiles
@@ -53,5 +44,4 @@ pub mod SnippetsRendered
 pub mod LinesRendered
 pub mod NoteRows
 pub mod RichParts
-pub mod HeaderStreams
 pub mod HeaderRuns

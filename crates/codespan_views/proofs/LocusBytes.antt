@@ -2,10 +2,11 @@
 -- `collect`.
 use Rattle.codespan_core.proofs.Std.{common_steps, rules, arith, ◌≡◌, ℕ, Bool, true, false, List}
 use Rattle.codespan_core.proofs.Std.{[], ◌∷◌, ◌++◌, Some, append-nil, if◌then◌else◌, AllByRecursion}
-use Rattle.codespan_core.proofs.Std.{map-append, filter-append, fold-append}
+use Rattle.codespan_core.proofs.Std.{map-append, filter-append, fold-append, not, ◌&&◌, ◌||◌}
+use Rattle.codespan_core.specs.Labels.{is_primary}
 use Rattle.codespan_picture.specs.Snippets.{LabelInFile}
-use Rattle.codespan_views.specs.Private.{file_least_starts, is_locus_label, least_if_any}
-use Rattle.codespan_views.specs.Private.{least_with, no_starts, least_starts_with, label_starts}
+use Rattle.codespan_views.specs.Private.{file_least_starts, least_if_any, least_with, no_starts}
+use Rattle.codespan_views.specs.Private.{least_starts_with, label_starts}
 use Rattle.codespan_picture.proofs.ListElements.{all-weaker, filter-nothing}
 
 -- the least of some numbers and one more
@@ -23,18 +24,13 @@ module _ {Id : Type 0} (same : Id → Id → Bool) (xs : List (LabelInFile Id)) 
     -- the starts of labels, with one more
     starts-more : (only : Bool)
         → label_starts same id only (xs ++ x ∷ []) ≡ label_starts same id only xs ++ own_start
-        (is_locus_label same id only x)
+        (same id x.file_id && (not only || is_primary x.label))
     starts-more only = grind (arith, common_steps, filter-append, map-append)
 
     -- a label of another file changes nothing
     pub start-others : same id x.file_id ≡ false
         → file_least_starts same (xs ++ x ∷ []) id ≡ file_least_starts same xs id
-    start-others f =
-        λ i. record { primary = least_if_any (none true i); any = least_if_any (none false i) }
-      where
-        none : (only : Bool) → label_starts same id only (xs ++ x ∷ []) ≡ label_starts same id only
-            xs
-        none only = grind (arith, common_steps, starts-more, append-nil)
+    start-others f = search (rules, starts-more, append-nil)
 
     -- one of the file adds its start
     pub start-own : same id x.file_id ≡ true
@@ -46,8 +42,4 @@ module _ {Id : Type 0} (same : Id → Id → Bool) (xs : List (LabelInFile Id)) 
 pub start-unknown : {Id : Type 0} (same : Id → Id → Bool) (xs : List (LabelInFile Id)) (id : Id)
     → AllByRecursion (λ (x : LabelInFile Id). same id x.file_id ≡ false) xs
     → file_least_starts same xs id ≡ no_starts
-start-unknown {Id} same xs id none =
-    λ i. record { primary = least_if_any (starts true i); any = least_if_any (starts false i) }
-  where
-    starts : (only : Bool) → label_starts same id only xs ≡ []
-    starts only = grind (arith, common_steps, filter-nothing, all-weaker, none)
+start-unknown same xs id none = search (rules, filter-nothing, all-weaker, none)

@@ -1,8 +1,8 @@
 -- Rendering with lookups on the way, part by part: what has been written, what was looked up, and
 -- what an error cut short. For the clauses of `render`, `render_snippets`, `render_line` and
 -- `render_break`.
-use Rattle.codespan_core.proofs.Std.{◌≡◌, ◌≢◌, [], ◌++◌, Option, None, Some, Result, Ok, Err, inl}
-use Rattle.codespan_core.proofs.Std.{inr, ⊎_elim, refl, sym, subst, ◌∙◌, IfErr, IsErrOf}
+use Rattle.codespan_core.proofs.Std.{ap, ◌≡◌, ◌≢◌, [], ◌++◌, Option, None, Some, Result, Ok, Err}
+use Rattle.codespan_core.proofs.Std.{inl, inr, ⊎_elim, refl, sym, subst, ◌∙◌, IfErr, IsErrOf}
 use Rattle.codespan_core.specs.Errors.{IsIo}
 use Rattle.codespan_core.specs.FileModel.{or_failure}
 use Rattle.codespan_core.specs.Streams.{Stream}
@@ -12,18 +12,9 @@ use Rattle.codespan_views.specs.Private.{FailedWithLookups, WritesWithLookups}
 use Rattle.codespan_core.proofs.Chains.{WrotePrefix, written-then, failed-before, failed-then}
 use Rattle.codespan_core.proofs.Chains.{known-after}
 use Rattle.codespan_core.proofs.Writes.{with_written-nil, PrefixWritten-first, PrefixWritten-last}
-use Rattle.codespan_views.proofs.FirstErrors.{or_failure-some, or_failure-succeeded}
 use Rattle.codespan_views.proofs.Renderings.{PrefixWritten-none}
 
 -- ---- one part
-
--- an error that is equal to `OutOfMemory`
-pub out_of_memory : {T : Type 0} {e x : Error} → e ≡ x → IsErrOf {T = T} (Err x) OutOfMemory
-    → e ≡ OutOfMemory
-out_of_memory {T} {x = x} same is = same ∙ inside x is
-  where
-    inside : (y : Error) → IsErrOf {T = T} (Err y) OutOfMemory → y ≡ OutOfMemory
-    inside y h = cc
 
 -- a lookup that succeeds writes nothing
 pub run_of_lookup : {o : Option Error} {s : Sink} → o ≡ None → WritesWithLookups o s [] (Ok tt) s
@@ -48,9 +39,9 @@ run_failed {s = s} {a = a} known = record {
 }
 
 -- an allocation failed before anything was written
-pub run_out_of_memory : {o : Option Error} {s : Sink} {a : Stream} {e : Error} → e ≡ OutOfMemory
-    → WritesWithLookups o s a (Err e) s
-run_out_of_memory is = run_failed (λ other. absurd (other is))
+pub run_out_of_memory : {T : Type 0} {o : Option Error} {s : Sink} {a : Stream} {e x : Error}
+    → e ≡ x → IsErrOf {T = T} (Err x) OutOfMemory → WritesWithLookups o s a (Err e) s
+run_out_of_memory same is = run_failed (λ other. absurd (let e = same ∙ cc is in other e))
 
 -- ---- one part after another
 
@@ -60,7 +51,7 @@ pub run_then : {o p : Option Error} {s t u : Sink} {a b : Stream} {r : Result (U
     → WritesWithLookups (or_failure o p) s (a ++ b) r u
 run_then {o = o} {p = p} {s = s} {a = a} {b = b} {r = Ok y} first second = record {
   ends = (
-    or_failure-succeeded o p first.ends.0 ∙ second.ends.0,
+    rw first.ends.0 second.ends.0,
     written-then s a b first.ends.1 second.ends.1,
   );
 }
@@ -74,7 +65,7 @@ run_then {o = o} {p = p} {s = s} {t = t} {u = u} {a = a} {b = b} {r = Err e} fir
                 λ are_known. PrefixWritten-last s a b u
                 (subst (λ (y : Sink). PrefixWritten y b u) (written.1 are_known)
                 (w.prefix (known-after s t a are_known (written.1 are_known))));
-            error_is = λ m. or_failure-succeeded o p first.ends.0 ∙ w.error_is m;
+            error_is = λ m. rw first.ends.0 (w.error_is m);
           }))
           second.ends;
     }
@@ -89,7 +80,7 @@ run_cut p b {o} {s} {t} {a} {e} part = record {
       (λ (w : FailedWithLookups o s a e t). inr (record {
         frame = w.frame;
         prefix = λ are_known. PrefixWritten-first s a t b (w.prefix are_known);
-        error_is = λ m. or_failure-some o p e (w.error_is m);
+        error_is = λ m. ap (λ x. or_failure x p) (w.error_is m);
       }))
       part.ends;
 }
@@ -97,9 +88,7 @@ run_cut p b {o} {s} {t} {a} {e} part = record {
 -- an equal error and an equal stream
 pub run_as : {o p : Option Error} {s t : Sink} {a b : Stream} {r : Result (Unit {0}) Error} → o ≡ p
     → a ≡ b → WritesWithLookups o s a r t → WritesWithLookups p s b r t
-run_as {o} {s = s} {t = t} {b = b} {r = r} same_failure same_stream part =
-    subst (λ (x : Option Error). WritesWithLookups x s b r t) same_failure
-    (subst (λ (x : Stream). WritesWithLookups o s x r t) same_stream part)
+run_as same_failure same_stream part = rw (← same_failure, ← same_stream) part
 
 -- ---- what is left to do
 

@@ -1,42 +1,47 @@
--- What the numbers of a range have, one after another, for the clauses of `collect_lines`.
-use Rattle.codespan_core.proofs.Std.{◌≡◌, ℕ, zero, suc, ◌+◌, ◌-◌, ◌<◌, ◌≤◌, List, [], ◌++◌, refl}
-use Rattle.codespan_core.proofs.Std.{ap, ◌∙◌, arith, flat_map, range_with_len, common_steps}
-use Rattle.codespan_core.proofs.Std.{flat_map-append, append-nil}
+-- What the numbers of a range have, one after another, and the lines around the two ends of a
+-- label: for the clauses of `collect_lines`.
+use Rattle.codespan_core.proofs.Std.{◌≡◌, ℕ, ◌+◌, ◌<◌, ◌≤◌, Bool, true, false, ◌&&◌, ◌||◌, List, []}
+use Rattle.codespan_core.proofs.Std.{◌∷◌, ◌++◌, refl, arith, nat_lt, nat_le, if◌then◌else◌, filter}
+use Rattle.codespan_core.proofs.Std.{flat_map, common_steps, zero, suc, ◌-◌}
+use Rattle.codespan_core.proofs.Std.{range_with_len, flat_map-append}
+use Rattle.codespan_picture.specs.Lines.{spans}
 use Rattle.codespan_picture.proofs.CaretLemmas.{range_with_len-append}
+
+-- the images of the elements that pass a test
+pub flat_map_filtered : {X : Type 0} (h : ℕ → List X) (p : ℕ → Bool) (ls : List ℕ)
+    → flat_map h (filter p ls) ≡ flat_map (λ l. if p l then h l else []) ls
+flat_map_filtered h p [] = refl
+flat_map_filtered {X} h p (l ∷ ls) = grind (arith, common_steps, flat_map_filtered h p ls)
+
+-- ---- the lines around two others, as far as `b` lines before them and `a` after them
+
+-- a line is one of those
+abbrev pub is_near : ℕ → ℕ → ℕ → ℕ → ℕ → Bool
+is_near s e b a l =
+    spans s e l || ((nat_lt l s && nat_le s (l + b)) || (nat_lt e l && nat_le l (e + a)))
+
+pub after_both : (s e b a l : ℕ) → s < l → e < l → l ≤ e + a → is_near s e b a l ≡ true
+after_both s e b a l low high reach = grind (arith, common_steps)
+
+pub above_both : (s e b a l : ℕ) → s < l → e + a < l → is_near s e b a l ≡ false
+above_both s e b a l low high = grind (arith, common_steps)
+
+pub below_both : (s e b a l : ℕ) → l < e → l + b < s → is_near s e b a l ≡ false
+below_both s e b a l low high = grind (arith, common_steps)
+
+pub near_after : (s e b a l : ℕ) → s < l → e < l → is_near s e b a l ≡ true → l ≤ e + a
+near_after s e b a l low high near = grind (arith, common_steps)
 
 module _ {X : Type 0} (g : ℕ → List X) where
   -- where each of some numbers has no elements, all have none
   pub flat_map_none : (a n : ℕ) → ((l : ℕ) → a ≤ l → l < a + n → g l ≡ [])
       → flat_map g (range_with_len a n) ≡ []
   flat_map_none a zero none = refl
-  flat_map_none a (suc n) none =
-      ap (λ (xs : List X). xs ++ flat_map g (range_with_len (a + 1) n))
-      (none a (omega arith) (omega arith))
-      ∙ flat_map_none (a + 1) n (λ l low high. none l (omega arith) (omega arith))
-
-  -- the elements of one more number
-  pub flat_map_more : (n : ℕ)
-      → flat_map g (range_with_len 0 (n + 1)) ≡ flat_map g (range_with_len 0 n) ++ g n
-  flat_map_more n = grind (arith, common_steps, range_with_len-append, flat_map-append, append-nil)
-
-  -- where the numbers from one to another have no elements, those below each have the same
-  pub flat_map_same : (n m : ℕ) → n ≤ m → ((l : ℕ) → n ≤ l → l < m → g l ≡ [])
-      → flat_map g (range_with_len 0 m) ≡ flat_map g (range_with_len 0 n)
-  flat_map_same n m le none =
-      ap (λ k. flat_map g (range_with_len 0 k)) (omega arith)
-      ∙ ap (flat_map g) (range_with_len-append 0 n (m - n))
-      ∙ flat_map-append g (range_with_len 0 n) (range_with_len (0 + n) (m - n))
-      ∙ ap (λ (xs : List X). flat_map g (range_with_len 0 n) ++ xs)
-      (flat_map_none (0 + n) (m - n) (λ l low high. none l (omega arith) (omega arith)))
-      ∙ append-nil _
+  flat_map_none a (suc n) none = grind (arith, common_steps, flat_map_none (a + 1) n)
 
   -- the elements of the numbers below one are those of the numbers below a lesser one, and more
   pub flat_map_split : (n m : ℕ) → n ≤ m
       → flat_map g (range_with_len 0 m) ≡ flat_map g (range_with_len 0 n) ++ flat_map g
       (range_with_len n (m - n))
-  flat_map_split n m le =
-      ap (λ k. flat_map g (range_with_len 0 k)) (omega arith)
-      ∙ ap (flat_map g) (range_with_len-append 0 n (m - n))
-      ∙ flat_map-append g (range_with_len 0 n) (range_with_len (0 + n) (m - n))
-      ∙ ap (λ k. flat_map g (range_with_len 0 n) ++ flat_map g (range_with_len k (m - n)))
-      (omega arith)
+  flat_map_split n m le = grind
+      (arith, common_steps, range_with_len-append 0 n (m - n), flat_map-append)

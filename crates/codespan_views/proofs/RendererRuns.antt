@@ -1,9 +1,9 @@
--- Calls that render by a renderer, one after another: for the clauses of `render_snippets`,
--- `render_notes` and `render_closing`.
-use Rattle.codespan_core.proofs.Std.{◌≡◌, List, [], ◌++◌, Option, Result, Ok, Err, inl, inr, ⊎_elim}
-use Rattle.codespan_core.proofs.Std.{refl, sym, subst, ◌∙◌}
+-- Calls that render by a renderer, one after another: for the clauses of the views' `render`, of
+-- `render_snippets`, `render_notes`, `render_closing` and `render_headers`.
+use Rattle.codespan_core.proofs.Std.{◌≡◌, List, [], ◌++◌, Option, Result, Ok, Err, inl, inr, refl}
+use Rattle.codespan_core.proofs.Std.{sym, subst, ap, ◌∙◌}
 use Rattle.std.specs.Borrow.{GName}
-use Rattle.codespan_core.specs.Errors.{IsIo}
+use Rattle.std.specs.Result.{IsErrAnd}
 use Rattle.codespan_core.specs.Streams.{Stream}
 use Rattle.codespan_core.specs.WriterLaw.{Sink, is_known, with_written}
 use Rattle.codespan_picture.specs.Types.{Error, Config}
@@ -15,11 +15,16 @@ use Rattle.codespan_renderer.specs.Private.RowWriters.{row_writer_sink}
 use Rattle.codespan_renderer.specs.Renderers.{Renders, SameRenderer, config_of, sink_through}
 use Rattle.codespan_renderer.specs.Renderers.{writer_of}
 use Rattle.codespan_renderer.specs.declared.term.renderer.row_writer.RowWriter.{RowWriter}
-use Rattle.codespan_views.specs.Private.{FailedWithLookups, WritesWithLookups}
-use Rattle.codespan_core.proofs.Chains.{WrotePrefix, failed-before, writes-last}
+use Rattle.codespan_views.specs.Private.{WritesWithLookups}
+use Rattle.codespan_core.proofs.Chains.{failed-before, writes-last}
 use Rattle.codespan_core.proofs.Writes.{with_written-nil}
 use Rattle.codespan_renderer.proofs.RowWriters.{same_frame, same_head, same_reference}
 use Rattle.codespan_renderer.proofs.RowWriters.{writes_before}
+
+-- the error that a `?` returns is that of the call before it
+pub exit_is : {T E : Type 0} {e : E} (r : Result T E) → IsErrAnd r (λ y. y ≡ e) → r ≡ Err e
+exit_is (Ok x) h = absurd h
+exit_is (Err y) h = ap Err h
 
 module _ {W : Type 0} where
   -- a renderer is the same as itself
@@ -29,30 +34,19 @@ module _ {W : Type 0} where
   -- it is the same renderer after a second call too
   pub same_twice : {old mid new : Renderer W} → SameRenderer old mid → SameRenderer mid new
       → SameRenderer old new
-  same_twice first second =
-      record {
-        reference =
-            second.reference ∙ first.reference;
-        config = second.config ∙ first.config;
-      }
+  same_twice first second = record {
+    reference = second.reference ∙ first.reference;
+    config = second.config ∙ first.config;
+  }
 
 module _ {W : Type 0} {sink : W → Sink} {old : Renderer W} where
   -- nothing is rendered
   pub renders_nothing : Renders sink [] old (Ok tt) old
-  renders_nothing =
-      record {
-        same =
-            same_renderer;
-        writes =
-            (refl, λ known. sym (with_written-nil (sink (writer_of old))));
-        io = tt;
-      }
-
-  -- a call renders an equal stream
-  pub renders_as : {a b : Stream} {r : Result (Unit {0}) Error} {new : Renderer W} → a ≡ b
-      → Renders sink a old r new → Renders sink b old r new
-  renders_as {r = r} {new = new} equal part =
-      subst (λ (x : Stream). Renders sink x old r new) equal part
+  renders_nothing = record {
+    same = same_renderer;
+    writes = (refl, λ known. sym (with_written-nil (sink (writer_of old))));
+    io = tt;
+  }
 
   -- a call failed, with more to render after its stream
   pub renders_cut : (b : Stream) {a : Stream} {e : Error} {new : Renderer W}
@@ -68,9 +62,7 @@ module _ {W : Type 0} {sink : W → Sink} {old : Renderer W} where
   renders_then f {a} {r} {mid} {new} first second =
       subst (λ (k : Config). Renders sink (a ++ f k) old r new) first.same.config (record {
         same = same_twice first.same second.same;
-        writes =
-            writes-last (sink (writer_of old)) a (f (config_of mid)) (sink (writer_of new)) r
-            first.writes second.writes;
+        writes = writes-last _ a _ _ r first.writes second.writes;
         io = second.io;
       })
 
@@ -84,24 +76,23 @@ through-run o n m s items (Ok tt) t p = (
   same_reference {E = Error} n m s items (Ok tt) t p.ends.1,
   record { ends = (p.ends.0, writes_before {E = Error} n m s items (Ok tt) t p.ends.1) },
 )
-through-run o n m s items (Err e) t p =
-    ⊎_elim
-    (λ (w : IsIo e × WrotePrefix (sink_through n s) items (sink_through m t)). (
-      same_reference n m s items (Err e) t w.1,
-      record { ends = inl (w.0, writes_before n m s items (Err e) t w.1) },
-    ))
-    (λ (w : FailedWithLookups o (sink_through n s) items e (sink_through m t)). (
-      same_head n m s t w.frame,
-      record {
-        ends = inr (record {
-          frame = same_frame n m s t w.frame;
-          prefix = λ known. let q = w.prefix known in
-              record { prefix = q.prefix; rest = q.rest; whole = q.whole; contents = q.contents };
-          error_is = w.error_is;
-        });
-      },
-    ))
-    p.ends
+through-run o n m s items (Err e) t p = elim p.ends [
+  | inl w ↦ (
+    same_reference n m s items (Err e) t w.1,
+    record { ends = inl (w.0, writes_before n m s items (Err e) t w.1) },
+  )
+  | inr w ↦ (
+    same_head n m s t w.frame,
+    record {
+      ends = inr (record {
+        frame = same_frame n m s t w.frame;
+        prefix = λ known. let q = w.prefix known in
+            record { prefix = q.prefix; rest = q.rest; whole = q.whole; contents = q.contents };
+        error_is = w.error_is;
+      });
+    },
+  )
+]
 
 -- the writer comes back from the row writer that has written rows, with lookups on the way, and has
 -- received them

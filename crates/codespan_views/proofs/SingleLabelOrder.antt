@@ -1,13 +1,34 @@
--- The single-line labels of a line, whose annotations are in order, for the clauses of
--- `render_snippets` and `RichDiagnostic::render`.
-use Rattle.codespan_core.proofs.Std.{◌≡◌, ℕ, false, List, [], ◌∷◌, refl, sym, ◌∙◌, AllByRecursion}
-use Rattle.codespan_core.proofs.Std.{cons_option}
+-- The single-line labels of a line, in the order of their ranges and their starts, for the clauses
+-- of `render_snippets` and `RichDiagnostic::render`.
+use Rattle.codespan_core.proofs.Std.{◌≡◌, ℕ, ◌≤◌, false, true, List, [], ◌∷◌, refl, arith}
+use Rattle.codespan_core.proofs.Std.{AllByRecursion, nat_tests, common_steps, sym, ◌∙◌, cons_option}
 use Rattle.codespan_core.specs.Labels.{LabelModel, range_precedes}
+use Rattle.codespan_picture.specs.Arguments.{starts_from, starts_in_order}
+use Rattle.codespan_picture.proofs.OrderSorts.{Ascends}
+use Rattle.codespan_picture.proofs.ListElements.{all-weaker}
 use Rattle.codespan_views.specs.Private.{Annotation, AnnotationKind, Shown, Single, Multi}
 use Rattle.codespan_views.specs.Private.{is_before, single_label_of, single_labels_in}
-use Rattle.codespan_picture.proofs.OrderSorts.{Ascends}
 use Rattle.codespan_picture.proofs.SortedLists.{Rises}
 use Rattle.codespan_views.proofs.AnnotationOrder.{range_rises}
+
+-- ---- labels by their ranges
+
+later-start : (x z : LabelModel) → range_precedes z x ≡ false → x.start ≤ z.start
+later-start x z h = grind (arith, nat_tests)
+
+starts-from : (low : ℕ) (xs : List LabelModel)
+    → AllByRecursion (λ (z : LabelModel). low ≤ z.start) xs → Ascends xs → starts_from low xs ≡ true
+starts-from low [] far up = refl
+starts-from low (x ∷ xs) far up = grind
+    (arith, common_steps, nat_tests, later-start, all-weaker, starts-from x.start xs)
+
+from-zero : (xs : List LabelModel) → AllByRecursion (λ (z : LabelModel). 0 ≤ z.start) xs
+from-zero [] = tt
+from-zero (x ∷ xs) = grind (arith, common_steps, from-zero xs)
+
+-- labels in the order of their ranges are in that of their starts
+pub ascends-starts : (xs : List LabelModel) → Ascends xs → starts_in_order xs ≡ true
+ascends-starts xs up = starts-from 0 xs (from-zero xs) up
 
 -- the annotation is of this line of this file
 abbrev pub IsOn : ℕ → ℕ → Annotation → Type 0
@@ -32,8 +53,10 @@ single_labels-ascend f l (x ∷ xs) on up =
             (cons_option (single_label_of s) (single_labels_in ys))
         by_other Shown d rest = rest
         by_other (Multi m) d rest = rest
-        by_other (Single q b) d rest =
-            (range_rises x y e d (on.0.0 ∙ sym k.0.0) (on.0.1 ∙ sym k.0.1) h.0, rest)
+        by_other (Single q b) d rest = (
+          range_rises x y e d (on.0.0 ∙ sym k.0.0) (on.0.1 ∙ sym k.0.1) h.0,
+          rest,
+        )
 
     by_kind : (s : AnnotationKind) → x.kind ≡ s → Ascends (single_labels_in xs)
         → Ascends (cons_option (single_label_of s) (single_labels_in xs))

@@ -1,11 +1,13 @@
 -- The rows of the snippet lines of shown lines, and the lines that they show and fill in, for the
 -- clauses of `render_snippets` and `RichDiagnostic::render`.
-use Rattle.codespan_core.proofs.Std.{◌≡◌, ℕ, ◌≤◌, Bool, true, false, not, cond, ◌&&◌, if◌then◌else◌}
-use Rattle.codespan_core.proofs.Std.{List, [], ◌∷◌, ◌++◌, filter, flat_map, Option, None, refl, sym}
-use Rattle.codespan_core.proofs.Std.{ap, ◌∙◌, range_with_len, AllByRecursion, append-nil}
+use Rattle.codespan_core.proofs.Std.{rules, map-id, arith, common_steps, ◌≡◌, ℕ, ◌≤◌, Bool, true}
+use Rattle.codespan_core.proofs.Std.{false, not, cond, ◌&&◌, if◌then◌else◌, List, [], ◌∷◌, filter}
+use Rattle.codespan_core.proofs.Std.{flat_map, Option, None, refl, sym, ◌∙◌, range_with_len}
+use Rattle.codespan_core.proofs.Std.{AllByRecursion, append-nil}
+use Rattle.std.proofs.lemmas.List.Concat.{flat_map_single}
 use Rattle.codespan_core.specs.FileModel.{FileModel}
 use Rattle.codespan_picture.specs.Rows.{Line}
-use Rattle.codespan_picture.specs.Sequences.{break_between, gap_between, in_sequence}
+use Rattle.codespan_picture.specs.Sequences.{break_between, in_sequence}
 use Rattle.codespan_picture.specs.Snippets.{break_rows, line_rows}
 use Rattle.codespan_views.specs.Private.{Annotation, SnippetLine, Labeled, Filled, Break}
 use Rattle.codespan_views.specs.Private.{line_of_group, rows_of_line, rows_of_lines, filled_line_of}
@@ -19,26 +21,8 @@ use Rattle.codespan_views.proofs.AnnotationGroups.{lines_after}
 
 -- ---- the elements of snippet lines
 
--- the elements of the snippet lines of shown lines are those of the lines with what is between them
-snippet_lines-image : {A : Type 0} (image : SnippetLine → List A) (m : ℕ → List Annotation)
-    (previous : Option ℕ) (ds : List ℕ)
-    → flat_map image (lines_after m previous ds)
-    ≡ in_sequence (λ l. l) (gap_between (λ l. image (Filled l (m l))) (λ d. image (Break (m d))))
-    (λ l. image (Labeled l (m l))) previous ds
-snippet_lines-image {A} image m previous ds =
-    flat_map-sequence image (λ l. l)
-    (gap_between (λ l. Filled l (m l) ∷ []) (λ d. Break (m d) ∷ [])) (λ l. Labeled l (m l) ∷ [])
-    previous ds
-    ∙ (λ i. in_sequence (λ l. l)
-    (λ c d. flat_map-gap image (λ l. Filled l (m l) ∷ []) (λ d. Break (m d) ∷ []) c d i)
-    (λ l. append-nil (image (Labeled l (m l))) i) previous ds)
-    ∙ (λ i. in_sequence (λ l. l)
-    (gap_between (λ l. append-nil (image (Filled l (m l))) i)
-    (λ d. append-nil (image (Break (m d))) i))
-    (λ l. image (Labeled l (m l))) previous ds)
-
--- so they are those of the drawn lines with the breaks between them, where a line that is not shown
--- has the elements of one that is filled in
+-- the elements of the snippet lines of shown lines are those of the drawn lines with the breaks
+-- between them, where a line that is not shown has the elements of one that is filled in
 snippet_lines-rendered : {A : Type 0} (image : SnippetLine → List A) (m : ℕ → List Annotation)
     (shown : ℕ → Bool) (own : ℕ → List A)
     → ((l : ℕ)
@@ -49,15 +33,13 @@ snippet_lines-rendered : {A : Type 0} (image : SnippetLine → List A) (m : ℕ 
     ≡ in_sequence (λ l. l) (break_between (λ d. image (Break (m d)))) own None
     (filter (is_drawn_among shown) (range_with_len 0 n))
 snippet_lines-rendered image m shown own are n none =
-    snippet_lines-image image m None (filter shown (range_with_len 0 n))
-    ∙ sym
-    (lines-shown (λ l. image (Labeled l (m l))) (λ l. image (Filled l (m l)))
-    (λ d. image (Break (m d))) shown own are n none)
+    simp (flat_map-sequence, flat_map-gap, append-nil)
+    (sym (lines-shown (λ l. image (Labeled l (m l))) (λ l. image (Filled l (m l)))
+    (λ d. image (Break (m d))) shown own are n none))
 
--- what one test chooses, where the other way is the same
-chosen : {X : Type 0} (b : Bool) (x y : X) → (b ≡ false → x ≡ y) → x ≡ cond b x y
-chosen true x y same = refl
-chosen false x y same = same refl
+-- what a test chooses of two that are the same
+chosen : {X : Type 0} (b : Bool) (x : X) → x ≡ cond b x x
+chosen b x = grind (arith, common_steps)
 
 -- ---- rows
 
@@ -73,7 +55,7 @@ module _ (f : FileModel) (count : ℕ) (m : ℕ → List Annotation) where
       (filter (is_drawn_among shown) (range_with_len 0 n))
   snippet_lines-rows shown =
       snippet_lines-rendered (rows_of_line f count) m shown (line_rows line)
-      (λ l. chosen (shown l) (line_rows line l) (line_rows line l) (λ h. refl))
+      (λ l. chosen (shown l) (line_rows line l))
 
 -- ---- labels in order
 
@@ -84,12 +66,8 @@ pub snippet_lines-fit : (count : ℕ) (m : ℕ → List Annotation)
     → (previous : Option ℕ) (ds : List ℕ)
     → AllByRecursion (λ snippet_line. is_line_in_order count snippet_line ≡ true)
     (lines_after m previous ds)
-snippet_lines-fit count m fit lane_marks_fit =
-    all-sequence (λ snippet_line. is_line_in_order count snippet_line ≡ true) (λ l. l)
-    (gap_between (λ l. Filled l (m l) ∷ []) (λ d. Break (m d) ∷ [])) (λ l. Labeled l (m l) ∷ [])
-    (all-gap (λ snippet_line. is_line_in_order count snippet_line ≡ true) (λ l. Filled l (m l) ∷ [])
-    (λ d. Break (m d) ∷ []) (λ l. (fit l, tt)) (λ d. (lane_marks_fit d, tt)))
-    (λ l. (fit l, tt))
+snippet_lines-fit count m fit lane_marks_fit previous ds = search
+    (rules, all-sequence, all-gap, fit, lane_marks_fit)
 
 -- ---- the lines of snippet lines
 
@@ -100,14 +78,11 @@ module _ (m : ℕ → List Annotation) (shown : ℕ → Bool) where
       (is_drawn_among shown) (range_with_len 0 n)
   snippet_lines-lines n none =
       snippet_lines-rendered drawn_line_of m shown (λ l. l ∷ [])
-      (λ l. chosen (shown l) (l ∷ []) (l ∷ []) (λ _. refl)) n none
+      (λ l. chosen (shown l) (l ∷ [])) n none
       ∙ sequence-flat (λ l. l) (λ l. l ∷ []) None
       (filter (is_drawn_among shown) (range_with_len 0 n))
-      ∙ all (filter (is_drawn_among shown) (range_with_len 0 n))
-    where
-      all : (ls : List ℕ) → flat_map (λ l. l ∷ []) ls ≡ ls
-      all [] = refl
-      all (l ∷ ls) = ap (λ (r : List ℕ). l ∷ r) (all ls)
+      ∙ flat_map_single (λ l. l) (filter (is_drawn_among shown) (range_with_len 0 n))
+      ∙ map-id _
 
   -- what a line fills in
   abbrev fill : ℕ → List ℕ
@@ -118,20 +93,7 @@ module _ (m : ℕ → List Annotation) (shown : ℕ → Bool) where
       → flat_map fill (filter (is_drawn_among shown) ls) ≡ filter
       (λ l. is_drawn_among shown l && not (shown l)) ls
   all_fills [] = refl
-  all_fills (l ∷ ls) = by_tests (all_fills ls) (is_drawn_among shown l) (shown l) refl
-    where
-      filtered : List ℕ
-      filtered = filter (is_drawn_among shown) ls
-
-      left : List ℕ
-      left = filter (λ k. is_drawn_among shown k && not (shown k)) ls
-
-      by_tests : flat_map fill filtered ≡ left → (a b : Bool) → shown l ≡ b
-          → flat_map fill (cond a (l ∷ filtered) filtered) ≡ cond (a && not b) (l ∷ left) left
-      by_tests rest false b e = rest
-      by_tests rest true true e = ap (λ t. cond t [] (l ∷ []) ++ flat_map fill filtered) e ∙ rest
-      by_tests rest true false e =
-          ap (λ t. cond t [] (l ∷ []) ++ flat_map fill filtered) e ∙ ap (λ (r : List ℕ). l ∷ r) rest
+  all_fills (l ∷ ls) = grind (arith, common_steps, all_fills ls)
 
   -- the snippet lines fill in the lines between two shown ones
   pub snippet_lines-fills : (n : ℕ) → ((l : ℕ) → n ≤ l → shown l ≡ false)

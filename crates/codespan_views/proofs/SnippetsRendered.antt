@@ -1,11 +1,12 @@
 -- The snippets of the files that were collected, one after another, for the clause of
 -- `render_snippets`.
-use Rattle.codespan_core.proofs.Std.{◌≡◌, ℕ, ◌+◌, ◌≤◌, Bool, ◌||◌, List, [], ◌∷◌, ◌++◌, length}
-use Rattle.codespan_core.proofs.Std.{drop, map, Option, None, Ok, refl, sym, subst, ap, ◌∙◌, arith}
-use Rattle.codespan_core.proofs.Std.{flat_map, nat_lt, if◌then◌else◌, flat_map-append, append_assoc}
-use Rattle.codespan_core.specs.FileModel.{FileDatabase, Lookup, or_failure}
+use Rattle.codespan_core.proofs.Std.{common_steps, ◌≡◌, ℕ, ◌+◌, ◌≤◌, Bool, ◌||◌, List, [], ◌∷◌}
+use Rattle.codespan_core.proofs.Std.{◌++◌, length, drop, map, Option, None, Ok, refl, sym, subst}
+use Rattle.codespan_core.proofs.Std.{ap, ◌∙◌, arith, flat_map, nat_lt, if◌then◌else◌}
+use Rattle.codespan_core.proofs.Std.{flat_map-append, append_assoc}
+use Rattle.codespan_core.specs.FileModel.{FileDatabase, FileModel, Lookup, or_failure}
 use Rattle.codespan_core.specs.FileModel.Lookup.{Source}
-use Rattle.codespan_core.specs.Streams.{Stream, newline}
+use Rattle.codespan_core.specs.Streams.{Stream}
 use Rattle.codespan_core.specs.WriterLaw.{Sink}
 use Rattle.codespan_picture.specs.Types.{Diagnostic, Error, Layout, Classic, Unbroken, Config}
 use Rattle.codespan_picture.specs.Arguments.{locus_view}
@@ -13,9 +14,10 @@ use Rattle.codespan_picture.specs.Lookups.{filled_lines, first_error, lookups_of
 use Rattle.codespan_picture.specs.Lookups.{snippet_lookups}
 use Rattle.codespan_picture.specs.OutputStreams.{labels_of, notes_of}
 use Rattle.codespan_picture.specs.Rows.{Locus, Row, RowContext}
-use Rattle.codespan_picture.specs.RowStreams.{stream_of, stream_of_rows}
-use Rattle.codespan_picture.specs.Snippets.{LabeledFileModel, empty_row_after, has_any}
-use Rattle.codespan_picture.specs.Snippets.{labeled_file_model, num_multi_labels, snippet, snippets}
+use Rattle.codespan_picture.specs.RowStreams.{stream_of_rows}
+use Rattle.codespan_picture.specs.Lines.{drawn_lines}
+use Rattle.codespan_picture.specs.Snippets.{rows_of_drawn, empty_row_after, LabeledFileModel}
+use Rattle.codespan_picture.specs.Snippets.{has_any, labeled_file_model, num_multi_labels, snippets}
 use Rattle.codespan_views.specs.Private.{Collected, RustFile, IsLookedUpEarly, known_numbers}
 use Rattle.codespan_views.specs.Private.{known_numbers_of_labels, AreNumbersOf, lookups_with}
 use Rattle.codespan_views.specs.Private.{ids_view, loci_view, WritesWithLookups, SnippetLine}
@@ -25,10 +27,10 @@ use Rattle.codespan_core.proofs.Chains.{WroteStream}
 use Rattle.codespan_views.proofs.CollectedFiles.{IsFileOfLabels, nothing-of_each}
 use Rattle.codespan_views.proofs.FilesInOrder.{ids-of_labels, drop-end, followed-at, id-at}
 use Rattle.codespan_views.proofs.FilesInOrder.{id-inside, ids-count, locus-at, locus-inside}
-use Rattle.codespan_views.proofs.FilledNumbers.{IsLaterIn, are-known, later-known, lookups-known}
-use Rattle.codespan_views.proofs.FirstErrors.{first_error-append, or_failure_assoc}
+use Rattle.codespan_views.proofs.FilledNumbers.{AreKnown, IsLaterIn, are-known}
+use Rattle.codespan_views.proofs.FirstErrors.{first_error-append}
 use Rattle.codespan_views.proofs.IndexedElements.{IsElementAt, drop-one}
-use Rattle.codespan_views.proofs.LookupRuns.{IsLeft, left_after, left_as, run_as, run_of_lookup}
+use Rattle.codespan_views.proofs.LookupRuns.{IsLeft, left_after, left_as, run_of_lookup}
 use Rattle.codespan_views.proofs.LookupRuns.{run_of_writes}
 
 -- ---- the files from an index on
@@ -68,25 +70,28 @@ module _ {Id : Type 0} (database : FileDatabase Id) (view_config : Config) (d : 
           (failure_left k) now (stream_of_rows context (rows_left k))
 
 -- the streams of rows, one after the other
-rows-two : (context : RowContext) (a b : List Row)
-    → stream_of_rows context (a ++ b) ≡ stream_of_rows context a ++ stream_of_rows context b
-rows-two context a b = flat_map-append (λ r. stream_of context r ++ newline) a b
+rows-four : (context : RowContext) (start lines end rest : List Row)
+    → stream_of_rows context (start ++ ((lines ++ end) ++ rest))
+    ≡ stream_of_rows context start ++ (stream_of_rows context lines
+    ++ (stream_of_rows context end ++ stream_of_rows context rest))
+rows-four context start lines end rest = simp (flat_map-append, append_assoc)
 
 -- at first all are left
 pub left-start : {Id : Type 0} {database : FileDatabase Id} {view_config : Config}
     {d : Diagnostic Id} {context : RowContext} {collected : Collected Id} {numbers : List ℕ}
     {s : Sink} → IsLookedUpEarly database view_config (labels_of d) numbers collected
     → SnippetsLeft database view_config d collected context 0 s s
-left-start {database = database} {view_config} {d} {context} {collected} looked_up = record {
-  left = record {
-    frame = refl;
-    finish = λ run. run_as
-        (ap (failure_of_all database view_config d) (ids-of_labels looked_up.collected_is.files))
-        (ap (λ js. stream_of_rows context
-        (rows_at database view_config d (loci_view collected.files.items) js))
-        (ids-of_labels looked_up.collected_is.files)) run;
-  };
+left-start looked_up = record {
+  left = rw (ids-of_labels looked_up.collected_is.files)
+      (record { frame = refl; finish = λ run. run });
 }
+
+-- in the classic layout no number of a file is known
+none-later : {Id : Type 0} (file : Id → FileModel) (filled : Id → List ℕ) (layout : Layout)
+    (js : List Id)
+    → IsLaterIn layout (flat_map (λ id. known_numbers layout (file id) (filled id)) js)
+none-later file filled Classic js = nothing-of_each js
+none-later file filled Unbroken js = tt
 
 module _ {Id : Type 0} {database : FileDatabase Id} {view_config : Config} {d : Diagnostic Id}
     {context : RowContext} {collected : Collected Id} {k : ℕ} {old mid : Sink}
@@ -102,31 +107,14 @@ module _ {Id : Type 0} {database : FileDatabase Id} {view_config : Config} {d : 
   abbrev known_of : List Id → List ℕ
   known_of = known_numbers_of_labels view_config database (labels_of d)
 
-  -- in the classic layout there are none
-  later-in : (js : List Id) → IsLaterIn view_config.layout (known_of js)
-  later-in js = by_layout view_config.layout js
-    where
-      by_layout : (layout : Layout) (js : List Id)
-          → IsLaterIn layout
-          (flat_map (λ id. known_numbers layout (database.file id)
-          (filled_lines view_config (labeled database view_config d id))) js)
-      by_layout Classic js = nothing-of_each js
-      by_layout Unbroken js = tt
-
   -- all files are rendered
   pub left-end : {files : List (RustFile Id)} → files ≡ collected.files.items → length files ≤ k
       → WritesWithLookups (late_failure view_config database d) old
       (stream_of_rows context (snippet_rows view_config database d collected)) (Ok tt) mid
-  left-end equal past =
-      let none : drop k ids ≡ [] =
-      drop-end ids k (omega (
-        arith,
-        ids-count collected.files.items,
-        subst (λ (fs : List (RustFile Id)). length fs ≤ k) equal past,
-      )) in
-      (left_as (ap (failure_of_all database view_config d) none)
-      (ap (λ js. stream_of_rows context (rows_at database view_config d (drop k loci) js)) none
-      ∙ ap (stream_of_rows context) (no-rows (drop k loci))) left.left).finish (run_of_lookup refl)
+  left-end {files} equal past =
+      let counted = subst (λ (fs : List (RustFile Id)). length fs ≤ k) equal past in
+      let none : drop k ids ≡ [] = drop-end ids k (omega (arith, counted, ids-count {Id = Id})) in
+      (rw (none, no-rows (drop k loci)) at left.left).finish (run_of_lookup refl)
     where
       no-rows : (ps : List Locus) → rows_at database view_config d ps [] ≡ []
       no-rows [] = refl
@@ -147,31 +135,28 @@ module _ {Id : Type 0} {database : FileDatabase Id} {view_config : Config} {d : 
 
       -- ---- its numbers
 
-      -- its known numbers
-      abbrev known_here : List ℕ
-      known_here = known_numbers view_config.layout (database.file f.file_id)
-          (filled_lines view_config own)
-
       -- the numbers that are left are its own, and those of later files
-      left-both : numbers_now ≡ known_here ++ known_of later
-      left-both = numbers_are ∙ ap known_of (drop-one ids k f.file_id (id-inside at) (id-at at))
+      known : AreKnown (database.file f.file_id) view_config.layout
+          (filled_lines_of snippet_lines) numbers_now (known_of later)
+      known =
+          rw (
+            numbers_are,
+            drop-one ids k f.file_id (id-inside at) (id-at at),
+            is.lines_are.fills,
+          )
+          (are-known (database.file f.file_id) view_config.layout (filled_lines view_config own)
+          (known_of later) (none-later _ _ view_config.layout later))
 
       -- they are those of its filled lines
       pub own-numbers : AreNumbersOf (database.file f.file_id) numbers_now
           (filled_lines_of snippet_lines)
-      own-numbers =
-          rw (left-both, is.lines_are.fills)
-          (are-known (database.file f.file_id) view_config.layout (filled_lines view_config own)
-          (known_of later) (later-in later))
+      own-numbers = known.are
 
       -- which are taken
       pub own-taken : {after : List ℕ}
           → after ≡ drop (length (filled_lines_of snippet_lines)) numbers_now
           → after ≡ known_of later
-      own-taken taken =
-          taken ∙ (λ i. drop (length (is.lines_are.fills i)) (left-both i))
-          ∙ later-known (database.file f.file_id) view_config.layout
-          (filled_lines view_config own) (known_of later) (later-in later)
+      own-taken taken = taken ∙ known.taken
 
       -- ---- its lookups
 
@@ -180,25 +165,21 @@ module _ {Id : Type 0} {database : FileDatabase Id} {view_config : Config} {d : 
       lines_failure = first_error database.failure
           (lookups_of_file f.file_id (lookups_with numbers_now (filled_lines_of snippet_lines)))
 
-      -- what is left is that of its source, those, and what comes after it
+      -- what those of later files fail with
+      abbrev later_failure : Option Error
+      later_failure = failure_left database view_config d collected (k + 1)
+
+      -- what is left is that of its source, and these
       failure-is : failure_left database view_config d collected k
-          ≡ or_failure (database.failure f.file_id Source)
-          (or_failure lines_failure (failure_left database view_config d collected (k + 1)))
+          ≡ or_failure (database.failure f.file_id Source) (or_failure lines_failure later_failure)
       failure-is =
-          ap (failure_of_all database view_config d)
-          (drop-one ids k f.file_id (id-inside at) (id-at at))
-          ∙ first_error-append database.failure
-          (snippet_lookups_of database view_config d f.file_id)
-          (flat_map (snippet_lookups_of database view_config d) later)
-          ∙ ap (λ (ls : List Lookup). or_failure
-          (first_error database.failure (lookups_of_file f.file_id (Source ∷ ls)))
-          (failure_left database view_config d collected (k + 1)))
-          (sym
-          ((λ i. lookups_with (left-both i) (is.lines_are.fills i))
-          ∙ lookups-known (database.file f.file_id) view_config.layout
-          (filled_lines view_config own) (known_of later) (later-in later)))
-          ∙ or_failure_assoc (database.failure f.file_id Source) lines_failure
-          (failure_left database view_config d collected (k + 1))
+          rw (
+            drop-one ids k f.file_id (id-inside at) (id-at at),
+            ← is.lines_are.fills,
+            ← known.lookups,
+          )
+          (ap (or_failure (database.failure f.file_id Source))
+          (first_error-append database.failure _ _))
 
       -- ---- its rows
 
@@ -206,107 +187,75 @@ module _ {Id : Type 0} {database : FileDatabase Id} {view_config : Config} {d : 
       abbrev follows : Bool
       follows = has_any (notes_of d) || nat_lt (k + 1) (length collected.files.items)
 
-      -- the rows of its lines, in so many lanes
-      abbrev line_rows : ℕ → List Row
-      line_rows count = rows_of_lines (database.file f.file_id) count snippet_lines
-
-      -- the row after it, where something follows
-      abbrev end_rows : Bool → ℕ → List Row
-      end_rows followed count = if followed then snippet_empty_row count ∷ [] else []
-
-      -- the stream of rows
-      abbrev stream : List Row → Stream
-      stream rows = stream_of_rows context rows
-
-      -- what is left are its first rows, those of its lines, that one, and what comes after it
-      rows-are : rows_left database view_config d collected k
-          ≡ first_rows f.num_multi_labels f.locus ++ (line_rows f.num_multi_labels
-          ++ (end_rows follows f.num_multi_labels
-          ++ rows_left database view_config d collected (k + 1)))
-      rows-are =
-          let rest = rows_left database view_config d collected (k + 1) in
-          ap (λ (ps : List Locus). rows_at database view_config d ps (drop k ids))
-          (drop-one loci k (locus_view f.locus) (locus-inside at) (locus-at at))
-          ∙ ap (rows_at database view_config d (locus_view f.locus ∷ drop (k + 1) loci))
-          (drop-one ids k f.file_id (id-inside at) (id-at at))
-          ∙ ap (λ (b : Bool). (snippet view_config (locus_view f.locus) own
-          ++ empty_row_after b own) ++ rest)
-          (followed-mapped later ∙ followed-at (has_any (notes_of d)) ids k
-          ∙ ap (λ n. has_any (notes_of d) || nat_lt (k + 1) n) (ids-count collected.files.items))
-          ∙ ap (λ (r : List Row). first_rows (num_multi_labels own) f.locus
-          ++ ((r ++ end_rows follows (num_multi_labels own)) ++ rest)) (sym is.lines_are.rows)
-          ∙ sym (λ i. first_rows (is.lanes_are i) f.locus
-          ++ ((line_rows (is.lanes_are i) ++ end_rows follows (is.lanes_are i)) ++ rest))
-          ∙ ap (λ (r : List Row). first_rows f.num_multi_labels f.locus ++ r)
-          (append_assoc (line_rows f.num_multi_labels) (end_rows follows f.num_multi_labels) rest)
+      -- whether something does is determined by the later files and the notes
+      followed : (has_any (map (labeled database view_config d) later) || has_any (notes_of d))
+          ≡ follows
+      followed =
+          mapped later ∙ followed-at (has_any (notes_of d)) ids k
+          ∙ ap (λ n. has_any (notes_of d) || nat_lt (k + 1) n) (ids-count collected.files.items)
         where
-          followed-mapped : (js : List Id)
-              → (has_any (map (labeled database view_config d) js) || has_any (notes_of d))
-              ≡ (has_any js || has_any (notes_of d))
-          followed-mapped [] = refl
-          followed-mapped (j ∷ js) = refl
+          mapped : (js : List Id) → (has_any (map (labeled database view_config d) js)
+              || has_any (notes_of d)) ≡ (has_any js || has_any (notes_of d))
+          mapped js = grind (arith, common_steps)
+
+      -- the streams of its first rows, of its lines, and of what comes after these: a row, where
+      -- something follows, and later files
+      abbrev first_stream : Stream
+      first_stream = stream_of_rows context (first_rows f.num_multi_labels f.locus)
+
+      abbrev lines_stream : Stream
+      lines_stream =
+          stream_of_rows context
+          (rows_of_lines (database.file f.file_id) f.num_multi_labels snippet_lines)
+
+      abbrev end_stream : Bool → Stream
+      end_stream b =
+          stream_of_rows context (if b then snippet_empty_row f.num_multi_labels ∷ [] else [])
+          ++ stream_of_rows context (rows_left database view_config d collected (k + 1))
+
+      -- what is left are these
+      stream-is : stream_of_rows context (rows_left database view_config d collected k)
+          ≡ first_stream ++ (lines_stream ++ end_stream follows)
+      stream-is =
+          rw (
+            drop-one loci k (locus_view f.locus) (locus-inside at) (locus-at at),
+            drop-one ids k f.file_id (id-inside at) (id-at at),
+            is.lanes_are,
+            is.lines_are.rows,
+            followed,
+          )
+          (rows-four context (first_rows (num_multi_labels own) f.locus)
+          (rows_of_drawn own None (drawn_lines view_config own.file own.labels))
+          (empty_row_after follows own) (rows_left database view_config d collected (k + 1)))
 
       -- ---- one part after another
 
+      -- these lookups and this stream are left of all
+      abbrev Left : Option Error → Sink → Stream → Type 0
+      Left = IsLeft (late_failure view_config database d) old
+          (stream_of_rows context (snippet_rows view_config database d collected))
+
       -- its parts are left
-      pub left-parts : IsLeft (late_failure view_config database d) old
-          (stream (snippet_rows view_config database d collected))
-          (or_failure (database.failure f.file_id Source)
-          (or_failure lines_failure (failure_left database view_config d collected (k + 1)))) mid
-          (stream (first_rows f.num_multi_labels f.locus)
-          ++ (stream (line_rows f.num_multi_labels)
-          ++ (stream (end_rows follows f.num_multi_labels)
-          ++ stream (rows_left database view_config d collected (k + 1)))))
-      left-parts =
-          let start = first_rows f.num_multi_labels f.locus in
-          let lines = line_rows f.num_multi_labels in
-          let end = end_rows follows f.num_multi_labels in
-          let rest = rows_left database view_config d collected (k + 1) in
-          left_as failure-is
-          (ap (stream_of_rows context) rows-are ∙ rows-two context start (lines ++ (end ++ rest))
-          ∙ ap (λ s. stream start ++ s)
-          (rows-two context lines (end ++ rest)
-          ∙ ap (λ s. stream lines ++ s) (rows-two context end rest)))
-          left.left
+      pub left-parts : Left (or_failure (database.failure f.file_id Source)
+          (or_failure lines_failure later_failure)) mid
+          (first_stream ++ (lines_stream ++ end_stream follows))
+      left-parts = left_as failure-is stream-is left.left
 
       module _ (succeeded : database.failure f.file_id Source ≡ None) where
         -- its source was looked up
-        pub left-source : IsLeft (late_failure view_config database d) old
-            (stream (snippet_rows view_config database d collected))
-            (or_failure lines_failure (failure_left database view_config d collected (k + 1)))
-            mid
-            (stream (first_rows f.num_multi_labels f.locus)
-            ++ (stream (line_rows f.num_multi_labels)
-            ++ (stream (end_rows follows f.num_multi_labels)
-            ++ stream (rows_left database view_config d collected (k + 1)))))
+        pub left-source : Left (or_failure lines_failure later_failure) mid
+            (first_stream ++ (lines_stream ++ end_stream follows))
         left-source = left_after _ _ (run_of_lookup succeeded) left-parts
 
-        module _ {inner : Sink}
-            (wrote : WroteStream mid (stream (first_rows f.num_multi_labels f.locus)) inner)
-          where
-            -- its first rows have been written
-            pub left-lines : IsLeft (late_failure view_config database d) old
-                (stream (snippet_rows view_config database d collected))
-                (or_failure lines_failure
-                (failure_left database view_config d collected (k + 1)))
-                inner
-                (stream (line_rows f.num_multi_labels)
-                ++ (stream (end_rows follows f.num_multi_labels)
-                ++ stream (rows_left database view_config d collected (k + 1))))
-            left-lines = left_after _ _ (run_of_writes (Ok tt) wrote tt) left-source
+        module _ {inner : Sink} (wrote : WroteStream mid first_stream inner) where
+          -- its first rows have been written
+          pub left-lines : Left (or_failure lines_failure later_failure) inner
+              (lines_stream ++ end_stream follows)
+          left-lines = left_after _ _ (run_of_writes (Ok tt) wrote tt) left-source
 
-            -- its lines have been rendered
-            pub left-row : {last : Sink} (followed : Bool) → followed ≡ follows
-                → WritesWithLookups lines_failure inner
-                (stream (line_rows f.num_multi_labels)) (Ok tt) last
-                → IsLeft (late_failure view_config database d) old
-                (stream (snippet_rows view_config database d collected))
-                (failure_left database view_config d collected (k + 1)) last
-                (stream (end_rows followed f.num_multi_labels)
-                ++ stream (rows_left database view_config d collected (k + 1)))
-            left-row followed followed_is run =
-                left_as refl
-                (ap (λ b. stream (end_rows b f.num_multi_labels)
-                ++ stream (rows_left database view_config d collected (k + 1)))
-                (sym followed_is))
-                (left_after _ _ run left-lines)
+          -- its lines have been rendered
+          pub left-row : {last : Sink} (followed : Bool) → followed ≡ follows
+              → WritesWithLookups lines_failure inner lines_stream (Ok tt) last
+              → Left later_failure last (end_stream followed)
+          left-row here same run =
+              left_as refl (ap end_stream (sym same)) (left_after _ _ run left-lines)

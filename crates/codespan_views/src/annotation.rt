@@ -3,11 +3,11 @@
 ghost use Rattle.codespan_core.specs.Labels.{from_line_start};
 ghost use Rattle.codespan_picture.specs.Arguments.{multi_label_view};
 ghost use Rattle.codespan_picture.specs.OutputStreams.{label_of};
-ghost use Rattle.codespan_views.specs.Private.AnnotationViews.{AppendsAnnotations, annotation_view};
-ghost use Rattle.codespan_views.specs.Private.AnnotationViews.{kind_view, multi_label_from};
+ghost use Rattle.codespan_views.specs.Private.Annotations.{AppendsAnnotations, annotation_view};
+ghost use Rattle.codespan_views.specs.Private.Annotations.{kind_view, multi_label_from};
 ghost use Rattle.codespan_views.specs.Private.Annotations.{annotation_if_any, is_before};
 ghost use Rattle.codespan_views.specs.Private.Annotations.{is_of_file, is_on_line, shows_line};
-ghost use Rattle.codespan_views.specs.Private.FilledLines.{HasSameLines, IsGapBefore};
+ghost use Rattle.codespan_views.specs.Private.SnippetLines.{HasSameLines, IsGapBefore};
 ghost use Rattle.std.specs.List.{prefix_len};
 ghost use Rattle.std.specs.List.Sorted.{IsSortedWithin};
 ghost use Rattle.std.specs.Option.{option_map};

@@ -4,23 +4,21 @@
 ghost use Rattle.codespan_core.specs.LawfulFiles.{FailsBy};
 ghost use Rattle.codespan_picture.specs.Lookups.{first_error};
 ghost use Rattle.codespan_picture.specs.OutputStreams.{label_of};
-ghost use Rattle.codespan_views.specs.Private.AnnotationViews.{IsLineOf, IsOfFiles};
-ghost use Rattle.codespan_views.specs.Private.AnnotationViews.{annotation_view};
+ghost use Rattle.codespan_views.specs.Private.Annotations.{IsLineOf, IsOfFiles, annotation_view};
 ghost use Rattle.codespan_views.specs.Private.Annotations.{is_before};
-ghost use Rattle.codespan_views.specs.Private.Collections.{HasSpannedPadding, IsCollected};
+ghost use Rattle.codespan_views.specs.Private.Collections.{IsCollected, all_digit_counts};
 ghost use Rattle.codespan_views.specs.Private.EarlyLookups.{KeepsLabels, digit_counts_of};
 ghost use Rattle.codespan_views.specs.Private.EarlyLookups.{digits_of_files, early_failure};
 ghost use Rattle.codespan_views.specs.Private.EarlyLookups.{known_numbers_of_files};
 ghost use Rattle.codespan_views.specs.Private.EarlyLookups.{number_lookups_of_files, numbers_of};
 ghost use Rattle.codespan_views.specs.Private.EarlyLookups.{numbers_of_files, padding_by_layout};
-ghost use Rattle.codespan_views.specs.Private.FileLookups.{FailsByOrFormatError};
-ghost use Rattle.codespan_views.specs.Private.FilledLines.{number_lookups};
 ghost use Rattle.codespan_views.specs.Private.LabeledFiles.{ids_view};
 ghost use Rattle.codespan_views.specs.Private.LabelsToCollect.{labels_failure};
 ghost use Rattle.codespan_views.specs.Private.Loci.{HasLocus, locus_lookups_of_files};
-ghost use Rattle.codespan_views.specs.Private.SnippetLines.{drawn_lines_of, filled_lines_of};
-ghost use Rattle.codespan_views.specs.Private.SnippetLines.{lines_of};
-ghost use Rattle.codespan_views.specs.Private.SourceFiles.{failure_of, model_of};
+ghost use Rattle.codespan_views.specs.Private.SnippetLines.{number_lookups, drawn_lines_of};
+ghost use Rattle.codespan_views.specs.Private.SnippetLines.{filled_lines_of, lines_of};
+ghost use Rattle.codespan_views.specs.Private.SourceFiles.{FailsByOrFormatError, failure_of};
+ghost use Rattle.codespan_views.specs.Private.SourceFiles.{model_of};
 ghost use Rattle.std.specs.List.{AllByRecursion};
 ghost use Rattle.std.specs.List.Sorted.{IsSortedBy};
 ghost use Rattle.std.specs.Prelude.{All, IfOk, OnOk, fold, map, max, ◌++◌, ◌≡◌};
@@ -65,8 +63,8 @@ pub fn collect<'files, 'd, F: Files<'files>>(
 ) -> Result<Collected<'d, F::FileId>, Error>
     ensures collected { IfOk result (IsCollected (F.database files.now) config.now
         (map label_of labels.now)) }
-    ensures padding { IfOk result (HasSpannedPadding (F.database files.now).file
-        (map label_of labels.now)) }
+    ensures padding { IfOk result (λ collected. collected.padding.digit_count
+        ≡ fold max 0 (all_digit_counts (F.database files.now).file (map label_of labels.now))) }
     ensures failed { FailsBy (labels_failure config.now (F.database files.now)
         (map label_of labels.now)) result }
 {

@@ -1,22 +1,23 @@
 //! The annotations of one label.
 
-ghost use Rattle.std.specs.Prelude.{◌≡◌, ◌≢◌, true, None, Some, IfErr, OnOk, OnErr, IsErrOf};
+ghost use Rattle.std.specs.Prelude.{◌≡◌, ◌≢◌, ◌<◌, true, None, Some, IfErr, OnOk, OnErr, IsErrOf};
 ghost use Rattle.std.specs.Option.{option_map};
+ghost use Rattle.codespan_core.specs.FileModel.{line_count};
 ghost use Rattle.codespan_core.specs.LawfulFiles.{FailsBy};
-ghost use Rattle.codespan_views.specs.Private.LabelsToCollect.{AppendsLineAnnotations};
 ghost use Rattle.codespan_views.specs.Private.LabelsToCollect.{FindsLineAnnotations};
 ghost use Rattle.codespan_views.specs.Private.LabelsToCollect.{FindsLabelAnnotations};
-ghost use Rattle.codespan_views.specs.Private.LabelsToCollect.{HasLineIfLookedUp, IfEnded};
-ghost use Rattle.codespan_views.specs.Private.LabelsToCollect.{IfContinues, WidensPadding};
-ghost use Rattle.codespan_views.specs.Private.LabelsToCollect.{IsLookedUp, WidensPaddingForLine};
+ghost use Rattle.codespan_views.specs.Private.LabelsToCollect.{IfContinues, IfEnded, IsLookedUp};
+ghost use Rattle.codespan_views.specs.Private.LabelsToCollect.{WidensPadding, WidensPaddingForLine};
 ghost use Rattle.codespan_views.specs.Private.LabelsToCollect.{HasLabelLines, label_of_collector};
 ghost use Rattle.codespan_views.specs.Private.LabelsToCollect.{lines_failure, failure_if_looked_up};
 ghost use Rattle.codespan_picture.specs.OutputStreams.{label_of};
-ghost use Rattle.codespan_views.specs.Private.LabelAnnotations.{kind_by_ends, multi_kind_by_ends};
+ghost use Rattle.codespan_views.specs.Private.LabelAnnotations.{IsFarInside, kind_by_ends};
+ghost use Rattle.codespan_views.specs.Private.LabelAnnotations.{line_annotations};
+ghost use Rattle.codespan_views.specs.Private.LabelAnnotations.{multi_kind_by_ends};
 ghost use Rattle.codespan_views.specs.Private.SourceFiles.{EndsBefore, failure_unless_past_end};
 ghost use Rattle.codespan_views.specs.Private.SourceFiles.{model_of};
-ghost use Rattle.codespan_views.specs.Private.AnnotationViews.{IsLineOf, kind_view};
-ghost use Rattle.codespan_views.specs.Private.LabelSpans.{IsFarInside};
+ghost use Rattle.codespan_views.specs.Private.Annotations.{AppendsAnnotationsOf, IsLineOf};
+ghost use Rattle.codespan_views.specs.Private.Annotations.{kind_view};
 
 use crate::annotation::{Annotation, AnnotationKind, LineInfo, MultiLabelKind, push_annotation};
 use crate::collected::Collected;
@@ -102,8 +103,10 @@ impl<'a, 'c, 'd, 'files, F: Files<'files>> LabelCollector<'a, 'c, 'd, 'files, F>
             self.now.span.last line.index }
         requires lines { HasLabelLines F.database self.now }
         requires line { IsLineOf (model_of F.database self.now.file) line }
-        ensures added { OnOk result (AppendsLineAnnotations (label_of_collector F.database self.now)
-            annotations.old.items annotations.new.items line.index) }
+        ensures added { OnOk result (AppendsAnnotationsOf (model_of F.database self.now.file)
+            annotations.old.items annotations.new.items (line_annotations self.now.config.now
+            (model_of F.database self.now.file) self.now.file_index self.now.index self.now.lane
+            (label_of self.now.label.now).label line.index)) }
         ensures failed { OnErr result (IsErrOf result Error.OutOfMemory) }
     {
         if is_far {
@@ -145,7 +148,8 @@ impl<'a, 'c, 'd, 'files, F: Files<'files>> LabelCollector<'a, 'c, 'd, 'files, F>
             self.now.span.last index }
         requires lines { HasLabelLines F.database self.now }
         ensures inside { IfContinues result
-            (HasLineIfLookedUp (label_of_collector F.database self.now) index) }
+            (IsLookedUp (label_of_collector F.database self.now) index
+            → index < line_count (model_of F.database self.now.file)) }
         ensures added { IfContinues result (FindsLineAnnotations
             (label_of_collector F.database self.now) collected.old.annotations.items
             collected.new.annotations.items index) }

@@ -1,16 +1,15 @@
 //! The lines of a label: which it spans, and which it makes shown.
 
-ghost use Rattle.std.specs.Prelude.{◌≡◌, ◌<◌, ◌≤◌, ℕ, ◌==◌, ◌&&◌, nat_lt, IfOk};
+ghost use Rattle.std.specs.Prelude.{◌≡◌, ◌<◌, ◌≤◌, ℕ, ◌==◌, ◌&&◌, nat_lt, IfOk, [], ◌∷◌};
+ghost use Rattle.codespan_core.specs.FileModel.Lookup.{LineIndex};
 ghost use Rattle.codespan_core.specs.LawfulFiles.{FailsBy};
-ghost use Rattle.codespan_picture.specs.Lines.{spans};
-ghost use Rattle.codespan_picture.specs.Lines.{shows};
-ghost use Rattle.codespan_picture.specs.Lines.{is_around};
+ghost use Rattle.codespan_picture.specs.Lines.{is_around, shows, spans};
 ghost use Rattle.codespan_core.specs.Labels.{LabelModel, first_line, last_line};
 ghost use Rattle.codespan_picture.specs.OutputStreams.{label_of};
-ghost use Rattle.codespan_views.specs.Private.AnnotationViews.{multi_label_from};
-ghost use Rattle.codespan_views.specs.Private.LabelAnnotations.{multi_label_by_ends};
+ghost use Rattle.codespan_views.specs.Private.Annotations.{multi_label_from};
+ghost use Rattle.codespan_views.specs.Private.SourceFiles.{failure_in};
+ghost use Rattle.codespan_views.specs.Private.LabelAnnotations.{IsFarInside, multi_label_by_ends};
 ghost use Rattle.std.specs.Option.{option_map};
-ghost use Rattle.codespan_views.specs.Private.LabelSpans.{IsFarInside, ends_failure};
 
 use crate::annotation::MultiLabelKind;
 use codespan_core::diagnostic::Label;
@@ -140,7 +139,8 @@ pub fn label_span<'files, F: Files<'files>>(
         ≡ first_line ((F.database files.now).file label.now.file_id) (label_of label.now).label) }
     ensures last { IfOk result (λ span. span.last
         ≡ last_line ((F.database files.now).file label.now.file_id) (label_of label.now).label) }
-    ensures failed { FailsBy (ends_failure (F.database files.now).failure label.now) result }
+    ensures failed { FailsBy (failure_in (F.database files.now).failure label.now.file_id
+        (LineIndex label.now.range.start ∷ LineIndex label.now.range.end ∷ [])) result }
 {
     Ok(LabelSpan {
         first: files.line_index(label.file_id, label.range.start)?,

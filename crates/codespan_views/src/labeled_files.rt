@@ -2,12 +2,13 @@
 
 ghost use Rattle.codespan_core.specs.Labels.{is_primary};
 ghost use Rattle.codespan_picture.specs.OutputStreams.{label_of};
-ghost use Rattle.codespan_views.specs.Private.FileIndices.{AreDistinct, index_of_file};
-ghost use Rattle.codespan_views.specs.Private.LabeledFiles.{ids_view, lanes_of_span, with_file};
+ghost use Rattle.codespan_views.specs.Private.LabeledFiles.{AreDistinct, index_of_file};
+ghost use Rattle.codespan_views.specs.Private.LabeledFiles.{ids_view, with_file};
 ghost use Rattle.codespan_views.specs.Private.LabeledFiles.{without_locus};
-ghost use Rattle.codespan_views.specs.Private.LocusBytes.{least_starts_with, least_with};
-ghost use Rattle.codespan_views.specs.Private.LocusBytes.{locus_byte, no_starts};
-ghost use Rattle.std.specs.Prelude.{IfOk, IsErrOf, OnErr, OnOk, map, ◌+◌, ◌<◌, ◌^◌, ◌≡◌};
+ghost use Rattle.codespan_views.specs.Private.Loci.{least_starts_with, least_with};
+ghost use Rattle.codespan_views.specs.Private.Loci.{locus_byte, no_starts};
+ghost use Rattle.std.specs.Prelude.{IfOk, IsErrOf, OnErr, OnOk, if◌then◌else◌, map, ◌+◌, ◌<◌, ◌==◌};
+ghost use Rattle.std.specs.Prelude.{◌^◌, ◌≡◌};
 
 use crate::label_span::LabelSpan;
 use codespan_core::diagnostic::{Label, LabelStyle};
@@ -38,7 +39,8 @@ impl<FileId> LabeledFile<FileId> {
         ensures id { self.new.file_id ≡ self.old.file_id }
         ensures least_starts { self.new.least_starts
             ≡ least_starts_with self.old.least_starts (label_of label.now).label }
-        ensures lanes { self.new.num_multi_labels ≡ self.old.num_multi_labels + lanes_of_span span }
+        ensures lanes { self.new.num_multi_labels ≡ self.old.num_multi_labels
+            + (if span.first == span.last then 0 else 1) }
     {
         self.least_starts = self.least_starts.with(label);
         if !span.is_single() {

@@ -3,9 +3,9 @@
 ghost use Rattle.std.specs.Prelude.{◌≡◌, [], ◌∷◌, All, IfSome, IsTrue, OnOk, drop, length, map};
 ghost use Rattle.std.specs.Prelude.{slice_get};
 ghost use Rattle.std.specs.Slice.Iter.{iter_rest};
-ghost use Rattle.codespan_views.specs.Private.AnnotationViews.{IsLineOf, annotation_view};
+ghost use Rattle.codespan_views.specs.Private.Annotations.{IsLineOf, annotation_view};
 ghost use Rattle.codespan_renderer.specs.Private.RowWriters.{row_writer_sink};
-ghost use Rattle.codespan_views.specs.Private.LineRendering.{HasLines, RendersLines};
+ghost use Rattle.codespan_views.specs.Private.LookupsWhileRendering.{HasLines, RendersLines};
 ghost use Rattle.codespan_views.specs.Private.Rendering.{WritesRows, first_rows, snippet_empty_row};
 ghost use Rattle.codespan_views.specs.Private.SnippetLines.{Break, Filled, Labeled};
 ghost use Rattle.codespan_views.specs.Private.SnippetLines.{are_annotations_in_order};

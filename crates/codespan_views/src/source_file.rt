@@ -5,12 +5,11 @@ ghost use Rattle.codespan_core.specs.FileModel.Lookup.{LineNumber, LocationAt, N
 ghost use Rattle.codespan_core.specs.LawfulFiles.{FailsBy};
 ghost use Rattle.codespan_picture.specs.Arguments.{locus_view};
 ghost use Rattle.codespan_picture.specs.Lookups.{line_lookups};
-ghost use Rattle.codespan_views.specs.Private.AnnotationViews.{IsLineAt};
-ghost use Rattle.codespan_views.specs.Private.FileLookups.{FailsByOrFormatError};
-ghost use Rattle.codespan_views.specs.Private.SourceFiles.{lookups_of_filled, EndsBefore};
-ghost use Rattle.codespan_views.specs.Private.SourceFiles.{failure_of, failure_unless_past_end};
-ghost use Rattle.codespan_views.specs.Private.SourceFiles.{model_of};
-ghost use Rattle.codespan_views.specs.Private.Utf8Loci.{IsUtf8Locus};
+ghost use Rattle.codespan_views.specs.Private.Annotations.{IsLineAt};
+ghost use Rattle.codespan_views.specs.Private.Loci.{IsUtf8Locus};
+ghost use Rattle.codespan_views.specs.Private.SourceFiles.{FailsByOrFormatError, lookups_of_filled};
+ghost use Rattle.codespan_views.specs.Private.SourceFiles.{EndsBefore, failure_of};
+ghost use Rattle.codespan_views.specs.Private.SourceFiles.{failure_unless_past_end, model_of};
 
 use crate::annotation::LineInfo;
 use codespan_core::diagnostic::text::display_text;

@@ -69,11 +69,11 @@ HoldsOfCase Mapped case Holds =
     HoldsOfOnlyFile (mapped_database (with_set_numbers [] case.set_numbers.items)) case Holds
 
 -- the text is the output of a case in plain text
-abbrev pub IsOutput : Case → List ℕ → Type 0
-IsOutput case text =
+abbrev pub IsCaseOutput : Case → List ℕ → Type 0
+IsCaseOutput case text =
     HoldsOfCase case.database_kind case (λ Id database diagnostic.
     IsRendered case.config database diagnostic text)
 
 -- the output of a case in plain text has been appended
 abbrev pub AppendsOutput : Case → List ℕ → List ℕ → Type 0
-AppendsOutput case old new = (text : List ℕ) × (new ≡ old ++ text) × IsOutput case text
+AppendsOutput case old new = (text : List ℕ) × (new ≡ old ++ text) × IsCaseOutput case text

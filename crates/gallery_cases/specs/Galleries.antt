@@ -6,7 +6,7 @@ use Rattle.codespan_base.specs.declared.files.Error.{Error}
 use Rattle.codespan_base.specs.ErrorText.{error_text}
 use Rattle.gallery_cases.specs.declared.case.Case.{Case}
 use Rattle.gallery_cases.specs.declared.case.ColorChoice.TheVariants.{Plain, Svg}
-use Rattle.gallery_cases.specs.CaseOutputs.{IsOutput}
+use Rattle.gallery_cases.specs.CaseOutputs.{IsCaseOutput}
 use Rattle.gallery_cases.specs.Documents.{IsSvg}
 
 -- the heading of a case
@@ -42,7 +42,7 @@ pub record IsSection (case : Case) (text : List ℕ) : Type 0 where
   pub error_line : List ℕ
   pub is : text ≡ with_escapes output ++ error_line
   pub is_error_line : IsErrorLine rendered error_line
-  pub plain : case.colors ≡ Plain → OnOk rendered (IsOutput case output)
+  pub plain : case.colors ≡ Plain → OnOk rendered (IsCaseOutput case output)
   pub document : case.colors ≡ Svg → OnOk rendered (IsSvg case output)
 
 -- the text has the cases in their order, each as its heading and its section

@@ -10,15 +10,12 @@ use Rattle.codespan_picture.specs.Snippets.{LabelInFile, file_ids, labeled_file_
 use Rattle.codespan_picture.specs.Snippets.{labeled_file_models}
 use Rattle.codespan_views.specs.Private.Types.{Collected, RustFile}
 use Rattle.codespan_views.specs.Private.Annotations.{Annotation, is_of_file}
-use Rattle.codespan_views.specs.Private.AnnotationViews.{annotation_view}
+use Rattle.codespan_views.specs.Private.Annotations.{annotation_view}
 use Rattle.codespan_views.specs.Private.Collections.{IsCollected}
-use Rattle.codespan_views.specs.Private.FilledLines.{number_lookups}
+use Rattle.codespan_views.specs.Private.SnippetLines.{number_lookups, SnippetLine, drawn_lines_of}
+use Rattle.codespan_views.specs.Private.SnippetLines.{filled_lines_of, lines_of}
 use Rattle.codespan_views.specs.Private.LabeledFiles.{ids_view, without_locus}
 use Rattle.codespan_views.specs.Private.Loci.{HasLocus, locus_lookups_of_files}
-use Rattle.codespan_views.specs.Private.SnippetLines.{SnippetLine, drawn_lines_of, filled_lines_of}
-use Rattle.codespan_views.specs.Private.SnippetLines.{lines_of}
-
--- ---- lines of files
 
 -- the numbers of these lines
 abbrev pub numbers_of : FileModel → List ℕ → List ℕ
@@ -91,8 +88,6 @@ module _ {Id : Type 0} where
   padding_by_layout Classic file collected = collected.padding.digit_count
   padding_by_layout Unbroken file collected = fold max 0 (digits_of_files file collected)
 
--- ---- what is known when the header is rendered
-
 -- the numbers of filled lines that are known before the header, of the files of these labels
 abbrev pub known_numbers_of_labels : {Id : Type 0} → Config → FileDatabase Id
     → List (LabelInFile Id) → List Id → List ℕ
@@ -100,8 +95,7 @@ known_numbers_of_labels config database xs ids =
     flat_map (λ id. known_numbers config.layout (database.file id)
     (filled_lines config (labeled_file_model database.same database.file xs id))) ids
 
--- this was collected of these labels, and the loci of its files, the numbers and the padding width
--- have been looked up
+-- what was collected of these labels, once loci, numbers and the padding width are looked up
 pub record IsLookedUpEarly {Id : Type 0} (database : FileDatabase Id) (config : Config)
     (xs : List (LabelInFile Id)) (numbers : List ℕ) (collected : Collected Id) : Type 0 where
   pub collected_is : IsCollected database config xs collected

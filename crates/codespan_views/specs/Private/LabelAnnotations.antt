@@ -1,42 +1,25 @@
--- The annotations of a label: what it does on each line that is looked up for it.
-use Rattle.std.specs.Prelude.{ℕ, ◌==◌, ◌&&◌, List, [], ◌++◌, flat_map, Option, Some, None}
-use Rattle.std.specs.Prelude.{if◌then◌else◌}
+-- What a label does on the lines of its file: its annotations of each line that is looked up for
+-- it, and the digit counts of the numbers of the lines that it spans.
+use Rattle.std.specs.Prelude.{ℕ, ◌+◌, ◌<◌, Bool, ◌==◌, ◌&&◌, List, [], ◌∷◌, ◌++◌}
+use Rattle.std.specs.Prelude.{flat_map, Option, Some, None, if◌then◌else◌}
+use Rattle.std.specs.List.{range_with_len}
 use Rattle.std.specs.Option.{option_map}
-use Rattle.codespan_core.specs.FileModel.{FileModel, Lookup}
-use Rattle.codespan_core.specs.Labels.{LabelModel, MultiLabel, first_line, last_line, is_single}
-use Rattle.codespan_core.specs.Labels.{drawn_label, lane_mark_of, multi_label_on, from_line_start}
-use Rattle.codespan_core.specs.Labels.{multi_label_at}
+use Rattle.codespan_core.specs.FileModel.{FileModel, line_count, line_start, Lookup}
+use Rattle.codespan_core.specs.Labels.{LabelModel, MultiLabel, first_line, last_line, lane_mark_of}
+use Rattle.codespan_core.specs.Labels.{from_line_start, multi_label_at}
 use Rattle.codespan_picture.specs.Types.{Config}
-use Rattle.codespan_picture.specs.Lines.{shows}
+use Rattle.codespan_picture.specs.Lines.{shows, spans}
 use Rattle.codespan_picture.specs.Lookups.{looked_up_lines, is_looked_up, line_lookups}
+use Rattle.codespan_picture.specs.Padding.{count_digits}
 use Rattle.codespan_views.specs.Private.Annotations.{Annotation, AnnotationKind, Shown, Single}
 use Rattle.codespan_views.specs.Private.Annotations.{Multi, annotation_if_any}
 
--- of a label of the file at this index, which has this index itself, and this lane if it is a
--- multi-line label
-module _ (config : Config) (f : FileModel) (file_index index lane : ℕ) (x : LabelModel) where
-  -- what it does on a line, its lane mark aside
-  abbrev pub kind_on : ℕ → Option AnnotationKind
-  kind_on l =
-      if is_single f x && (first_line f x == l) then Some (Single index (drawn_label f x))
-      else if shows config (first_line f x) (last_line f x) l then Some Shown else None
+-- ---- the lines on which a label starts and ends
 
-  -- what it does on a line as a multi-line label, where it has a lane mark there
-  abbrev pub multi_kind_on : ℕ → Option AnnotationKind
-  multi_kind_on l =
-      if is_single f x then None
-      else option_map Multi (lane_mark_of lane x (multi_label_on f l x))
-
-  -- its annotations of a line
-  abbrev pub line_annotations : ℕ → List Annotation
-  line_annotations l = annotation_if_any file_index l (kind_on l)
-      ++ annotation_if_any file_index l (multi_kind_on l)
-
-  -- its annotations of all lines that are looked up for it
-  abbrev pub annotations_of : List Annotation
-  annotations_of = flat_map line_annotations (looked_up_lines config f x)
-
--- ---- by the lines of its ends
+-- line `l` is between lines `first` and `last`, and near neither of them
+abbrev pub IsFarInside : Config → ℕ → ℕ → ℕ → Type 0
+IsFarInside config first last l =
+    (first + config.start_context_lines < l) × (l + config.end_context_lines < last)
 
 -- what a label from line `first` to line `last` does on line `l`, which starts at byte `start`
 abbrev pub kind_by_ends : Config → ℕ → ℕ → ℕ → ℕ → ℕ → LabelModel → Option AnnotationKind
@@ -54,6 +37,24 @@ abbrev pub multi_kind_by_ends : ℕ → ℕ → ℕ → ℕ → ℕ → LabelMod
 multi_kind_by_ends lane first last l start x =
     option_map Multi (lane_mark_of lane x (multi_label_by_ends first last l start x))
 
+-- ---- its annotations
+
+-- of a label of the file at this index, which has this index itself, and this lane if it is a
+-- multi-line label
+module _ (config : Config) (f : FileModel) (file_index index lane : ℕ) (x : LabelModel) where
+  -- its annotations of a line
+  abbrev pub line_annotations : ℕ → List Annotation
+  line_annotations l =
+      annotation_if_any file_index l
+      (kind_by_ends config index (first_line f x) (last_line f x) l
+      (line_start f (first_line f x)) x)
+      ++ annotation_if_any file_index l
+      (multi_kind_by_ends lane (first_line f x) (last_line f x) l (line_start f l) x)
+
+  -- its annotations of all lines that are looked up for it
+  abbrev pub annotations_of : List Annotation
+  annotations_of = flat_map line_annotations (looked_up_lines config f x)
+
 -- ---- the lines that are looked up for it
 
 module _ (config : Config) (f : FileModel) (x : LabelModel) where
@@ -66,3 +67,17 @@ module _ (config : Config) (f : FileModel) (x : LabelModel) where
   annotations_if_looked_up file_index index lane l =
       if is_looked_up config f x l then line_annotations config f file_index index lane x l
       else []
+
+-- ---- the lines that it spans
+
+-- the label spans the line
+abbrev pub is_spanned : FileModel → LabelModel → ℕ → Bool
+is_spanned f x l = spans (first_line f x) (last_line f x) l
+
+-- the digit count of a line's number, where the label spans it
+abbrev pub digit_count_if_spanned : FileModel → LabelModel → ℕ → List ℕ
+digit_count_if_spanned f x l = if is_spanned f x l then count_digits (f.line_number l) ∷ [] else []
+
+-- those of all lines of a label
+abbrev pub label_digit_counts : FileModel → LabelModel → List ℕ
+label_digit_counts f x = flat_map (digit_count_if_spanned f x) (range_with_len 0 (line_count f))

@@ -1,12 +1,31 @@
 -- The files of an output, as the code has them.
-use Rattle.std.specs.Prelude.{◌≡◌, ◌==◌, ℕ, Bool, List, [], ◌∷◌, ◌++◌, if◌then◌else◌, map}
-use Rattle.std.specs.List.{list_any}
+use Rattle.std.specs.Prelude.{◌≡◌, ℕ, zero, suc, Bool, false, List, [], ◌∷◌, ◌++◌, map}
+use Rattle.std.specs.Prelude.{if◌then◌else◌}
+use Rattle.std.specs.List.{AllByRecursion, list_any, position_or_len}
 use Rattle.codespan_core.specs.FileModel.{FileModel}
 use Rattle.codespan_picture.specs.Arguments.{locus_view}
 use Rattle.codespan_picture.specs.Rows.{Locus}
 use Rattle.codespan_picture.specs.Snippets.{LabelInFile, labeled_file_model, num_multi_labels}
-use Rattle.codespan_views.specs.Private.Types.{RustFile, LabelSpan, LeastStarts}
-use Rattle.codespan_views.specs.Private.LocusBytes.{file_least_starts}
+use Rattle.codespan_views.specs.Private.Types.{RustFile, LeastStarts}
+use Rattle.codespan_views.specs.Private.Loci.{file_least_starts}
+
+-- ---- the ids of files, each at its index
+
+-- the id at this index
+abbrev pub IsIdAt : {Id : Type 0} → List Id → ℕ → Id → Type 0
+IsIdAt [] file_index id = ⊥
+IsIdAt (j ∷ js) zero id = j ≡ id
+IsIdAt (j ∷ js) (suc file_index) id = IsIdAt js file_index id
+
+module _ {Id : Type 0} (same : Id → Id → Bool) where
+  -- the index of an id among these, or their number if it is none of them
+  abbrev pub index_of_file : List Id → Id → ℕ
+  index_of_file ids id = position_or_len (λ j. same j id) ids
+
+  -- no two of these ids are the same
+  abbrev pub AreDistinct : List Id → Type 0
+  AreDistinct [] = Unit {0}
+  AreDistinct (j ∷ js) = AllByRecursion (λ k. same j k ≡ false) js × AreDistinct js
 
 -- ---- all files
 
@@ -44,9 +63,3 @@ pub record AreLabeledFiles {Id : Type 0} (same : Id → Id → Bool) (file : Id 
 -- them
 abbrev pub with_file : {Id A : Type 0} → (Id → Id → Bool) → List Id → Id → List A → A → List A
 with_file same ids id known one = if list_any (λ j. same j id) ids then known else known ++ one ∷ []
-
--- ---- one label more
-
--- how many lanes a label takes that starts and ends on these lines
-abbrev pub lanes_of_span : LabelSpan → ℕ
-lanes_of_span span = if span.first == span.last then 0 else 1

@@ -1,32 +1,21 @@
 -- Labels whose lines are looked up, one after another.
-use Rattle.std.specs.Prelude.{◌≡◌, ℕ, ◌<◌, Bool, true, false, List, ◌++◌, flat_map, fold, max}
-use Rattle.std.specs.Prelude.{Option, IfOk, Result}
-use Rattle.codespan_core.specs.FileModel.{FileDatabase, FileModel, line_count, Lookup}
+use Rattle.std.specs.Prelude.{◌≡◌, ℕ, Bool, true, false, List, ◌++◌, flat_map, fold, max, Option}
+use Rattle.std.specs.Prelude.{IfOk, Result}
+use Rattle.codespan_core.specs.FileModel.{FileDatabase, FileModel}
 use Rattle.codespan_core.specs.Labels.{LabelModel, first_line, last_line}
 use Rattle.codespan_picture.specs.Types.{Error, Config}
-use Rattle.codespan_picture.specs.Lookups.{Failures, looked_up_lines, lookups_of_file, first_error}
-use Rattle.codespan_picture.specs.Lookups.{is_looked_up, label_lookups, label_line_lookups}
-use Rattle.codespan_picture.specs.Lookups.{line_lookups, lookup_past_end}
+use Rattle.codespan_picture.specs.Lookups.{Failures, looked_up_lines, first_error, is_looked_up}
+use Rattle.codespan_picture.specs.Lookups.{label_lookups, line_lookups, lookup_past_end}
 use Rattle.codespan_picture.specs.OutputStreams.{label_of}
 use Rattle.codespan_picture.specs.Snippets.{LabelInFile}
 use Rattle.codespan_picture.specs.declared.padding.PaddingWidth.{PaddingWidth}
 use Rattle.codespan_views.specs.Private.Types.{RustAnnotation}
 use Rattle.codespan_views.specs.declared.label_annotations.LabelCollector.{LabelCollector}
-use Rattle.codespan_views.specs.Private.LabelAnnotations.{annotations_of, line_annotations}
-use Rattle.codespan_views.specs.Private.LabelAnnotations.{annotations_if_looked_up}
-use Rattle.codespan_views.specs.Private.LabelAnnotations.{lookups_if_looked_up}
-use Rattle.codespan_views.specs.Private.FileLookups.{failure_in}
-use Rattle.codespan_views.specs.Private.SourceFiles.{model_of}
-use Rattle.codespan_views.specs.Private.AnnotationViews.{AppendsAnnotationsOf}
-use Rattle.codespan_views.specs.Private.SpannedDigitCounts.{digit_count_if_spanned}
-use Rattle.codespan_views.specs.Private.SpannedDigitCounts.{label_digit_counts}
-
--- the lookups of one label
-abbrev pub lookups_of_label : {Id : Type 0} → Config → FileDatabase Id → LabelInFile Id
-    → List (Id × Lookup)
-lookups_of_label config database x =
-    lookups_of_file x.file_id
-    (label_line_lookups config (database.file x.file_id) (database.failure x.file_id) x.label)
+use Rattle.codespan_views.specs.Private.LabelAnnotations.{annotations_of, annotations_if_looked_up}
+use Rattle.codespan_views.specs.Private.LabelAnnotations.{lookups_if_looked_up, label_digit_counts}
+use Rattle.codespan_views.specs.Private.LabelAnnotations.{digit_count_if_spanned}
+use Rattle.codespan_views.specs.Private.SourceFiles.{failure_in, model_of}
+use Rattle.codespan_views.specs.Private.Annotations.{AppendsAnnotationsOf}
 
 -- what the lookups of these labels fail with
 abbrev pub labels_failure : {Id : Type 0} → Config → FileDatabase Id → List (LabelInFile Id)
@@ -74,17 +63,6 @@ module _ {Id : Type 0} (x : LabelToCollect Id) where
   -- the line is looked up for it
   abbrev pub IsLookedUp : ℕ → Type 0
   IsLookedUp l = is_looked_up x.config x.file x.label l ≡ true
-
-  -- the file has the line, where it is looked up
-  abbrev pub HasLineIfLookedUp : ℕ → Type 0
-  HasLineIfLookedUp l = IsLookedUp l → l < line_count x.file
-
-  -- its annotations of a line were appended
-  abbrev pub AppendsLineAnnotations : List (RustAnnotation Id) → List (RustAnnotation Id) → ℕ
-      → Type 0
-  AppendsLineAnnotations old new l =
-      AppendsAnnotationsOf x.file old new
-      (line_annotations x.config x.file x.file_index x.index x.lane x.label l)
 
   -- its annotations of a line were found, where it is looked up
   abbrev pub FindsLineAnnotations : List (RustAnnotation Id) → List (RustAnnotation Id) → ℕ → Type 0

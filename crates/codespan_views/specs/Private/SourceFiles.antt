@@ -1,25 +1,30 @@
--- A file of an output, as the code has it.
-use Rattle.std.specs.Prelude.{◌≡◌, ◌≤◌, ℕ, true, nat_lt, ◌&&◌, List, Option, None, if◌then◌else◌}
-use Rattle.std.specs.Prelude.{[], ◌∷◌, Some}
-use Rattle.codespan_core.specs.FileModel.{FileDatabase, FileModel, line_count, Lookup, or_failure}
+-- A file of an output, as the code has it, and what is looked up in it.
+use Rattle.std.specs.Prelude.{List, Option, ◌≡◌, ◌≢◌, Some, None, Result, MatchResult, [], ◌∷◌, ◌≤◌}
+use Rattle.std.specs.Prelude.{ℕ, true, nat_lt, ◌&&◌, if◌then◌else◌}
 use Rattle.codespan_core.specs.FileModel.Lookup.{LineRange, LineNumber}
-use Rattle.codespan_picture.specs.Types.{Error}
+use Rattle.codespan_core.specs.FileModel.{FileDatabase, FileModel, line_count, Lookup, or_failure}
+use Rattle.codespan_picture.specs.Lookups.{Failures, lookups_of_file, first_error}
 use Rattle.codespan_picture.specs.Lookups.{ends_context_lines}
+use Rattle.codespan_picture.specs.Types.{Error, FormatError, OutOfMemory}
 use Rattle.codespan_views.specs.declared.source_file.SourceFile.{SourceFile}
-use Rattle.codespan_views.specs.Private.FileLookups.{failure_in}
 
--- the lookup of a line's number, where that is not known
-abbrev pub number_lookup : Option ℕ → ℕ → List Lookup
-number_lookup None l = LineNumber l ∷ []
-number_lookup (Some number) l = []
+-- the error of the first of these lookups of a file that fails
+abbrev pub failure_in : {Id : Type 0} → Failures Id → Id → List Lookup → Option Error
+failure_in failure id lookups = first_error failure (lookups_of_file id lookups)
+
+-- the result of lookups, the first error of which is this: on `Ok` none of them failed; an error is
+-- that one, `OutOfMemory`, or `FormatError`, as where the `Display` of a name fails
+abbrev pub FailsByOrFormatError : {T : Type 0} → Option Error → Result T Error → Type 0
+FailsByOrFormatError o r =
+    MatchResult r (λ _. o ≡ None) (λ e. e ≢ OutOfMemory → e ≢ FormatError → o ≡ Some e)
 
 -- the lookups of a line: its range, and its number where that is not known
 abbrev pub lookups_of_filled : Option ℕ → ℕ → List Lookup
-lookups_of_filled number l = LineRange l ∷ number_lookup number l
+lookups_of_filled None l = LineRange l ∷ LineNumber l ∷ []
+lookups_of_filled (Some number) l = LineRange l ∷ []
 
--- what the lookups of a line fail with: that of its range, and, where the file has the line, that
--- of its number; nothing, where the line is after the last one of a label and the lookup of its
--- range fails with `LineTooLarge`
+-- what the lookups of a line fail with: its range, and its number where the file has the line;
+-- nothing, where the line is after a label's last one and its range fails with `LineTooLarge`
 abbrev pub line_failure_unless_past_end : FileModel → (Lookup → Option Error) → ℕ → ℕ → Option Error
 line_failure_unless_past_end f failure last l =
     if nat_lt last l && ends_context_lines (failure (LineRange l)) then None
@@ -43,8 +48,7 @@ module _ {F Id Name Source : Type 0} (database_of : F → FileDatabase Id)
       × (ends_context_lines ((database_of file.files.now).failure file.file_id (LineRange l))
       ≡ true)
 
-  -- what the lookups of a line of the file fail with; the first argument is the last line of a
-  -- label
+  -- what the lookups of a line of the file fail with; the first argument is a label's last line
   abbrev pub failure_unless_past_end : ℕ → ℕ → Option Error
   failure_unless_past_end =
       line_failure_unless_past_end model_of ((database_of file.files.now).failure file.file_id)

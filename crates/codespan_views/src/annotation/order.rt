@@ -3,8 +3,7 @@
 ghost use Rattle.std.specs.Prelude.{◌≡◌, ◌<◌, length, map, true, IfOk, IfSome, OnErr, IsErrOf};
 ghost use Rattle.std.specs.List.Sorted.{IsPermutation, IsSortedBy, IsSortedWithin};
 ghost use Rattle.codespan_views.specs.Private.Annotations.{IsLaneMarkOn, annotation_cmp, is_before};
-ghost use Rattle.codespan_views.specs.Private.Annotations.{rank_of, kind_cmp};
-ghost use Rattle.codespan_views.specs.Private.AnnotationViews.{annotation_view};
+ghost use Rattle.codespan_views.specs.Private.Annotations.{annotation_view, kind_cmp, rank_of};
 
 use crate::annotation::{Annotation, AnnotationKind, drawn_range};
 use codespan_core::files::Error;

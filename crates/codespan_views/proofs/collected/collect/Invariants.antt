@@ -1,5 +1,7 @@
+use Rattle.codespan_core.proofs.Std.{map}
+use Rattle.codespan_picture.specs.OutputStreams.{label_of}
 use Rattle.codespan_picture.specs.Snippets.{file_ids}
-use Rattle.codespan_views.proofs.LabelsBefore.{before}
+use Rattle.codespan_views.proofs.LabelFiles.{before}
 use Rattle.codespan_views.proofs.LabelsCollected.{AreCollected}
 use Rattle.codespan_views.proofs.collected.collect.Given as goal
 
@@ -7,6 +9,7 @@ use Rattle.codespan_views.proofs.collected.collect.Given as goal
 abbrev pub invariant-loop-index : goal.invariant-loop-index
 invariant-loop-index g l =
     AreCollected (g.F.Files.database l.files) l.config
+    (file_ids (g.F.Files.database l.files).same (map label_of l.labels))
     (file_ids (g.F.Files.database l.files).same (before l.labels l.index))
     (before l.labels l.index) l.collected.files.items
     l.collected.annotations.items l.collected.padding

@@ -6,14 +6,13 @@ use Rattle.codespan_views.proofs.FileLengths.{rest-sorted}
 use Rattle.codespan_views.proofs.FileSlices.{from_file-first}
 use Rattle.codespan_views.proofs.FileTurns.{IsAtFile, next_inside, next_left, own_lines}
 use Rattle.codespan_views.proofs.FileTurns.{own_snippet_lines}
-use Rattle.codespan_views.proofs.NumbersFound.{files-failed, files-more, files-none}
+use Rattle.codespan_views.proofs.NumbersFound.{files-failed, files-more}
 use Rattle.codespan_views.proofs.collected.find_numbers.Given.{Over}
 use Rattle.codespan_views.proofs.collected.find_numbers.Goals.{After-count_in_file-len}
-use Rattle.codespan_views.proofs.collected.find_numbers.Goals.{After-loop-index}
 use Rattle.codespan_views.proofs.collected.find_numbers.Goals as goal
 
 pub loop-index-init : goal.loop-index-init
-loop-index-init g c = grind (arith, common_steps, from_file-first, files-none)
+loop-index-init g c = grind (arith, common_steps, from_file-first)
 
 -- the annotations that are lent
 items_are : (g : Over)
@@ -49,7 +48,7 @@ returns-in_err-find_numbers_of_file-clause-failed g c =
     rw (p.1 ∙ ap Err p.2)
     (λ memory. files-failed at.here (own_snippet_lines at
     (c.deref-in-loop-index.ensures.value ∙ items_are g c.loop-index.invariant.annotations))
-    c.loop-index.invariant.found (c.in_err-find_numbers_of_file.ensures.failed memory))
+    c.loop-index.invariant.files_left (c.in_err-find_numbers_of_file.ensures.failed memory))
 
 pub loop-index-preserved : goal.loop-index-preserved
 loop-index-preserved g c =
@@ -57,15 +56,12 @@ loop-index-preserved g c =
     record {
       inside = next_inside at;
       left = next_left at;
-      found =
+      files_left =
           files-more at.here (own_snippet_lines at
           (c.deref-in-loop-index.ensures.value ∙ items_are g c.loop-index.invariant.annotations))
-          c.loop-index.invariant.found
-          (record {
-            numbers_are = c.in_ok-find_numbers_of_file.ensures.numbers;
-            padding_is = c.in_ok-find_numbers_of_file.ensures.padding;
-            succeeded = c.in_ok-find_numbers_of_file.ensures.failed;
-          });
+          c.loop-index.invariant.files_left
+          c.in_ok-find_numbers_of_file.ensures.numbers c.in_ok-find_numbers_of_file.ensures.padding
+          c.in_ok-find_numbers_of_file.ensures.failed;
       files = refl;
       annotations = c.loop-index.invariant.annotations;
     }

@@ -1,9 +1,9 @@
-use Rattle.codespan_core.proofs.Std.{get_or, sym, ap, ◌∙◌, arith, common_steps, is_some, ltb-false}
+use Rattle.codespan_core.proofs.Std.{get_or, sym, arith, common_steps, ltb-false, length-map}
 use Rattle.codespan_core.proofs.Std.{ltb-true}
+use Rattle.std.proofs.lemmas.List.Sums.{prefix_len-le-length}
 use Rattle.codespan_views.specs.Private.{ids_view}
 use Rattle.codespan_views.proofs.FileIndices.{same_id-index}
-use Rattle.codespan_views.proofs.FileSearch.{none-more, index-first, index-nowhere}
-use Rattle.codespan_views.proofs.FilesInOrder.{is-id}
+use Rattle.codespan_views.proofs.FilesInOrder.{index-first, index-later, is-id}
 use Rattle.codespan_views.proofs.IndexedElements.{IsElementAt}
 use Rattle.codespan_views.proofs.labeled_files.find_file.Given.{Over}
 use Rattle.codespan_views.proofs.labeled_files.find_file.Goals.{After-index-files-index}
@@ -14,26 +14,24 @@ use Rattle.codespan_views.proofs.labeled_files.find_file.Goals as goal
 pub returns : goal.returns
 returns g c =
     let found = c.in-Some.ensures.lookup in
-    same_id-index g.met.FileId.Eq.laws (ids_view c.args.files.now) c.in-Some.file.now.file_id
-    c.args.id
-    c.requires
-    (is-id (record { inside = ltb-true _ _ (sym found.0); is = found.1 }))
-    (sym c.if-eq.ensures)
+    same_id-index g.FileId.PartialEq.eq g.met.FileId.Eq.laws (ids_view c.args.files.now)
+    c.in-Some.file.now.file_id c.args.id c.requires
+    (is-id (record { inside = ltb-true _ _ (sym found.0); is = found.1 })) (sym c.if-eq.ensures)
 
 -- the file at the index of the loop
 here : (g : Over) (c : After-index-files-index g)
     → IsElementAt c.args.files.now c.loop-index.index
     (get_or c.args.files.now c.loop-index.index c.index-files-index.result)
-here g c = record {
-  inside = omega (arith, c.loop-index-test.true, c.saturating_sub-last.ensures);
-  is = ap (get_or c.args.files.now c.loop-index.index) c.index-files-index.is;
-}
+here g c = grind (arith, common_steps)
 
 pub returns-then-eq-2 : goal.returns-then-eq-2
 returns-then-eq-2 g c = grind (arith, common_steps, index-first, here)
 
+pub loop-index-preserved : goal.loop-index-preserved
+loop-index-preserved g c = grind (arith, common_steps, index-later, here)
+
 pub returns-then-is_next : goal.returns-then-is_next
-returns-then-is_next g c = grind (arith, common_steps, none-more, here, index-first)
+returns-then-is_next g c = grind (arith, common_steps, index-later, here, index-first)
 
 -- the last file
 last : (g : Over) (c : In-Some-get g)
@@ -44,11 +42,8 @@ pub returns-in-Some-get : goal.returns-in-Some-get
 returns-in-Some-get g c = grind (arith, common_steps, index-first, last)
 
 pub returns-in_default : goal.returns-in_default
-returns-in_default g c = grind (arith, common_steps, none-more, last, index-nowhere)
+returns-in_default g c = grind
+    (arith, common_steps, index-later, last, prefix_len-le-length, length-map)
 
--- there is none at all
 pub returns-in_default-2 : goal.returns-in_default-2
-returns-in_default-2 g c =
-    index-nowhere g.met.FileId.Eq.laws c.args.files.now c.loop-index.index c.args.id
-    c.loop-index.invariant.none
-    (ltb-false c.loop-index.index _ (sym c.get-2.ensures.lookup.0 ∙ ap is_some c.in_default-2.is))
+returns-in_default-2 g c = grind (arith, common_steps, ltb-false, prefix_len-le-length, length-map)

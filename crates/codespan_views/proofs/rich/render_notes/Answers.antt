@@ -1,5 +1,4 @@
-use Rattle.codespan_core.proofs.Std.{◌≡◌, ℕ, List, ◌<◌, ◌+◌, Err, Result, length, drop, take}
-use Rattle.codespan_core.proofs.Std.{get_or, sym, ap, ◌∙◌, arith, string_bytes, err_from_is_err_and}
+use Rattle.codespan_core.proofs.Std.{◌+◌, Result, take, sym, string_bytes}
 use Rattle.std.specs.Str.Lines.{lines}
 use Rattle.codespan_picture.specs.Types.{Error, Config}
 use Rattle.codespan_picture.specs.OutputStreams.{context_of}
@@ -7,8 +6,8 @@ use Rattle.codespan_picture.specs.RenderedRows.{note_stream, rendered_note}
 use Rattle.codespan_renderer.specs.declared.term.renderer.Renderer.{Renderer}
 use Rattle.codespan_renderer.specs.Renderers.{Renders, config_of}
 use Rattle.codespan_views.proofs.NoteRows.{notes-cut, notes-next, stream_of_notes}
-use Rattle.codespan_views.proofs.RendererRuns.{renders_as, renders_cut, renders_nothing}
-use Rattle.codespan_views.proofs.RendererRuns.{renders_then}
+use Rattle.codespan_views.proofs.IndexedElements.{element-equal}
+use Rattle.codespan_views.proofs.RendererRuns.{exit_is, renders_cut, renders_nothing, renders_then}
 use Rattle.codespan_views.proofs.rich.render_notes.Given.{Over}
 use Rattle.codespan_views.proofs.rich.render_notes.Goals.{After-render_snippet_note}
 use Rattle.codespan_views.proofs.rich.render_notes.Goals as goal
@@ -27,37 +26,24 @@ one_more : (g : Over) (c : After-render_snippet_note g) {r : Result (Unit {0}) E
     (take (c.loop-note.note-index + 1) c.args.diagnostic.now.notes.items)) c.args.renderer.now r
     new
 one_more g c part =
-    let d = c.args.diagnostic.now in
-    let notes = d.notes.items in
-    let i = c.loop-note.note-index in
-    let note = c.note-item.result in
-    let context = context_of (config_of c.args.renderer.now) d.severity c.args.padding in
-    let inside : i < length notes =
-    omega (arith, c.loop-note-test.true, ap length c.deref-note-items.ensures.value) in
-    let is : note ≡ get_or notes i note =
-    c.note-item.is ∙ ap (λ ns. get_or ns i note) c.deref-note-items.ensures.value in
-    renders_as (sym (notes-next string_bytes context notes i note inside is))
-    (renders_then (λ (k : Config). note_stream k.chars c.args.padding (lines (string_bytes note)))
-    c.loop-note.invariant
-    (renders_as
-    (ap
-    (λ (text : List ℕ). note_stream (config_of c.loop-note.renderer).chars c.args.padding
-    (lines text))
-    c.as_str.ensures.value)
-    part))
+    rw (notes-next string_bytes (context_of (config_of c.args.renderer.now)
+    c.args.diagnostic.now.severity c.args.padding)
+    (element-equal c.deref-note-items.ensures.value c.loop-note-test.true c.note-item.is))
+    (renders_then (λ (k : Config). note_stream k.chars c.args.padding
+    (lines (string_bytes c.note-item.result))) c.loop-note.invariant
+    (rw (sym c.as_str.ensures.value) part))
 
 pub returns-in_err-render_snippet_note : goal.returns-in_err-render_snippet_note
 returns-in_err-render_snippet_note g c =
     let d = c.args.diagnostic.now in
-    let i = c.loop-note.note-index in
     let context = context_of (config_of c.args.renderer.now) d.severity c.args.padding in
-    let rest = stream_of_notes string_bytes context (drop (i + 1) d.notes.items) in
-    let p = err_from_is_err_and c.from_residual.result c.from_residual.ensures.1 in
-    rw (p.1 ∙ ap Err p.2)
-    (renders_as (sym (notes-cut string_bytes context d.notes.items (i + 1)))
-    (renders_cut rest
+    rw (
+      exit_is _ c.from_residual.ensures.1,
+      notes-cut string_bytes context d.notes.items (c.loop-note.note-index + 1),
+    )
+    (renders_cut _
     (one_more g (goal.at.returns-in_err-render_snippet_note g c).After-render_snippet_note
-    c.in_err-render_snippet_note.ensures)))
+    c.in_err-render_snippet_note.ensures))
 
 pub loop-note-preserved : goal.loop-note-preserved
 loop-note-preserved g c =

@@ -8,8 +8,7 @@ pub loop-end-preserved : goal.loop-end-preserved
 loop-end-preserved g c = record {
   some = omega arith;
   sorted =
-      sorted-join (λ x y. is_before (annotation_view x) (annotation_view y)) c.args.annotations.now
-      0 c.loop-end.end c.lane_marks_end-end.result
+      sorted-join (λ x y. is_before (annotation_view x) (annotation_view y)) _ 0 c.loop-end.end _
       c.index-annotations-end-in-loop-end.result c.index-annotations-end.result
       c.index-annotations-end-in-loop-end.is c.index-annotations-end.is (omega arith)
       (sym c.is_before.ensures ∙ c.if-is_before.false) c.loop-end.invariant.sorted
@@ -18,6 +17,5 @@ loop-end-preserved g c = record {
 
 pub returns : goal.returns
 returns g c = λ _.
-    sorted-map annotation_view is_before c.args.annotations.now
-    (λ k d from below. c.loop-end.invariant.sorted k d from
-    (omega (arith, c.loop-end-test.false)))
+    sorted-map annotation_view is_before _
+    (λ k d from below. c.loop-end.invariant.sorted k d from (omega (arith, c.loop-end-test.false)))

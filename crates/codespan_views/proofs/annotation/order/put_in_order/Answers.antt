@@ -1,4 +1,4 @@
-use Rattle.codespan_core.proofs.Std.{rules, ◌≡◌, is_lt, IsPermutation-trans}
+use Rattle.codespan_core.proofs.Std.{rules, ◌≡◌, is_lt, IsPermutation-trans, arith, common_steps}
 use Rattle.std.proofs.lemmas.List.Sorted.{answers_always}
 use Rattle.codespan_views.specs.Private.{is_before, annotation_view}
 use Rattle.codespan_views.proofs.AnnotationOrder.{below_order}
@@ -6,12 +6,7 @@ use Rattle.codespan_picture.proofs.SortedLists.{sorted-map}
 use Rattle.codespan_views.proofs.annotation.order.put_in_order.Goals as goal
 
 pub returns-clause-permutation : goal.returns-clause-permutation
-returns-clause-permutation g c =
-    IsPermutation-trans _ _ _ c.group_by_line.ensures.permutation
-    c.sort_unstable_by.ensures.permutation
-
-pub returns-in_err-is_grouped-clause-permutation : goal.returns-in_err-is_grouped-clause-permutation
-returns-in_err-is_grouped-clause-permutation g c = c.group_by_line.ensures.permutation
+returns-clause-permutation g c = grind (arith, common_steps, IsPermutation-trans)
 
 pub returns-clause-sorted : goal.returns-clause-sorted
 returns-clause-sorted g c =

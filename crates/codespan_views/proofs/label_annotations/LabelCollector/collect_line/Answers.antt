@@ -1,33 +1,24 @@
-use Rattle.codespan_core.proofs.Std.{◌≡◌, ◌∙◌, false, true, rules, ap, sym, [], Bool, arith}
-use Rattle.codespan_core.proofs.Std.{common_steps, if◌then◌else◌}
+use Rattle.codespan_core.proofs.Std.{◌≡◌, ◌∙◌, false, true, rules, sym, arith, common_steps}
 use Rattle.codespan_picture.specs.Lines.{spans}
 use Rattle.codespan_picture.specs.Lookups.{is_looked_up}
 use Rattle.codespan_picture.specs.OutputStreams.{label_of}
-use Rattle.codespan_views.specs.Private.{line_annotations, label_of_collector, model_of}
-use Rattle.codespan_views.proofs.Collecting.{AppendsAnnotations-none, AppendsAnnotations-as}
-use Rattle.codespan_views.proofs.CollectedLines.{far-spans, looked_up-around, looked_up-spanned}
-use Rattle.codespan_views.proofs.CollectedLines.{succeeded-looked_up}
+use Rattle.codespan_views.specs.Private.{label_of_collector, model_of}
+use Rattle.codespan_views.proofs.Collecting.{AppendsAnnotations-none, far-spans, looked_up-around}
+use Rattle.codespan_views.proofs.Collecting.{looked_up-spanned}
 use Rattle.codespan_views.proofs.label_annotations.LabelCollector.collect_line.Given.{Over}
 use Rattle.codespan_views.proofs.label_annotations.LabelCollector.collect_line.Goals.{In_ok-push_line}
 use Rattle.codespan_views.proofs.label_annotations.LabelCollector.collect_line.Goals.{then-is_far}
 use Rattle.codespan_views.proofs.label_annotations.LabelCollector.collect_line.Goals.{else-is_far}
-use Rattle.codespan_views.proofs.label_annotations.LabelCollector.collect_line.Goals.{then-is_spanned}
-use Rattle.codespan_views.proofs.label_annotations.LabelCollector.collect_line.Goals.{else-is_spanned}
 use Rattle.codespan_views.proofs.label_annotations.LabelCollector.collect_line.Goals.{else-not-is_spanned-via-then-not-is_spanned+else-not-is_around}
 use Rattle.codespan_views.proofs.label_annotations.LabelCollector.collect_line.Goals.{else-not-is_spanned-via-else-not-is_spanned}
 use Rattle.codespan_views.proofs.label_annotations.LabelCollector.collect_line.Goals as goal
 
 pub returns-then-not-is_around-clause-added : goal.returns-then-not-is_around-clause-added
 returns-then-not-is_around-clause-added g c =
-    let f = model_of g.F.Files.database c.args.self.now.file in
-    let x = (label_of c.args.self.now.label.now).label in
-    let not_looked_up : is_looked_up c.args.self.now.config.now f x c.args.index ≡ false =
-    search rules in
-    λ _. AppendsAnnotations-as
-    (ap (λ (b : Bool). if b then line_annotations c.args.self.now.config.now f
-    c.args.self.now.file_index c.args.self.now.index c.args.self.now.lane x c.args.index else [])
-    not_looked_up)
-    AppendsAnnotations-none
+    let not_looked_up : is_looked_up c.args.self.now.config.now
+    (model_of g.F.Files.database c.args.self.now.file)
+    (label_of c.args.self.now.label.now).label c.args.index ≡ false = search rules in
+    λ _. rw not_looked_up AppendsAnnotations-none
 
 -- whether the label spans the line
 is_spanned : (g : Over) (c : In_ok-push_line g)
@@ -61,4 +52,4 @@ looked_up g c =
     ]
 
 pub returns-clause-succeeded : goal.returns-clause-succeeded
-returns-clause-succeeded g c = grind (arith, common_steps, succeeded-looked_up, looked_up)
+returns-clause-succeeded g c = grind (arith, common_steps, looked_up)

@@ -24,10 +24,8 @@ has_ends g κs claim collector =
     let x = label_of_collector g.F.Files.database collector in
     let some = ((g.met.F.Files κs claim).lawful collector.file.files.now x.file_id).has_line in
     record {
-      first =
-          line_of_below x.file.starts x.label.start some;
-      last =
-          line_of_below x.file.starts x.label.end some;
+      first = line_of_below x.file.starts x.label.start some;
+      last = line_of_below x.file.starts x.label.end some;
     }
 
 pub loop-index-init : goal.loop-index-init
@@ -54,9 +52,8 @@ in_range a b k is_in is is_true = grind (arith, nat_tests)
 is_far_inside : (g : Over) (c : After-contains g) → c.contains.result ≡ true
     → IsFarInside c.args.self.now.config.now c.args.self.now.span.first c.args.self.now.span.last
     c.loop-index.index-counter
-is_far_inside g c far =
-    let inside = in_range _ _ _ _ c.contains.ensures.value far in
-    c.far_lines-far.ensures c.loop-index.index-counter inside.0 inside.1
+is_far_inside g c far = c.far_lines-far.ensures _ (in_range _ _ _ _ c.contains.ensures.value far).0
+    (in_range _ _ _ _ c.contains.ensures.value far).1
 
 pub collect_line-requires : goal.collect_line-requires
 collect_line-requires g c κs = (
@@ -82,15 +79,14 @@ no_more : (g : Over) (c : goal.Then-not-branch g)
     c.args.collected.now.annotations.items c.collect_line.new.collected.annotations.items
     c.args.collected.now.padding c.collect_line.new.collected.padding
 no_more g c =
-    let x = label_of_collector g.F.Files.database c.args.self.now in
     let known = c.in_ok-collect_line.ensures in
-    let here = c.if-not-branch.true in
-    let ended = known.ended here in
-    rw (known.unchanged here)
-    (collected-context {x = x} c.loop-index.invariant.lines ended.0 ended.1)
+    let ended = known.ended c.if-not-branch.true in
+    rw (known.unchanged c.if-not-branch.true)
+    (collected-context {x = label_of_collector g.F.Files.database c.args.self.now}
+    c.loop-index.invariant.lines ended.0 ended.1)
 
 pub returns-then-not-branch-clause-added : goal.returns-then-not-branch-clause-added
-returns-then-not-branch-clause-added g c = (no_more g c).added
+returns-then-not-branch-clause-added g c = grind (arith, common_steps, no_more)
 
 pub returns-then-not-branch-clause-padding : goal.returns-then-not-branch-clause-padding
 returns-then-not-branch-clause-padding g c = (no_more g c).counted

@@ -1,5 +1,4 @@
-use Rattle.codespan_core.proofs.Std.{sym, subst}
-use Rattle.codespan_views.specs.Private.{label_of_collector, IsLineOf}
+use Rattle.codespan_views.specs.Private.{label_of_collector}
 use Rattle.codespan_views.proofs.Collecting.{AppendsAnnotations-as, AppendsAnnotations-both}
 use Rattle.codespan_views.proofs.Collecting.{AppendsAnnotations-weaker, annotation_if_any-line}
 use Rattle.codespan_views.proofs.Collecting.{far-kind, far-multi_label}
@@ -8,17 +7,12 @@ use Rattle.codespan_views.proofs.label_annotations.LabelCollector.push_line.Goal
 -- a line far from the ends has the label's lane mark alone
 pub returns-then-is_far-clause-added : goal.returns-then-is_far-clause-added
 returns-then-is_far-clause-added g c =
-    let collector = c.args.self.now in
-    let x = label_of_collector g.F.Files.database collector in
-    let span = collector.span in
-    let line = c.args.line in
+    let x = label_of_collector g.F.Files.database c.args.self.now in
     let far = c.requires.far c.if-is_far.true in
     AppendsAnnotations-as (annotation_if_any-line x c.requires.lines.first c.requires.lines.last
-    c.requires.line
-    (far-kind x.config x.index span.first span.last line.index line.start x.label far)
-    (far-multi_label x.config x.lane span.first span.last line.index line.start collector.label
-    far))
-    (AppendsAnnotations-weaker (λ e same. subst (IsLineOf x.file) (sym same) c.requires.line)
+    c.requires.line (far-kind x.config x.index _ _ _ _ x.label far)
+    (far-multi_label x.config x.lane _ _ _ _ c.args.self.now.label far))
+    (AppendsAnnotations-weaker (λ e same. rw same c.requires.line)
     c.in_ok-push_annotation.ensures.added)
 
 pub returns-clause-added : goal.returns-clause-added
@@ -27,6 +21,6 @@ returns-clause-added g c =
     AppendsAnnotations-as
     (annotation_if_any-line x c.requires.lines.first c.requires.lines.last c.requires.line
     c.kind_on_line.ensures c.multi_kind_on_line-lane_mark.ensures)
-    (AppendsAnnotations-weaker (λ e same. subst (IsLineOf x.file) (sym same) c.requires.line)
+    (AppendsAnnotations-weaker (λ e same. rw same c.requires.line)
     (AppendsAnnotations-both c.in_ok-push_annotation-2.ensures.added
     c.in_ok-push_annotation-3.ensures.added))

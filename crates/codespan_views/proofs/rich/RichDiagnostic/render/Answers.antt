@@ -1,5 +1,5 @@
-use Rattle.codespan_core.proofs.Std.{Err, rules, refl, sym, ap, ◌∙◌, arith, nat_tests}
-use Rattle.codespan_core.proofs.Std.{err_from_is_err_and}
+use Rattle.codespan_core.proofs.Std.{Err, rules, refl, sym, ◌∙◌, arith, nat_tests}
+use contract.Lifetimes.{Lfts}
 use Rattle.codespan_picture.specs.OutputStreams.{context_of}
 use Rattle.codespan_picture.specs.RowStreams.{stream_of_rows}
 use Rattle.codespan_views.specs.Private.{closing_rows}
@@ -7,27 +7,28 @@ use Rattle.codespan_views.specs.{diagnostic_of, view_config_of}
 use Rattle.codespan_core.proofs.Chains.{failed-before}
 use Rattle.codespan_views.proofs.CollectedFiles.{failure-is, looked-up}
 use Rattle.codespan_views.proofs.LabelIndexing.{AreFiles, are-files}
-use Rattle.codespan_views.proofs.RendererRuns.{renders_then}
+use Rattle.codespan_views.proofs.RendererRuns.{exit_is, renders_then}
 use Rattle.codespan_views.proofs.RichParts.{IsReady, bare-whole, failed-collecting}
 use Rattle.codespan_views.proofs.RichParts.{failed-in_header, failed-in_snippets, failed-looking_up}
 use Rattle.codespan_views.proofs.RichParts.{ready, rendered-whole}
 use Rattle.codespan_views.proofs.rich.RichDiagnostic.render.Given.{Over}
-use Rattle.codespan_views.proofs.rich.RichDiagnostic.render.Goals.{After-is_empty, In_ok-numbers}
+use Rattle.codespan_views.proofs.rich.RichDiagnostic.render.Goals.{In_ok-numbers}
 use Rattle.codespan_views.proofs.rich.RichDiagnostic.render.Goals as goal
 
 -- the files are lawful
-are_lawful : (g : Over) (c : After-is_empty g) → AreFiles (g.F.Files.database c.args.files.now)
-are_lawful g c =
-    let laws = g.met.F.Files c.lifetimes (search rules) in
-    let files = c.args.files.now in
+are_lawful : (g : Over) (κs : Lfts 12) → g.claim κs → (files : g.row.F.Denot)
+    → AreFiles (g.F.Files.database files)
+are_lawful g κs claim files =
+    let laws = g.met.F.Files κs claim in
     are-files (laws.same_is_eq files) g.met.FileId.Eq.laws (laws.same_file files)
     (laws.lawful files)
 
 -- what the header waits for has been looked up
-is_ready : (g : Over) (c : In_ok-numbers g) → AreFiles (g.F.Files.database c.args.files.now)
+is_ready : (g : Over) (c : In_ok-numbers g)
     → IsReady (view_config_of c.args.self.now) (g.F.Files.database c.args.files.now)
     (diagnostic_of c.args.self.now) c.in_ok-numbers.numbers.items c.look_up_early.new.collected
-is_ready g c lawful =
+is_ready g c =
+    let lawful = are_lawful g c.lifetimes (search rules) c.args.files.now in
     let collected = c.in_ok-collected.ensures in
     let found = c.in_ok-numbers.ensures in
     ready lawful (grind (arith, nat_tests, c.is_empty.ensures)) c.as_slice-labels.ensures.value
@@ -37,49 +38,39 @@ is_ready g c lawful =
     (sym (failure-is lawful collected.collected) ∙ found.failed)
 
 pub render_snippets-requires : goal.render_snippets-requires
-render_snippets-requires g c κs =
-    let place = goal.at.render_snippets-requires g c in (
-      (refl, (refl, (refl, tt))),
-      rw c.as_slice.ensures.value
-          (is_ready g place.In_ok-numbers (are_lawful g place.After-is_empty)).looked_up,
-    )
+render_snippets-requires g c κs = (
+  (refl, (refl, (refl, tt))),
+  rw c.as_slice.ensures.value
+      (is_ready g (goal.at.render_snippets-requires g c).In_ok-numbers).looked_up,
+)
 
 pub returns-in_err-render_diagnostic_header-clause-renders :
     goal.returns-in_err-render_diagnostic_header-clause-renders
 returns-in_err-render_diagnostic_header-clause-renders g c =
-    let place = goal.at.returns-in_err-render_diagnostic_header-clause-renders g c in
-    let p = err_from_is_err_and c.from_residual.result c.from_residual.ensures.1 in
     let header = c.in_err-render_diagnostic_header.ensures in
-    rw (p.1 ∙ ap Err p.2)
-    (bare-whole (Err _) (are_lawful g place.After-is_empty) (search rules)
+    rw (exit_is _ c.from_residual.ensures.1)
+    (bare-whole (Err _) (are_lawful g c.lifetimes (search rules) c.args.files.now) (search rules)
     (failed-before _ header.writes) header.io)
 
 pub returns-then-is_empty-clause-renders : goal.returns-then-is_empty-clause-renders
 returns-then-is_empty-clause-renders g c =
-    let place = goal.at.returns-then-is_empty-clause-renders g c in
     let d = diagnostic_of c.args.self.now in
     let run = renders_then (λ k. stream_of_rows (context_of k d.severity 0) (closing_rows d))
     c.in_ok-render_diagnostic_header.ensures c.render_closing.ensures in
-    bare-whole c.render_closing.result (are_lawful g place.After-is_empty) (search rules)
-    run.writes run.io
+    bare-whole c.render_closing.result (are_lawful g c.lifetimes (search rules) c.args.files.now)
+    (search rules) run.writes run.io
 
 pub returns-in_err-collected-clause-renders : goal.returns-in_err-collected-clause-renders
 returns-in_err-collected-clause-renders g c =
-    let place = goal.at.returns-in_err-collected-clause-renders g c in
-    let p = err_from_is_err_and c.from_residual-in_err-collected.result
-    c.from_residual-in_err-collected.ensures.1 in
-    rw (p.1 ∙ ap Err p.2)
-    (failed-collecting (are_lawful g place.After-is_empty)
+    rw (exit_is _ c.from_residual-in_err-collected.ensures.1)
+    (failed-collecting (are_lawful g c.lifetimes (search rules) c.args.files.now)
     (grind (arith, nat_tests, c.is_empty.ensures)) c.as_slice-labels.ensures.value
     c.in_err-collected.ensures.failed)
 
 pub returns-in_err-numbers-clause-renders : goal.returns-in_err-numbers-clause-renders
 returns-in_err-numbers-clause-renders g c =
-    let place = goal.at.returns-in_err-numbers-clause-renders g c in
-    let lawful = are_lawful g place.After-is_empty in
-    let p = err_from_is_err_and c.from_residual-in_err-numbers.result
-    c.from_residual-in_err-numbers.ensures.1 in
-    rw (p.1 ∙ ap Err p.2)
+    let lawful = are_lawful g c.lifetimes (search rules) c.args.files.now in
+    rw (exit_is _ c.from_residual-in_err-numbers.ensures.1)
     (failed-looking_up lawful (grind (arith, nat_tests, c.is_empty.ensures))
     c.as_slice-labels.ensures.value c.in_ok-collected.ensures.failed
     (λ memory display. sym (failure-is lawful c.in_ok-collected.ensures.collected)
@@ -89,30 +80,24 @@ pub returns-in_err-render_diagnostic_header-2-clause-renders :
     goal.returns-in_err-render_diagnostic_header-2-clause-renders
 returns-in_err-render_diagnostic_header-2-clause-renders g c =
     let place = goal.at.returns-in_err-render_diagnostic_header-2-clause-renders g c in
-    let p = err_from_is_err_and c.from_residual-in_err-render_diagnostic_header-2.result
-    c.from_residual-in_err-render_diagnostic_header-2.ensures.1 in
     let header = c.in_err-render_diagnostic_header-2.ensures in
-    rw (p.1 ∙ ap Err p.2)
-    (failed-in_header _ (is_ready g place.In_ok-numbers (are_lawful g place.After-is_empty))
-    header.writes header.io)
+    rw (exit_is _ c.from_residual-in_err-render_diagnostic_header-2.ensures.1)
+    (failed-in_header _ (is_ready g place.In_ok-numbers) header.writes header.io)
 
 pub returns-in_err-render_snippets-clause-renders :
     goal.returns-in_err-render_snippets-clause-renders
 returns-in_err-render_snippets-clause-renders g c =
     let place = goal.at.returns-in_err-render_snippets-clause-renders g c in
-    let p = err_from_is_err_and c.from_residual-in_err-render_snippets.result
-    c.from_residual-in_err-render_snippets.ensures.1 in
     let header = c.in_ok-render_diagnostic_header-2.ensures in
-    rw (p.1 ∙ ap Err p.2)
-    (failed-in_snippets _ (is_ready g place.In_ok-numbers (are_lawful g place.After-is_empty))
-    header.writes header.same.config c.in_err-render_snippets.ensures.renders)
+    rw (exit_is _ c.from_residual-in_err-render_snippets.ensures.1)
+    (failed-in_snippets _ (is_ready g place.In_ok-numbers) header.writes header.same.config
+    c.in_err-render_snippets.ensures.renders)
 
 pub returns-clause-renders : goal.returns-clause-renders
 returns-clause-renders g c =
-    let place = goal.at.returns-clause-renders g c in
     let header = c.in_ok-render_diagnostic_header-2.ensures in
     let middle = c.in_ok-render_snippets.ensures in
-    rendered-whole _ (is_ready g place.In_ok-numbers (are_lawful g place.After-is_empty))
-    header.writes header.same.config c.render_closing-2.result middle.renders
+    rendered-whole _ (is_ready g (goal.at.returns-clause-renders g c).In_ok-numbers) header.writes
+    header.same.config c.render_closing-2.result middle.renders
     (middle.same.config ∙ header.same.config) c.render_closing-2.ensures.writes
     c.render_closing-2.ensures.io

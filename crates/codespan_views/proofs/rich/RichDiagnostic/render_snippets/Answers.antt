@@ -1,28 +1,24 @@
-use Rattle.codespan_core.proofs.Std.{◌≡◌, ◌==◌, ◌+◌, ◌<◌, ◌||◌, not, rules, List, [], ◌∷◌, length}
-use Rattle.codespan_core.proofs.Std.{map, get_or, Ok, Err, refl, sym, ap, subst, ◌∙◌, arith, nat_lt}
-use Rattle.codespan_core.proofs.Std.{string_bytes, true, false, Bool, ne_eqb, err_from_is_err_and}
+use Rattle.codespan_core.proofs.Std.{◌≡◌, ◌==◌, ◌+◌, ◌||◌, not, rules, List, [], ◌∷◌, length, map}
+use Rattle.codespan_core.proofs.Std.{Ok, Err, refl, sym, ap, ◌∙◌, arith, nat_lt, string_bytes, true}
+use Rattle.codespan_core.proofs.Std.{false, Bool, ne_eqb}
 use Rattle.codespan_picture.specs.OutputStreams.{labels_of, notes_of}
 use Rattle.codespan_picture.specs.Snippets.{has_any, labeled_file_model}
-use Rattle.codespan_views.specs.Private.{annotation_view, known_numbers_of_labels, lines_of}
+use Rattle.codespan_views.specs.Private.{annotation_view, lines_of}
 use Rattle.codespan_views.specs.{diagnostic_of, view_config_of}
 use Rattle.codespan_views.proofs.CollectedFiles.{IsFileOfLabels, file-at}
 use Rattle.codespan_views.proofs.FileLengths.{rest-sorted}
 use Rattle.codespan_views.proofs.FileSlices.{from_file-first, next_slice}
 use Rattle.codespan_views.proofs.FileTurns.{IsAtFile, next_inside, next_left, own_lines}
 use Rattle.codespan_views.proofs.FileTurns.{own_snippet_lines}
+use Rattle.codespan_views.proofs.IndexedElements.{element-equal}
 use Rattle.codespan_views.proofs.LabelIndexing.{are-files}
 use Rattle.codespan_views.proofs.LookupRuns.{left_after, left_cut, run_failed, run_of_writes}
-use Rattle.codespan_views.proofs.RendererRuns.{rows-rendered}
+use Rattle.codespan_views.proofs.RendererRuns.{exit_is, rows-rendered}
 use Rattle.codespan_views.proofs.SnippetsRendered.{left-end, left-lines, left-parts, left-row}
 use Rattle.codespan_views.proofs.SnippetsRendered.{left-source, left-start, own-numbers, own-taken}
 use Rattle.codespan_views.proofs.rich.RichDiagnostic.render_snippets.Given.{Over}
-use Rattle.codespan_views.proofs.rich.RichDiagnostic.render_snippets.Goals.{After-count_in_file-len}
 use Rattle.codespan_views.proofs.rich.RichDiagnostic.render_snippets.Goals.{After-deref-in-loop-index}
 use Rattle.codespan_views.proofs.rich.RichDiagnostic.render_snippets.Goals.{Joined-notes_follow}
-use Rattle.codespan_views.proofs.rich.RichDiagnostic.render_snippets.Goals.{else-is_followed}
-use Rattle.codespan_views.proofs.rich.RichDiagnostic.render_snippets.Goals.{else-notes_follow}
-use Rattle.codespan_views.proofs.rich.RichDiagnostic.render_snippets.Goals.{then-is_followed+in_ok-render_empty_row}
-use Rattle.codespan_views.proofs.rich.RichDiagnostic.render_snippets.Goals.{then-notes_follow}
 use Rattle.codespan_views.proofs.FilesInOrder.{ids-of_labels}
 use Rattle.codespan_views.proofs.rich.RichDiagnostic.render_snippets.Goals as goal
 
@@ -35,122 +31,91 @@ pub loop-index-init : goal.loop-index-init
 loop-index-init g c = record {
   inside = omega arith;
   left = from_file-first (map annotation_view c.args.collected.now.annotations.items);
-  numbers =
-      c.new-buffers.ensures.numbers ∙ c.requires.numbers_are
-      ∙ ap
-      (known_numbers_of_labels (view_config_of c.args.self.now)
-      (g.F.Files.database c.args.files.now) (labels_of (diagnostic_of c.args.self.now)))
-      (sym (ids-of_labels c.requires.collected_is.files));
+  numbers = rw (ids-of_labels c.requires.collected_is.files)
+      (c.new-buffers.ensures.numbers ∙ c.requires.numbers_are);
   rendered = left-start c.requires;
 }
 
 pub count_in_file-len-requires : goal.count_in_file-len-requires
 count_in_file-len-requires g c =
     rw c.deref.ensures.value
-    (rest-sorted c.args.collected.now.annotations.items c.loop-index.start
-    c.requires.collected_is.sorted)
+    (rest-sorted _ c.loop-index.start c.requires.collected_is.sorted)
 
 -- the loop is at a file, whose annotations are counted
-turn : (g : Over) (c : After-count_in_file-len g)
+turn : (g : Over) (c : After-deref-in-loop-index g)
     → IsAtFile c.args.collected.now.files.items c.args.collected.now.annotations.items
     c.loop-index.start c.count_in_file-len.result c.loop-index.index c.labeled-item.result
 turn g c =
-    let own = c.labeled-item.result in
-    let k = c.loop-index.index in
-    record {
-      up = c.requires.collected_is.sorted;
-      inside = c.loop-index.invariant.inside;
-      left = c.loop-index.invariant.left;
-      counted = rw c.deref.ensures.value at c.count_in_file-len.ensures.value;
-      within = rw c.deref.ensures.value at c.count_in_file-len.ensures.within;
-      here = record {
-        inside =
-            subst (λ fs. k < length fs) c.deref-labeled-items.ensures.value c.loop-index-test.true;
-        is = c.labeled-item.is ∙ ap (λ fs. get_or fs k own) c.deref-labeled-items.ensures.value;
-      };
-    }
+    let counted = rw c.deref.ensures.value at c.count_in_file-len.ensures.value in
+    let within = rw c.deref.ensures.value at c.count_in_file-len.ensures.within in
+    search (rules, element-equal)
 
 -- it is the file of its labels
 own-file : (g : Over) (c : After-deref-in-loop-index g)
-    → IsAtFile c.args.collected.now.files.items c.args.collected.now.annotations.items
-    c.loop-index.start c.count_in_file-len.result c.loop-index.index c.labeled-item.result
     → let database = g.F.Files.database c.args.files.now in
-    let d = diagnostic_of c.args.self.now in
     IsFileOfLabels (view_config_of c.args.self.now)
-    (labeled_file_model database.same database.file (labels_of d) c.labeled-item.result.file_id)
-    c.labeled-item.result
+    (labeled_file_model database.same database.file (labels_of (diagnostic_of c.args.self.now))
+    c.labeled-item.result.file_id) c.labeled-item.result
     (lines_of (map annotation_view
     (next_slice c.deref-in-loop-index.result.now c.loop-index.start c.count_in_file-len.result)))
-own-file g c at =
+own-file g c =
     let laws = g.met.F.Files c.lifetimes (search rules) in
     let files = c.args.files.now in
     file-at
     (are-files (laws.same_is_eq files) g.met.FileId.Eq.laws (laws.same_file files)
-    (laws.lawful files))
-    c.requires.collected_is at.here (own_snippet_lines at c.deref-in-loop-index.ensures.value)
+    (laws.lawful files)) c.requires.collected_is (turn g c).here
+    (own_snippet_lines (turn g c) c.deref-in-loop-index.ensures.value)
 
 pub returns-in_err-source-clause-renders : goal.returns-in_err-source-clause-renders
 returns-in_err-source-clause-renders g c =
-    let places = goal.at.returns-in_err-source-clause-renders g c in
-    let at = turn g places.After-count_in_file-len in
-    let own = own-file g places.After-deref-in-loop-index at in
+    let place = (goal.at.returns-in_err-source-clause-renders g c).After-deref-in-loop-index in
     let was = c.loop-index.invariant in
-    let p = err_from_is_err_and c.from_residual.result c.from_residual.ensures.1 in
-    rw (p.1 ∙ ap Err p.2)
-    (rows-rendered g.W.WriteStyle.sink _ c.new-rows.result c.loop-index.rows
-    c.context-context.ensures c.new-rows.ensures.reference c.new-rows.ensures.writer
-    (left_cut _ _ (run_failed {a = []} c.in_err-source.ensures.failed)
-    (left-parts was.rendered at.here own was.numbers)) (search rules))
+    rw (exit_is _ c.from_residual.ensures.1)
+    (search (
+      rules,
+      rows-rendered,
+      left_cut _ _ (run_failed {a = []} c.in_err-source.ensures.failed)
+          (left-parts was.rendered (turn g place).here (own-file g place) was.numbers),
+    ))
 
 pub render_lines-requires : goal.render_lines-requires
 render_lines-requires g c κs =
-    let places = goal.at.render_lines-requires g c in
-    let at = turn g places.After-count_in_file-len in
-    let own = own-file g places.After-deref-in-loop-index at in
-    let was = c.loop-index.invariant in (
-      (refl, (refl, tt)),
-      (
-        own_lines at c.deref-in-loop-index.ensures.value
-            (g.F.Files.database c.args.files.now).file c.requires.collected_is.lines,
-        record {
-          source = search rules;
-          in_order = rw own.lanes_are own.lines_are.in_order;
-          numbers_are = own-numbers was.rendered at.here own was.numbers;
-        },
-      ),
-    )
+    let place = (goal.at.render_lines-requires g c).After-deref-in-loop-index in
+    let own = own-file g place in
+    let was = c.loop-index.invariant in
+    let lines = own_lines (turn g place) c.deref-in-loop-index.ensures.value
+    (g.F.Files.database c.args.files.now).file c.requires.collected_is.lines in
+    let in_order = rw (sym own.lanes_are) at own.lines_are.in_order in
+    let numbers = own-numbers was.rendered (turn g place).here own was.numbers in
+    ((refl, (refl, tt)), (lines, search rules))
 
 pub returns-in_err-render_first_rows-clause-renders :
     goal.returns-in_err-render_first_rows-clause-renders
 returns-in_err-render_first_rows-clause-renders g c =
     let places = goal.at.returns-in_err-render_first_rows-clause-renders g c in
-    let at = turn g places.After-count_in_file-len in
-    let own = own-file g places.After-deref-in-loop-index at in
+    let place = places.After-deref-in-loop-index in
     let was = c.loop-index.invariant in
-    let p = err_from_is_err_and c.from_residual-in_err-render_first_rows.result
-    c.from_residual-in_err-render_first_rows.ensures.1 in
     let first = c.in_err-render_first_rows.ensures in
-    rw (p.1 ∙ ap Err p.2)
+    rw (exit_is _ c.from_residual-in_err-render_first_rows.ensures.1)
     (rows-rendered g.W.WriteStyle.sink _ c.new-rows.result c.render_first_rows.new.rows
     c.context-context.ensures c.new-rows.ensures.reference c.new-rows.ensures.writer
     (left_cut _ _ (run_of_writes (Err _) first.writes first.io)
-    (left-source was.rendered at.here own was.numbers
+    (left-source was.rendered (turn g place).here (own-file g place) was.numbers
     c.in_ok-source.ensures.failed)) (search rules))
 
 pub returns-in_err-render_lines-clause-renders : goal.returns-in_err-render_lines-clause-renders
 returns-in_err-render_lines-clause-renders g c =
     let places = goal.at.returns-in_err-render_lines-clause-renders g c in
-    let at = turn g places.After-count_in_file-len in
-    let own = own-file g places.After-deref-in-loop-index at in
+    let place = places.After-deref-in-loop-index in
     let was = c.loop-index.invariant in
-    let p = err_from_is_err_and c.from_residual-in_err-render_lines.result
-    c.from_residual-in_err-render_lines.ensures.1 in
-    rw (p.1 ∙ ap Err p.2)
-    (rows-rendered g.W.WriteStyle.sink _ c.new-rows.result c.render_lines.new.rows
-    c.context-context.ensures c.new-rows.ensures.reference c.new-rows.ensures.writer
-    (left_cut _ _ c.in_err-render_lines.ensures.renders.rendered
-    (left-lines was.rendered at.here own was.numbers
-    c.in_ok-source.ensures.failed c.in_ok-render_first_rows.ensures.writes)) (search rules))
+    rw (exit_is _ c.from_residual-in_err-render_lines.ensures.1)
+    (search (
+      rules,
+      rows-rendered,
+      left_cut _ _ c.in_err-render_lines.ensures.renders.rendered
+          (left-lines was.rendered (turn g place).here (own-file g place) was.numbers
+          c.in_ok-source.ensures.failed c.in_ok-render_first_rows.ensures.writes),
+    ))
 
 -- notes or another file follow the snippet
 followed : (g : Over) (c : Joined-notes_follow g)
@@ -160,28 +125,23 @@ followed : (g : Over) (c : Joined-notes_follow g)
 followed g c =
     let notes = (diagnostic_of c.args.self.now).notes in
     let files = c.args.collected.now.files in
-    let next = nat_lt (c.loop-index.index + 1) (length files.items) in
     let known = ap not (c.is_empty-notes_follow.ensures ∙ ap (λ n. n == 0) notes.ok.0)
     ∙ any-mapped string_bytes notes.items in
     elim c.if-notes_follow.branch [
-      | then-notes_follow w ↦ w.is_followed-is ∙ ap not w.if-notes_follow.true
-          ∙ sym (ap (λ notes. notes || next) (sym known ∙ ap not w.if-notes_follow.true))
-      | else-notes_follow w ↦ w.is_followed-is
-          ∙ ap (nat_lt (c.loop-index.index + 1)) (w.len.ensures ∙ files.ok.0)
-          ∙ sym (ap (λ notes. notes || next) (sym known ∙ ap not w.if-notes_follow.false))
+      | goal.then-notes_follow w ↦ rw (sym known, w.is_followed-is, w.if-notes_follow.true)
+      | goal.else-notes_follow w ↦
+          rw (sym known, w.is_followed-is, w.if-notes_follow.false, w.len.ensures, files.ok.0)
     ]
 
 pub returns-in_err-render_empty_row-clause-renders :
     goal.returns-in_err-render_empty_row-clause-renders
 returns-in_err-render_empty_row-clause-renders g c =
     let places = goal.at.returns-in_err-render_empty_row-clause-renders g c in
-    let at = turn g places.After-count_in_file-len in
-    let own = own-file g places.After-deref-in-loop-index at in
+    let at = turn g places.After-deref-in-loop-index in
+    let own = own-file g places.After-deref-in-loop-index in
     let was = c.loop-index.invariant in
-    let p = err_from_is_err_and c.from_residual-in_err-render_empty_row.result
-    c.from_residual-in_err-render_empty_row.ensures.1 in
     let row = c.in_err-render_empty_row.ensures in
-    rw (p.1 ∙ ap Err p.2)
+    rw (exit_is _ c.from_residual-in_err-render_empty_row.ensures.1)
     (rows-rendered g.W.WriteStyle.sink _ c.new-rows.result c.render_empty_row.new.rows
     c.context-context.ensures c.new-rows.ensures.reference c.new-rows.ensures.writer
     (left_cut _ _ (run_of_writes (Err _) row.writes row.io)
@@ -193,8 +153,8 @@ returns-in_err-render_empty_row-clause-renders g c =
 pub loop-index-preserved : goal.loop-index-preserved
 loop-index-preserved g c =
     let places = goal.at.loop-index-preserved g c in
-    let at = turn g places.After-count_in_file-len in
-    let own = own-file g places.After-deref-in-loop-index at in
+    let at = turn g places.After-deref-in-loop-index in
+    let own = own-file g places.After-deref-in-loop-index in
     let was = c.loop-index.invariant in
     let lines = c.in_ok-render_lines.ensures in
     let rest = λ (b : Bool) (is : c.if-notes_follow.is_followed ≡ b).
@@ -207,17 +167,19 @@ loop-index-preserved g c =
       numbers = own-taken was.rendered at.here own was.numbers lines.numbers;
       rendered = record {
         left = elim c.if-is_followed.branch [
-          | then-is_followed+in_ok-render_empty_row w ↦ rw w.rows-is
+          | goal.then-is_followed+in_ok-render_empty_row w ↦ rw w.rows-is
               (left_after _ _ (run_of_writes (Ok tt) w.in_ok-render_empty_row.ensures.writes tt)
               (rest true w.if-is_followed.true))
-          | else-is_followed w ↦ rw w.rows-is (rest false w.if-is_followed.false)
+          | goal.else-is_followed w ↦ rw w.rows-is (rest false w.if-is_followed.false)
         ];
       };
     }
 
 pub returns-clause-renders : goal.returns-clause-renders
 returns-clause-renders g c =
-    rows-rendered g.W.WriteStyle.sink _ c.new-rows.result c.loop-index.rows
-    c.context-context.ensures c.new-rows.ensures.reference c.new-rows.ensures.writer
-    (left-end c.loop-index.invariant.rendered c.deref-labeled-items.ensures.value
-    c.loop-index-test.false) (search rules)
+    search (
+      rules,
+      rows-rendered,
+      left-end c.loop-index.invariant.rendered c.deref-labeled-items.ensures.value
+          c.loop-index-test.false,
+    )

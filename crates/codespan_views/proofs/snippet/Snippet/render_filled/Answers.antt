@@ -1,7 +1,5 @@
-use Rattle.codespan_core.proofs.Std.{◌≡◌, Err, append-nil, sym, ap, ◌∙◌, slice_get}
-use Rattle.codespan_core.proofs.Std.{err_from_is_err_and}
+use Rattle.codespan_core.proofs.Std.{◌≡◌, Err, append-nil, ap, ◌∙◌, slice_get, err_from_is_err_and}
 use Rattle.std.specs.Slice.Iter.{iter_rest}
-use Rattle.codespan_views.specs.Private.{failure_of, lookups_of_filled}
 use Rattle.codespan_views.proofs.FilledNumbers.{next-number}
 use Rattle.codespan_views.proofs.LookupRuns.{run_failed}
 use Rattle.codespan_views.proofs.snippet.Snippet.render_filled.Given.{Over}
@@ -19,12 +17,6 @@ pub returns-in_err-line-clause-renders : goal.returns-in_err-line-clause-renders
 returns-in_err-line-clause-renders g c =
     let same = number-is g (goal.at.returns-in_err-line-clause-renders g c).After-copied-number in
     let p = err_from_is_err_and c.from_residual.result c.from_residual.ensures.1 in
-    let failed = failure_of g.F.Files.database c.args.self.now.file in
-    rw (p.1 ∙ ap Err p.2) (record {
-      rendered = run_failed
-          (λ known. ap failed
-          (append-nil
-          (lookups_of_filled (slice_get (iter_rest c.args.buffers.now.numbers) 0) c.args.index))
-          ∙ ap (λ o. failed (lookups_of_filled o c.args.index)) (sym same)
-          ∙ c.in_err-line.ensures.failed known);
-    })
+    let failed = rw same at c.in_err-line.ensures.failed in
+    rw (p.1 ∙ ap Err p.2)
+    (record { rendered = run_failed (λ known. rw append-nil (failed known)) })

@@ -1,10 +1,10 @@
-use Rattle.codespan_core.proofs.Std.{Some, ◌≡◌, List, ◌∷◌, ◌++◌, map, Err, refl, sym, ap, subst}
-use Rattle.codespan_core.proofs.Std.{◌∙◌, arith, All, IfSome, IsTrue, err_from_is_err_and}
+use Rattle.codespan_core.proofs.Std.{Some, ◌≡◌, List, ◌∷◌, ◌++◌, map, Err, refl, sym, ap, ◌∙◌}
+use Rattle.codespan_core.proofs.Std.{arith, err_from_is_err_and}
 use Rattle.std.specs.Slice.Iter.{iter_rest}
 use Rattle.std.proofs.lemmas.List.Elements.{All-drop}
 use Rattle.codespan_renderer.specs.Private.RowWriters.{row_writer_sink}
-use Rattle.codespan_views.specs.Private.{RustAnnotation, shows_line, IsLineOf, annotation_view}
-use Rattle.codespan_views.specs.Private.{SnippetLine, lines_of, model_of}
+use Rattle.codespan_views.specs.Private.{RustAnnotation, IsLineOf, annotation_view, SnippetLine}
+use Rattle.codespan_views.specs.Private.{lines_of, model_of}
 use Rattle.codespan_views.proofs.FilledNumbers.{gap-break, gap-filled, gap-none}
 use Rattle.codespan_views.proofs.LinesRendered.{LinesLeft, left-cut, left-first, left-more}
 use Rattle.codespan_views.proofs.LinesRendered.{left-none, left-same}
@@ -47,22 +47,21 @@ opens : (g : Over) (c : After-lines_between-between g)
 opens g c =
     views_of-gap (next g c) c.loop-first.previous c.loop-first.hidden_annotations.now
     c.lines_between-between.result
-    (subst (λ o. IfSome o (λ first. IsTrue (shows_line (annotation_view first))))
-    (sym c.in-Some.ensures.value) c.loop-first.invariant.shown)
+    (rw (← c.in-Some.ensures.value) at c.loop-first.invariant.shown)
     c.lines_between-between.ensures.gap
 
 pub render_filled-requires : goal.render_filled-requires
 render_filled-requires g c κs =
     let at = (goal.at.render_filled-requires g c).After-lines_between-between in
     let has = (left-first _ (opens g at) (gap-filled _ _ _ _ c.if-between-eq1.true)
-    c.loop-first.invariant.left).has c.requires.drawn in
+    c.loop-first.invariant.left).has in
     ((refl, (refl, tt)), (c.requires.drawn.source, (has.numbers_are.0, has.in_order.0)))
 
 pub render_break-requires : goal.render_break-requires
 render_break-requires g c κs =
     let at = (goal.at.render_break-requires g c).After-lines_between-between in
     let has = (left-first _ (opens g at) (gap-break _ _ _ _ c.if-between-gt1.true)
-    c.loop-first.invariant.left).has c.requires.drawn in
+    c.loop-first.invariant.left).has in
     ((refl, (refl, tt)), has.in_order.0)
 
 pub returns-in_err-render_filled-clause-renders : goal.returns-in_err-render_filled-clause-renders
@@ -70,9 +69,10 @@ returns-in_err-render_filled-clause-renders g c =
     let place = goal.at.returns-in_err-render_filled-clause-renders g c in
     let p = err_from_is_err_and c.from_residual.result c.from_residual.ensures.1 in
     rw (p.1 ∙ ap Err p.2)
-    (left-cut _ c.in_err-render_filled.ensures.renders
+    (left-cut
     (left-first _ (opens g place.After-lines_between-between)
-    (gap-filled _ _ _ _ c.if-between-eq1.true) c.loop-first.invariant.left))
+    (gap-filled _ _ _ _ c.if-between-eq1.true) c.loop-first.invariant.left)
+    c.in_err-render_filled.ensures.renders)
 
 pub returns-in_err-render_break-clause-renders : goal.returns-in_err-render_break-clause-renders
 returns-in_err-render_break-clause-renders g c =
@@ -80,9 +80,10 @@ returns-in_err-render_break-clause-renders g c =
     let p = err_from_is_err_and c.from_residual-in_err-render_break.result
     c.from_residual-in_err-render_break.ensures.1 in
     rw (p.1 ∙ ap Err p.2)
-    (left-cut _ c.in_err-render_break.ensures.renders
+    (left-cut
     (left-first _ (opens g place.After-lines_between-between)
-    (gap-break _ _ _ _ c.if-between-gt1.true) c.loop-first.invariant.left))
+    (gap-break _ _ _ _ c.if-between-gt1.true) c.loop-first.invariant.left)
+    c.in_err-render_break.ensures.renders)
 
 -- what is before the shown line has been rendered
 record GapRendered (g : Over) (c : Joined-between-eq1 g) (rest : List SnippetLine) : Type 0 where
@@ -102,15 +103,16 @@ gap-rendered g c rest is =
     elim c.if-between-eq1.branch [
       | then-between-eq1+in_ok-render_filled w ↦ record {
         left = rw (w.rows-is, w.buffers-is)
-            (left-more rest w.in_ok-render_filled.ensures.renders
-            w.in_ok-render_filled.ensures.numbers
-            (left-first rest is (gap-filled _ _ _ _ w.if-between-eq1.true) was));
+            (left-more
+            (left-first rest is (gap-filled _ _ _ _ w.if-between-eq1.true) was)
+            w.in_ok-render_filled.ensures.renders w.in_ok-render_filled.ensures.numbers);
       }
       | else-between-eq1+then-between-gt1+in_ok-render_break w ↦ record {
         left = rw (w.rows-is, w.buffers-is)
-            (left-more rest w.in_ok-render_break.ensures.renders
-            (ap iter_rest w.in_ok-render_break.ensures.numbers)
-            (left-first rest is (gap-break _ _ _ _ w.if-between-gt1.true) was));
+            (left-more
+            (left-first rest is (gap-break _ _ _ _ w.if-between-gt1.true) was)
+            w.in_ok-render_break.ensures.renders
+            (ap iter_rest w.in_ok-render_break.ensures.numbers));
       }
       | else-between-eq1+else-between-gt1 w ↦ record {
         left = rw (w.rows-is, w.buffers-is)
@@ -130,7 +132,7 @@ render_line-requires g c κs =
         c.requires.drawn.source,
         (
           first-of (next g at) (OfFile g at) c.loop-first.invariant.lines,
-          (before.left.has c.requires.drawn).in_order.0,
+          before.left.has.in_order.0,
         ),
       ),
     )
@@ -142,7 +144,7 @@ returns-in_err-render_line-clause-renders g c =
     let before = gap-rendered g place.Joined-between-eq1 (after_gap g at) (opens g at) in
     let p = err_from_is_err_and c.from_residual-in_err-render_line.result
     c.from_residual-in_err-render_line.ensures.1 in
-    rw (p.1 ∙ ap Err p.2) (left-cut _ c.in_err-render_line.ensures.renders before.left)
+    rw (p.1 ∙ ap Err p.2) (left-cut before.left c.in_err-render_line.ensures.renders)
 
 pub loop-first-smaller : goal.loop-first-smaller
 loop-first-smaller g c =
@@ -167,15 +169,16 @@ loop-first-preserved g c =
       lines =
           later-known (OfFile g at) (later_than n c.loop-first.rest.now)
           c.skip_hidden-skipped.result.1.now skipped.later
-          (subst (All (OfFile g at)) (sym (later-are n c.loop-first.rest.now))
+          (rw (later-are n c.loop-first.rest.now)
           (All-drop (OfFile g at) n c.loop-first.rest.now c.loop-first.invariant.lines));
       shown = skipped.shown;
       left = left-same (skipped.lines (Some c.in-Some.first.now.line.index))
-          (left-more _ line.renders (ap iter_rest line.numbers) before.left);
+          (left-more before.left line.renders (ap iter_rest line.numbers));
     }
 
 pub returns-clause-renders : goal.returns-clause-renders
 returns-clause-renders g c =
     left-none
-    (lines_left-none c.loop-first.hidden_annotations.now c.loop-first.rest.now
-    c.loop-first.previous (sym c.in_default.ensures.value)) c.loop-first.invariant.left
+    (left-same
+    (sym (lines_left-none c.loop-first.hidden_annotations.now c.loop-first.rest.now
+    c.loop-first.previous (sym c.in_default.ensures.value))) c.loop-first.invariant.left)
