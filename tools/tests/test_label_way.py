@@ -193,7 +193,7 @@ fn other_width() -> usize {
         self.assert_fails('no call of emit_into_string leads to a call that is passed single_primary_caret')
 
     def test_two_functions_of_one_name(self):
-        self.put('crates/codespan_picture/src/other.rt', 'fn put_char(c: char) {\n}\n')
+        self.put('crates/codespan_output/src/other.rt', 'fn put_char(c: char) {\n}\n')
         self.assert_fails('put_char, which put_repeated calls, is the name of more than one function')
 
     def test_an_option_that_is_none(self):

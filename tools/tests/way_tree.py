@@ -1,7 +1,7 @@
 """A small repository with the way of a label, over which the tests of tools/label-way run it."""
-WRITING, ROWS, CACHED = 'crates/codespan_core/src/writing.rt', 'crates/codespan_picture/src/rows.rt', 'crates/codespan_renderer/src/cached.rt'
+WRITING, ROWS, CACHED = 'crates/codespan_core/src/writing.rt', 'crates/codespan_output/src/rows.rt', 'crates/codespan_renderer/src/cached.rt'
 EMITTING, RICH, SNIPPET = (f'crates/codespan_views/src/{it}.rt' for it in ('emitting', 'rich', 'snippet'))
-LEMMAS, MORE_LEMMAS = 'crates/codespan_views/proofs/Sums.antt', 'crates/codespan_picture/proofs/Products.antt'
+LEMMAS, MORE_LEMMAS = 'crates/codespan_views/proofs/Sums.antt', 'crates/codespan_output/proofs/Products.antt'
 
 CORE = '''\
 pub trait PutStyle {
@@ -110,8 +110,8 @@ FILES = {
     'crates.txt': '''\
 codespan_core:
 codespan_other: codespan_core
-codespan_picture: codespan_core unicode_width
-codespan_renderer: codespan_core codespan_picture
+codespan_output: codespan_core unicode_width
+codespan_renderer: codespan_core codespan_output
 codespan_views: codespan_renderer
 ''',
     WRITING: CORE,
@@ -192,7 +192,7 @@ impl Snippet {
 ''',
     'crates/codespan_views/specs/Lines.antt': 'pub Line : Type 0\n',
     LEMMAS: '''\
-use Rattle.codespan_picture.proofs.Products.{product}
+use Rattle.codespan_output.proofs.Products.{product}
 
 -- for the clause `sum`
 own-sum : (n : ℕ) → n ≡ n

@@ -13,27 +13,27 @@ use Rattle.codespan_base.specs.declared.term.config.style_mark.StyleMark.TheVari
 use Rattle.codespan_base.specs.declared.term.config.style_mark.StyleMark.TheVariants.{SourceBorder}
 use Rattle.codespan_base.specs.declared.term.config.style_mark.StyleMark.TheVariants.{Label, Reset}
 use Rattle.codespan_base.specs.SnippetStarts.{start_text}
-use Rattle.codespan_picture.specs.RowLaws.{row_length, character_count, CharsChangeNoRowLength}
-use Rattle.codespan_picture.specs.declared.char_metrics.Metrics.{Metrics}
-use Rattle.codespan_picture.specs.Carets.{style_under, max_label_end}
-use Rattle.codespan_picture.specs.Lanes.{label_glyph}
-use Rattle.codespan_picture.specs.Rows.{RowContext, Locus, Lanes, Line, Row, HeaderRow}
-use Rattle.codespan_picture.specs.Rows.{SnippetStartRow, EmptyRow, BreakRow, SourceRow, CaretRow}
-use Rattle.codespan_picture.specs.Rows.{PointerRow, HangingRow, UnderlineRow, FirstNoteRow}
-use Rattle.codespan_picture.specs.Rows.{LaterNoteRow, FinalRow, hanging_labels, trailing_label}
-use Rattle.codespan_picture.specs.RowParts.{outer_gutter, outer_gutter_number, border_left}
-use Rattle.codespan_picture.specs.RowParts.{border_left_break, style_change, styled, lanes_in}
-use Rattle.codespan_picture.specs.RowParts.{snippet_locus, line_metrics, line_metrics_to_end}
-use Rattle.codespan_picture.specs.RowParts.{inner_gutter, colored_text, caret_glyphs, carets}
-use Rattle.codespan_picture.specs.RowParts.{trailing_message, label_message, starts_in}
-use Rattle.codespan_picture.specs.RowParts.{max_label_start, spaces_up_to, pointer_style}
-use Rattle.codespan_picture.specs.RowParts.{pointer_at, pointers, metrics_before, underline}
-use Rattle.codespan_picture.specs.RowParts.{underline_message}
-use Rattle.codespan_picture.specs.RowStreams.{stream_of, snippet_start_row, empty_row, break_row}
-use Rattle.codespan_picture.specs.RowStreams.{source_row, row_start, caret_row, pointer_row}
-use Rattle.codespan_picture.specs.RowStreams.{hanging_row, underline_row, first_note_row}
-use Rattle.codespan_picture.proofs.Texts.{row_length-append, row_length-glyph, row_length-repeated}
-use Rattle.codespan_picture.proofs.Texts.{text_of-byte_stream}
+use Rattle.codespan_output.specs.RowLaws.{row_length, character_count, CharsChangeNoRowLength}
+use Rattle.codespan_output.specs.declared.char_metrics.Metrics.{Metrics}
+use Rattle.codespan_output.specs.Carets.{style_under, max_label_end}
+use Rattle.codespan_output.specs.Lanes.{label_glyph}
+use Rattle.codespan_output.specs.Rows.{RowContext, Locus, Lanes, Line, Row, HeaderRow}
+use Rattle.codespan_output.specs.Rows.{SnippetStartRow, EmptyRow, BreakRow, SourceRow, CaretRow}
+use Rattle.codespan_output.specs.Rows.{PointerRow, HangingRow, UnderlineRow, FirstNoteRow}
+use Rattle.codespan_output.specs.Rows.{LaterNoteRow, FinalRow, hanging_labels, trailing_label}
+use Rattle.codespan_output.specs.RowParts.{outer_gutter, outer_gutter_number, border_left}
+use Rattle.codespan_output.specs.RowParts.{border_left_break, style_change, styled, lanes_in}
+use Rattle.codespan_output.specs.RowParts.{snippet_locus, line_metrics, line_metrics_to_end}
+use Rattle.codespan_output.specs.RowParts.{inner_gutter, colored_text, caret_glyphs, carets}
+use Rattle.codespan_output.specs.RowParts.{trailing_message, label_message, starts_in}
+use Rattle.codespan_output.specs.RowParts.{max_label_start, spaces_up_to, pointer_style}
+use Rattle.codespan_output.specs.RowParts.{pointer_at, pointers, metrics_before, underline}
+use Rattle.codespan_output.specs.RowParts.{underline_message}
+use Rattle.codespan_output.specs.RowStreams.{stream_of, snippet_start_row, empty_row, break_row}
+use Rattle.codespan_output.specs.RowStreams.{source_row, row_start, caret_row, pointer_row}
+use Rattle.codespan_output.specs.RowStreams.{hanging_row, underline_row, first_note_row}
+use Rattle.codespan_output.proofs.Texts.{row_length-append, row_length-glyph, row_length-repeated}
+use Rattle.codespan_output.proofs.Texts.{text_of-byte_stream}
 use Rattle.codespan_laws.proofs.LaneWidths.{row_length-lanes_in, row_length-label_glyph}
 
 -- two streams have equally many characters

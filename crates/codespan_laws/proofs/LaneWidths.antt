@@ -10,17 +10,17 @@ use Rattle.codespan_base.specs.Labels.{LaneMark, MultiLabel}
 use Rattle.codespan_base.specs.Streams.{Stream, style_mark, glyph, repeated}
 use Rattle.codespan_base.specs.declared.term.config.style_mark.StyleMark.{StyleMark}
 use Rattle.codespan_base.specs.declared.term.config.style_mark.StyleMark.TheVariants.{Label, Reset}
-use Rattle.codespan_picture.specs.RowLaws.{row_length}
-use Rattle.codespan_picture.specs.declared.lane_shapes.Shape.{Shape}
-use Rattle.codespan_picture.specs.declared.lane_shapes.Shape.TheVariants.{Space, Bar, TopCorner}
-use Rattle.codespan_picture.specs.declared.lane_shapes.Shape.TheVariants.{BottomCorner}
-use Rattle.codespan_picture.specs.Lanes.{underline_char, crossing_characters, label_glyph}
-use Rattle.codespan_picture.specs.Lanes.{lane_mark_in, lane_characters}
-use Rattle.codespan_picture.specs.Rows.{RowContext, Lanes}
-use Rattle.codespan_picture.specs.RowParts.{inner_gutter_column, lanes_in}
-use Rattle.codespan_picture.proofs.Texts.{row_length-append, row_length-glyph}
-use Rattle.codespan_picture.proofs.Texts.{row_length-style_mark, row_length-repeated}
-use Rattle.codespan_picture.proofs.Texts.{row_length-spaces}
+use Rattle.codespan_output.specs.RowLaws.{row_length}
+use Rattle.codespan_output.specs.declared.lane_shapes.Shape.{Shape}
+use Rattle.codespan_output.specs.declared.lane_shapes.Shape.TheVariants.{Space, Bar, TopCorner}
+use Rattle.codespan_output.specs.declared.lane_shapes.Shape.TheVariants.{BottomCorner}
+use Rattle.codespan_output.specs.Lanes.{underline_char, crossing_characters, label_glyph}
+use Rattle.codespan_output.specs.Lanes.{lane_mark_in, lane_characters}
+use Rattle.codespan_output.specs.Rows.{RowContext, Lanes}
+use Rattle.codespan_output.specs.RowParts.{inner_gutter_column, lanes_in}
+use Rattle.codespan_output.proofs.Texts.{row_length-append, row_length-glyph}
+use Rattle.codespan_output.proofs.Texts.{row_length-style_mark, row_length-repeated}
+use Rattle.codespan_output.proofs.Texts.{row_length-spaces}
 
 -- a stream between two style marks is as long as it is alone
 row_length-between_style_marks : (m : StyleMark) (s : Stream)

@@ -11,15 +11,15 @@ use Rattle.codespan_base.specs.Streams.{Stream, Byte, Mark, Slot, byte_stream, s
 use Rattle.codespan_base.specs.Streams.{repeated, glyph}
 use Rattle.codespan_base.specs.declared.term.config.style_mark.StyleMark.{StyleMark}
 use Rattle.codespan_base.specs.declared.term.config.style_mark.StyleMark.TheVariants.{Label, Reset}
-use Rattle.codespan_picture.specs.declared.char_metrics.Metrics.{Metrics}
-use Rattle.codespan_picture.specs.declared.lane_shapes.Shape.{Shape}
-use Rattle.codespan_picture.specs.declared.lane_shapes.Shape.TheVariants.{Space, Bar, TopCorner}
-use Rattle.codespan_picture.specs.declared.lane_shapes.Shape.TheVariants.{BottomCorner}
-use Rattle.codespan_picture.specs.Lanes.{crossing_characters, label_glyph, lane_characters}
-use Rattle.codespan_picture.specs.Lanes.{lane_mark_in}
-use Rattle.codespan_picture.specs.Rows.{RowContext, Lanes}
-use Rattle.codespan_picture.specs.RowParts.{style_change, styled, inner_gutter_column, lanes_in}
-use Rattle.codespan_picture.specs.RowLaws.{is_reset, ends_reset}
+use Rattle.codespan_output.specs.declared.char_metrics.Metrics.{Metrics}
+use Rattle.codespan_output.specs.declared.lane_shapes.Shape.{Shape}
+use Rattle.codespan_output.specs.declared.lane_shapes.Shape.TheVariants.{Space, Bar, TopCorner}
+use Rattle.codespan_output.specs.declared.lane_shapes.Shape.TheVariants.{BottomCorner}
+use Rattle.codespan_output.specs.Lanes.{crossing_characters, label_glyph, lane_characters}
+use Rattle.codespan_output.specs.Lanes.{lane_mark_in}
+use Rattle.codespan_output.specs.Rows.{RowContext, Lanes}
+use Rattle.codespan_output.specs.RowParts.{style_change, styled, inner_gutter_column, lanes_in}
+use Rattle.codespan_output.specs.RowLaws.{is_reset, ends_reset}
 
 -- one stream after another
 pub ends_reset-append : (closed : Bool) (s t : Stream)

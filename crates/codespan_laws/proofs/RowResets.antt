@@ -9,24 +9,24 @@ use Rattle.codespan_base.specs.declared.term.config.chars.Chars.{Chars}
 use Rattle.codespan_base.specs.Labels.{LabelModel}
 use Rattle.codespan_base.specs.Streams.{Stream, byte_stream, spaces, glyph, space}
 use Rattle.codespan_base.specs.declared.term.config.style_mark.StyleMark.TheVariants.{Label}
-use Rattle.codespan_picture.specs.declared.char_metrics.Metrics.{Metrics}
-use Rattle.codespan_picture.specs.Carets.{style_under, max_label_end}
-use Rattle.codespan_picture.specs.Lanes.{label_glyph}
-use Rattle.codespan_picture.specs.Rows.{Locus, RowContext, Line, Row, HeaderRow, SnippetStartRow}
-use Rattle.codespan_picture.specs.Rows.{EmptyRow, BreakRow, SourceRow, CaretRow, PointerRow}
-use Rattle.codespan_picture.specs.Rows.{HangingRow, UnderlineRow, FirstNoteRow, LaterNoteRow}
-use Rattle.codespan_picture.specs.Rows.{FinalRow, hanging_labels}
-use Rattle.codespan_picture.specs.RowParts.{inner_gutter, source_glyph, source_style, colored_text}
-use Rattle.codespan_picture.specs.RowParts.{caret_glyphs, carets, trailing_message, label_message}
-use Rattle.codespan_picture.specs.RowParts.{spaces_up_to, pointer_at, pointer_style, pointers}
-use Rattle.codespan_picture.specs.RowParts.{starts_in, max_label_start, outer_gutter}
-use Rattle.codespan_picture.specs.RowParts.{outer_gutter_number, border_left, border_left_break}
-use Rattle.codespan_picture.specs.RowParts.{snippet_locus, line_metrics}
-use Rattle.codespan_picture.specs.RowStreams.{stream_of, header_row, snippet_start_row, empty_row}
-use Rattle.codespan_picture.specs.RowStreams.{break_row, source_row, row_start, caret_row}
-use Rattle.codespan_picture.specs.RowStreams.{pointer_row, hanging_row, underline_row}
-use Rattle.codespan_picture.specs.RowStreams.{first_note_row, later_note_row}
-use Rattle.codespan_picture.specs.RowLaws.{ends_reset, RowsEndReset}
+use Rattle.codespan_output.specs.declared.char_metrics.Metrics.{Metrics}
+use Rattle.codespan_output.specs.Carets.{style_under, max_label_end}
+use Rattle.codespan_output.specs.Lanes.{label_glyph}
+use Rattle.codespan_output.specs.Rows.{Locus, RowContext, Line, Row, HeaderRow, SnippetStartRow}
+use Rattle.codespan_output.specs.Rows.{EmptyRow, BreakRow, SourceRow, CaretRow, PointerRow}
+use Rattle.codespan_output.specs.Rows.{HangingRow, UnderlineRow, FirstNoteRow, LaterNoteRow}
+use Rattle.codespan_output.specs.Rows.{FinalRow, hanging_labels}
+use Rattle.codespan_output.specs.RowParts.{inner_gutter, source_glyph, source_style, colored_text}
+use Rattle.codespan_output.specs.RowParts.{caret_glyphs, carets, trailing_message, label_message}
+use Rattle.codespan_output.specs.RowParts.{spaces_up_to, pointer_at, pointer_style, pointers}
+use Rattle.codespan_output.specs.RowParts.{starts_in, max_label_start, outer_gutter}
+use Rattle.codespan_output.specs.RowParts.{outer_gutter_number, border_left, border_left_break}
+use Rattle.codespan_output.specs.RowParts.{snippet_locus, line_metrics}
+use Rattle.codespan_output.specs.RowStreams.{stream_of, header_row, snippet_start_row, empty_row}
+use Rattle.codespan_output.specs.RowStreams.{break_row, source_row, row_start, caret_row}
+use Rattle.codespan_output.specs.RowStreams.{pointer_row, hanging_row, underline_row}
+use Rattle.codespan_output.specs.RowStreams.{first_note_row, later_note_row}
+use Rattle.codespan_output.specs.RowLaws.{ends_reset, RowsEndReset}
 use Rattle.codespan_laws.proofs.ResetLemmas.{Closes, closes-append, closes-reset}
 use Rattle.codespan_laws.proofs.ResetLemmas.{ends_reset-byte_stream, ends_reset-spaces}
 use Rattle.codespan_laws.proofs.ResetLemmas.{ends_reset-repeated, closes-in_style}

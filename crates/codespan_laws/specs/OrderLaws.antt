@@ -2,14 +2,14 @@
 use Rattle.std.specs.Prelude.{◌≡◌, ℕ, Bool, true, ◌&&◌, ◌==◌, List, filter}
 use Rattle.std.specs.Cmp.{IsEquivalence}
 use Rattle.std.specs.Cmp.Lexicographic.{pointwise}
-use Rattle.codespan_picture.specs.Types.{Config, Rich, Severity}
+use Rattle.codespan_output.specs.Types.{Config, Rich, Severity}
 use Rattle.codespan_base.specs.FileModel.{FileModel}
 use Rattle.codespan_base.specs.Labels.{LabelModel, is_single, first_line, drawn_label}
 use Rattle.codespan_base.specs.Labels.{multi_line_labels}
-use Rattle.codespan_picture.specs.Rows.{HeaderText, Locus}
-use Rattle.codespan_picture.specs.Snippets.{LabelInFile, file_ids, labeled_file_model}
-use Rattle.codespan_picture.specs.Snippets.{labeled_file_models}
-use Rattle.codespan_picture.specs.OutputStreams.{rendered, locus_bytes}
+use Rattle.codespan_output.specs.Rows.{HeaderText, Locus}
+use Rattle.codespan_output.specs.Snippets.{LabelInFile, file_ids, labeled_file_model}
+use Rattle.codespan_output.specs.Snippets.{labeled_file_models}
+use Rattle.codespan_output.specs.OutputStreams.{rendered, locus_bytes}
 
 -- the label has this drawn range
 abbrev pub has_drawn_range : FileModel → ℕ → ℕ → LabelModel → Bool

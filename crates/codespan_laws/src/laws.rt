@@ -14,27 +14,27 @@ ghost use Rattle.codespan_base.specs.FileModel.{FileDatabase, FileModel, line_co
 ghost use Rattle.codespan_base.specs.Labels.{LabelModel};
 ghost use Rattle.codespan_base.specs.declared.term.config.styles.Styles.{Styles};
 ghost use Rattle.codespan_base.specs.Streams.{Spelling};
-ghost use Rattle.codespan_picture.specs.RowLaws.{row_length, CharsChangeNoRowLength, RowsEndReset};
+ghost use Rattle.codespan_output.specs.RowLaws.{row_length, CharsChangeNoRowLength, RowsEndReset};
 ghost use Rattle.codespan_laws.specs.ColorLaws.{ColorsChangeNoText, NoColorIsPlain};
-ghost use Rattle.codespan_picture.specs.CaretLaws.{CaretsAreCells, PointersAreCells};
-ghost use Rattle.codespan_picture.specs.CaretLaws.{StartsHaveCells};
-ghost use Rattle.codespan_picture.specs.RichLaws.{MeansLabels, NoneReversed};
-ghost use Rattle.codespan_picture.specs.LaneLaws.{BarsAreLabels, LanesJoinCorners, LanesAreShown};
-ghost use Rattle.codespan_picture.specs.LineLaws.{BreaksHaveBars, BreaksReplaceLines};
-ghost use Rattle.codespan_picture.specs.LineLaws.{RowsAreOfShownLines, PaddingFits};
-ghost use Rattle.codespan_picture.specs.LineLaws.{SourceRowsAreFew};
-ghost use Rattle.codespan_picture.specs.MessageLaws.{MessagesAppearOnce};
-ghost use Rattle.codespan_picture.specs.TrailingLaws.{EachMessageTrailsOrHangs};
+ghost use Rattle.codespan_output.specs.CaretLaws.{CaretsAreCells, PointersAreCells};
+ghost use Rattle.codespan_output.specs.CaretLaws.{StartsHaveCells};
+ghost use Rattle.codespan_output.specs.RichLaws.{MeansLabels, NoneReversed};
+ghost use Rattle.codespan_output.specs.LaneLaws.{BarsAreLabels, LanesJoinCorners, LanesAreShown};
+ghost use Rattle.codespan_output.specs.LineLaws.{BreaksHaveBars, BreaksReplaceLines};
+ghost use Rattle.codespan_output.specs.LineLaws.{RowsAreOfShownLines, PaddingFits};
+ghost use Rattle.codespan_output.specs.LineLaws.{SourceRowsAreFew};
+ghost use Rattle.codespan_output.specs.MessageLaws.{MessagesAppearOnce};
+ghost use Rattle.codespan_output.specs.TrailingLaws.{EachMessageTrailsOrHangs};
 ghost use Rattle.codespan_laws.specs.OrderLaws.{ReorderingChangesNothing};
-ghost use Rattle.codespan_picture.specs.SortLaws.{SortedIsStableSort};
-ghost use Rattle.codespan_picture.specs.StatedNames.{HeadersAreBeforeFailure, OutputIsPicture};
-ghost use Rattle.codespan_picture.specs.Utf8Laws.{OutputIsUtf8, PictureIsUtf8};
-ghost use Rattle.codespan_picture.specs.Lanes.{LaneRowKind};
-ghost use Rattle.codespan_picture.specs.RowParts.{line_metrics, inner_gutter};
-ghost use Rattle.codespan_picture.specs.OutputStreams.{AreLoci, output};
-ghost use Rattle.codespan_picture.specs.Picture.{stated_loci};
-ghost use Rattle.codespan_picture.specs.Rows.{Locus, RowContext, Lanes, Line};
-ghost use Rattle.codespan_picture.specs.Snippets.{LabeledFileModel, empty_row_after, snippet};
+ghost use Rattle.codespan_output.specs.SortLaws.{SortedIsStableSort};
+ghost use Rattle.codespan_output.specs.StatedNames.{HeadersAreBeforeFailure, OutputIsPicture};
+ghost use Rattle.codespan_output.specs.Utf8Laws.{OutputIsUtf8, PictureIsUtf8};
+ghost use Rattle.codespan_output.specs.Lanes.{LaneRowKind};
+ghost use Rattle.codespan_output.specs.RowParts.{line_metrics, inner_gutter};
+ghost use Rattle.codespan_output.specs.OutputStreams.{AreLoci, output};
+ghost use Rattle.codespan_output.specs.Picture.{stated_loci};
+ghost use Rattle.codespan_output.specs.Rows.{Locus, RowContext, Lanes, Line};
+ghost use Rattle.codespan_output.specs.Snippets.{LabeledFileModel, empty_row_after, snippet};
 
 /// States that a rich output means its labels, whatever the loci in it: its rows keep the laws of
 /// lines, breaks, carets, pointers, lanes, messages and padding together, each with its own

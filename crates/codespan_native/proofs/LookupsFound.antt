@@ -14,17 +14,17 @@ use Rattle.codespan_base.specs.Labels.{LabelModel, first_seen, is_primary, last_
 use Rattle.codespan_base.specs.declared.files.Error.TheVariants.{FileMissing}
 use Rattle.codespan_base.specs.SimpleModel.{missing_file}
 use Rattle.codespan_base.specs.Diagnostics.{DiagnosticView, LabelView}
-use Rattle.codespan_picture.specs.OutputStreams.{labels_of}
-use Rattle.codespan_picture.specs.Types.{Config, Diagnostic, Error, DisplayStyle, Rich, Medium}
-use Rattle.codespan_picture.specs.Types.{Short, Layout, Classic, Unbroken}
-use Rattle.codespan_picture.specs.Lookups.{AllSucceed, looked_up_lines, lookups_of_file}
-use Rattle.codespan_picture.specs.Lookups.{early_lookups, ends_context_lines, file_at, filled_lines}
-use Rattle.codespan_picture.specs.Lookups.{header_lookups_of, is_looked_up, label_lookups}
-use Rattle.codespan_picture.specs.Lookups.{late_lookups, locus_lookups, lookup_past_end, lookups_in}
-use Rattle.codespan_picture.specs.Lookups.{numbers_for_padding, filled_line_lookups}
-use Rattle.codespan_picture.specs.Lookups.{label_line_lookups, line_lookups, snippet_lookups}
-use Rattle.codespan_picture.specs.Snippets.{LabelInFile, file_ids, locus_byte_of, primary_of}
-use Rattle.codespan_picture.specs.ViewPictures.{label_of_view}
+use Rattle.codespan_output.specs.OutputStreams.{labels_of}
+use Rattle.codespan_output.specs.Types.{Config, Diagnostic, Error, DisplayStyle, Rich, Medium}
+use Rattle.codespan_output.specs.Types.{Short, Layout, Classic, Unbroken}
+use Rattle.codespan_output.specs.Lookups.{AllSucceed, looked_up_lines, lookups_of_file}
+use Rattle.codespan_output.specs.Lookups.{early_lookups, ends_context_lines, file_at, filled_lines}
+use Rattle.codespan_output.specs.Lookups.{header_lookups_of, is_looked_up, label_lookups}
+use Rattle.codespan_output.specs.Lookups.{late_lookups, locus_lookups, lookup_past_end, lookups_in}
+use Rattle.codespan_output.specs.Lookups.{numbers_for_padding, filled_line_lookups}
+use Rattle.codespan_output.specs.Lookups.{label_line_lookups, line_lookups, snippet_lookups}
+use Rattle.codespan_output.specs.Snippets.{LabelInFile, file_ids, locus_byte_of, primary_of}
+use Rattle.codespan_output.specs.ViewPictures.{label_of_view}
 use Rattle.codespan_native.specs.declared.error.Argument.TheVariants.{LabelFile}
 use Rattle.codespan_native.specs.declared.raw.RawConfig.{RawConfig}
 use Rattle.codespan_native.specs.declared.raw.RawDiagnostic.{RawDiagnostic}
@@ -33,7 +33,7 @@ use Rattle.codespan_native.specs.declared.raw.RawLabel.{RawLabel}
 use Rattle.codespan_native.specs.Meaning.{NoLookupFails}
 use Rattle.codespan_native.specs.Converted.{converted_label, converted_file}
 use Rattle.codespan_native.specs.Validity.{AreValid}
-use Rattle.codespan_picture.proofs.ViewPictures.{labels-of_view}
+use Rattle.codespan_output.proofs.ViewPictures.{labels-of_view}
 use Rattle.codespan_native.specs.SourceTexts.{NativeFileView, native_database, native_failure}
 use Rattle.codespan_native.specs.SourceTexts.{native_file_model}
 

@@ -13,12 +13,12 @@ use Rattle.codespan_base.specs.SimpleModel.{missing_file}
 use Rattle.codespan_base.specs.Streams.{Spelling, Stream, spelled}
 use Rattle.codespan_base.specs.WriterLaw.{Sink, is_known, with_written, are_known, extended}
 use Rattle.codespan_base.specs.Writers.{fresh_sink}
-use Rattle.codespan_picture.specs.RichLaws.{IsOutput}
-use Rattle.codespan_picture.specs.StatedNames.{NamesAreStated}
-use Rattle.codespan_picture.specs.ViewPictures.{picture_of_diagnostic_view}
+use Rattle.codespan_output.specs.RichLaws.{IsOutput}
+use Rattle.codespan_output.specs.StatedNames.{NamesAreStated}
+use Rattle.codespan_output.specs.ViewPictures.{picture_of_diagnostic_view}
 use Rattle.codespan_views.specs.WriteCalls.{WritesStyled}
-use Rattle.codespan_picture.proofs.StatedNames.{output_stated}
-use Rattle.codespan_picture.proofs.ViewPictures.{picture-of_view}
+use Rattle.codespan_output.proofs.StatedNames.{output_stated}
+use Rattle.codespan_output.proofs.ViewPictures.{picture-of_view}
 use Rattle.codespan_native.specs.declared.error.OutOfMemory.{OutOfMemory}
 use Rattle.codespan_native.specs.declared.raw.RawConfig.{RawConfig}
 use Rattle.codespan_native.specs.declared.raw.RawDiagnostic.{RawDiagnostic}

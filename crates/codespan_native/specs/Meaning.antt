@@ -6,9 +6,9 @@ use Rattle.codespan_base.specs.Streams.{Stream, spelled}
 use Rattle.codespan_base.specs.declared.diagnostic.Diagnostic.{Diagnostic}
 use Rattle.codespan_base.specs.declared.term.config.Config.{Config}
 use Rattle.codespan_base.specs.declared.term.config.DisplayStyle.TheVariants.{Rich}
-use Rattle.codespan_picture.specs.RichLaws.{IsOutput}
-use Rattle.codespan_picture.specs.Lookups.{AllSucceed, lookups_in}
-use Rattle.codespan_picture.specs.ViewPictures.{picture_of_diagnostic_view}
+use Rattle.codespan_output.specs.RichLaws.{IsOutput}
+use Rattle.codespan_output.specs.Lookups.{AllSucceed, lookups_in}
+use Rattle.codespan_output.specs.ViewPictures.{picture_of_diagnostic_view}
 use Rattle.codespan_native.specs.declared.raw.RawConfig.{RawConfig}
 use Rattle.codespan_native.specs.declared.raw.RawDiagnostic.{RawDiagnostic}
 use Rattle.codespan_native.specs.declared.raw.RawFile.{RawFile}

@@ -3,8 +3,8 @@ use Rattle.std.specs.Prelude.{◌≡◌, ◌++◌, ℕ, List}
 use Rattle.codespan_base.specs.declared.diagnostic.Diagnostic.{Diagnostic}
 use Rattle.codespan_base.specs.declared.term.config.Config.{Config}
 use Rattle.codespan_base.specs.Streams.{Spelling, Stream, spelled}
-use Rattle.codespan_picture.specs.RichLaws.{IsOutput}
-use Rattle.codespan_picture.specs.Picture.{picture}
+use Rattle.codespan_output.specs.RichLaws.{IsOutput}
+use Rattle.codespan_output.specs.Picture.{picture}
 use Rattle.codespan_native.specs.SourceTexts.{NativeFileView, native_database}
 
 module _ (config : Config) (files : List NativeFileView) (d : Diagnostic ℕ) where

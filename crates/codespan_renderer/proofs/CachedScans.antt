@@ -3,14 +3,14 @@
 use Rattle.codespan_core.proofs.Std.{◌≡◌, ℕ, ◌-◌, ◌<◌, Bool, List, [], ◌∷◌, ◌++◌, take, drop}
 use Rattle.codespan_core.proofs.Std.{length, append_assoc, sym, ap, ◌∙◌, arith, chars}
 use Rattle.std.specs.Str.Iter.{chars_rest}
-use Rattle.codespan_picture.specs.declared.char_metrics.Metrics.{Metrics}
-use Rattle.codespan_picture.specs.CharMetrics.{metrics_then}
-use Rattle.codespan_picture.specs.RowParts.{metrics_up_to}
+use Rattle.codespan_output.specs.declared.char_metrics.Metrics.{Metrics}
+use Rattle.codespan_output.specs.CharMetrics.{metrics_then}
+use Rattle.codespan_output.specs.RowParts.{metrics_up_to}
 use Rattle.codespan_renderer.specs.declared.term.renderer.char_metrics.CharMetrics.{CharMetrics}
 use Rattle.codespan_renderer.specs.Private.{MetricsAfterEnd, GoesOver, after_last, metrics_from}
 use Rattle.codespan_renderer.specs.Private.{remaining_metrics, no_more, AreCached}
-use Rattle.codespan_picture.proofs.Consecutive.{char_metrics-consecutive}
-use Rattle.codespan_picture.proofs.Pieces.{taken-dropped}
+use Rattle.codespan_output.proofs.Consecutive.{char_metrics-consecutive}
+use Rattle.codespan_output.proofs.Pieces.{taken-dropped}
 use Rattle.codespan_renderer.proofs.WidthSearch.{past-none}
 
 -- a scan that goes on elsewhere yields what the first one would

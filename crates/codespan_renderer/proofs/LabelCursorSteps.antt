@@ -9,12 +9,12 @@ use Rattle.std.proofs.Props.{props}
 use Rattle.std.proofs.Math.Logic.{∥∥₁_elim}
 use Rattle.std.specs.Iterator.{YieldsFirst}
 use Rattle.codespan_core.specs.Labels.{LabelModel}
-use Rattle.codespan_picture.specs.declared.char_metrics.Metrics.{Metrics}
-use Rattle.codespan_picture.specs.CharMetrics.{metrics_then, placeholder, width_at}
-use Rattle.codespan_picture.specs.Carets.{covers}
-use Rattle.codespan_picture.specs.Arguments.{SingleLabelTuple, single_label_view}
-use Rattle.codespan_picture.specs.Arguments.{single_label_views, starts_from}
-use Rattle.codespan_picture.specs.Private.CharCursors.{AreContiguous, is_covered}
+use Rattle.codespan_output.specs.declared.char_metrics.Metrics.{Metrics}
+use Rattle.codespan_output.specs.CharMetrics.{metrics_then, placeholder, width_at}
+use Rattle.codespan_output.specs.Carets.{covers}
+use Rattle.codespan_output.specs.Arguments.{SingleLabelTuple, single_label_view}
+use Rattle.codespan_output.specs.Arguments.{single_label_views, starts_from}
+use Rattle.codespan_output.specs.Private.CharCursors.{AreContiguous, is_covered}
 use Rattle.codespan_renderer.specs.declared.term.renderer.cached.label_cursor.LabelCursor.{LabelCursor}
 use Rattle.codespan_renderer.specs.Private.{after_last, no_more, remaining_from_cache, IsBefore}
 use Rattle.codespan_renderer.specs.Private.{HasReturned, end_with, IsCoverEnd, HasPassedLabels}

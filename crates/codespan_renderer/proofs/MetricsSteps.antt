@@ -4,8 +4,8 @@ use Rattle.codespan_core.proofs.Std.{false, List, [], ◌∷◌, ◌++◌, lengt
 use Rattle.codespan_core.proofs.Std.{◌∙◌, arith, encode_utf8, len_utf8, IsUtf8, chars, ne_eqb}
 use Rattle.codespan_core.proofs.Std.{nat_tests, length-encode}
 use Rattle.std.proofs.lemmas.Str.{chars_past_char, chars-nil}
-use Rattle.codespan_picture.specs.declared.char_metrics.Metrics.{Metrics}
-use Rattle.codespan_picture.specs.CharMetrics.{metrics_then, width_at}
+use Rattle.codespan_output.specs.declared.char_metrics.Metrics.{Metrics}
+use Rattle.codespan_output.specs.CharMetrics.{metrics_then, width_at}
 use Rattle.unicode_width.specs.Width.{char_width}
 
 -- a printable character of ASCII occupies one cell

@@ -4,11 +4,11 @@ use Rattle.codespan_core.proofs.Std.{arith, and_parts, nat_tests}
 use Rattle.std.proofs.Math.Logic.{∥∥₁_elim}
 use Rattle.std.proofs.Props.{props}
 use Rattle.codespan_core.specs.Labels.{LabelModel}
-use Rattle.codespan_picture.specs.Arguments.{SingleLabelTuple, single_label_views, starts_from}
-use Rattle.codespan_picture.specs.Arguments.{starts_in_order}
-use Rattle.codespan_picture.specs.Private.RowLabels.{ArePrefixAndSuffix}
+use Rattle.codespan_output.specs.Arguments.{SingleLabelTuple, single_label_views, starts_from}
+use Rattle.codespan_output.specs.Arguments.{starts_in_order}
+use Rattle.codespan_output.specs.Private.RowLabels.{ArePrefixAndSuffix}
 use Rattle.codespan_renderer.proofs.LabelCursorSteps.{starts-lower}
-use Rattle.codespan_picture.proofs.Pieces.{whole}
+use Rattle.codespan_output.proofs.Pieces.{whole}
 
 front-ordered : (low : ℕ) (xs ys : List LabelModel) → starts_from low (xs ++ ys) ≡ true
     → starts_from low xs ≡ true

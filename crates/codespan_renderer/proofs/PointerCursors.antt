@@ -3,22 +3,22 @@ use Rattle.codespan_core.proofs.Std.{◌≡◌, ℕ, ◌+◌, ◌<◌, ◌≤◌
 use Rattle.codespan_core.proofs.Std.{Some, None, refl, ◌∙◌, append_assoc, filter, chars}
 use Rattle.std.specs.Str.Iter.{chars_rest}
 use Rattle.codespan_core.specs.Labels.{LabelModel, has_message}
-use Rattle.codespan_picture.specs.Types.{LabelStyle}
-use Rattle.codespan_picture.specs.declared.char_metrics.Metrics.{Metrics}
-use Rattle.codespan_picture.specs.declared.rows.pointer_cursor.Pointer.{Pointer}
-use Rattle.codespan_picture.specs.Arguments.{SingleLabelTuple, single_label_views}
-use Rattle.codespan_picture.specs.Private.PointerLists.{pointer_style_if_any, pointer_under}
-use Rattle.codespan_picture.specs.Private.PointerLists.{pointers_in}
-use Rattle.codespan_picture.specs.Rows.{hanging_labels}
-use Rattle.codespan_picture.specs.RowParts.{max_label_start, starts_in}
-use Rattle.codespan_picture.specs.Private.RowLabels.{AreHanging}
+use Rattle.codespan_output.specs.Types.{LabelStyle}
+use Rattle.codespan_output.specs.declared.char_metrics.Metrics.{Metrics}
+use Rattle.codespan_output.specs.declared.rows.pointer_cursor.Pointer.{Pointer}
+use Rattle.codespan_output.specs.Arguments.{SingleLabelTuple, single_label_views}
+use Rattle.codespan_output.specs.Private.PointerLists.{pointer_style_if_any, pointer_under}
+use Rattle.codespan_output.specs.Private.PointerLists.{pointers_in}
+use Rattle.codespan_output.specs.Rows.{hanging_labels}
+use Rattle.codespan_output.specs.RowParts.{max_label_start, starts_in}
+use Rattle.codespan_output.specs.Private.RowLabels.{AreHanging}
 use Rattle.codespan_renderer.specs.declared.term.renderer.cached.label_cursor.StartCursor.{StartCursor}
 use Rattle.codespan_renderer.specs.declared.term.renderer.char_metrics.CharMetrics.{CharMetrics}
 use Rattle.codespan_renderer.specs.Private.{HasPassedStarts, GoesOver, metrics_from, no_more}
 use Rattle.codespan_renderer.specs.Private.{preferred_style}
 use Rattle.codespan_renderer.proofs.PointerStyles.{pointer_is}
-use Rattle.codespan_picture.proofs.Consecutive.{AreConsecutive, char_metrics-consecutive}
-use Rattle.codespan_picture.proofs.SpacedPointers.{pointers-past}
+use Rattle.codespan_output.proofs.Consecutive.{AreConsecutive, char_metrics-consecutive}
+use Rattle.codespan_output.proofs.SpacedPointers.{pointers-past}
 
 -- two cursors have passed the labels of two lists that start before these characters
 pub record IsPassing (before after : List SingleLabelTuple) (s t : StartCursor)

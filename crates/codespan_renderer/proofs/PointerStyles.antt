@@ -4,18 +4,18 @@ use Rattle.codespan_core.proofs.Std.{◌||◌, List, [], ◌∷◌, ◌++◌, le
 use Rattle.codespan_core.proofs.Std.{Option, Some, None, refl, sym, ap, ◌∙◌, drop-cons, add-one}
 use Rattle.codespan_core.proofs.Std.{not, if◌then◌else◌, list_any, filter-append, fold-append}
 use Rattle.codespan_core.specs.Labels.{LabelModel, has_message, is_primary, is_primary_style}
-use Rattle.codespan_picture.specs.Types.{LabelStyle, Primary, Secondary}
-use Rattle.codespan_picture.specs.declared.char_metrics.Metrics.{Metrics}
-use Rattle.codespan_picture.specs.Arguments.{SingleLabelTuple, single_label_view}
-use Rattle.codespan_picture.specs.Arguments.{single_label_views}
-use Rattle.codespan_picture.specs.Rows.{hanging_labels}
-use Rattle.codespan_picture.specs.RowParts.{starts_in, pointer_style}
-use Rattle.codespan_picture.specs.Private.PointerLists.{pointer_style_if_any}
-use Rattle.codespan_picture.specs.Private.RowLabels.{AreHanging}
+use Rattle.codespan_output.specs.Types.{LabelStyle, Primary, Secondary}
+use Rattle.codespan_output.specs.declared.char_metrics.Metrics.{Metrics}
+use Rattle.codespan_output.specs.Arguments.{SingleLabelTuple, single_label_view}
+use Rattle.codespan_output.specs.Arguments.{single_label_views}
+use Rattle.codespan_output.specs.Rows.{hanging_labels}
+use Rattle.codespan_output.specs.RowParts.{starts_in, pointer_style}
+use Rattle.codespan_output.specs.Private.PointerLists.{pointer_style_if_any}
+use Rattle.codespan_output.specs.Private.RowLabels.{AreHanging}
 use Rattle.codespan_renderer.specs.Private.{prefer_primary, preferred_style}
 use Rattle.codespan_renderer.proofs.PreferredStyles.{preferred-cons, preferred-primary}
-use Rattle.codespan_picture.proofs.TrailingLabel.{is_empty_bytes}
-use Rattle.codespan_picture.proofs.Hanging.{hanging_parts}
+use Rattle.codespan_output.proofs.TrailingLabel.{is_empty_bytes}
+use Rattle.codespan_output.proofs.Hanging.{hanging_parts}
 
 -- ---- the style of a pointer
 

@@ -2,7 +2,7 @@
 use Rattle.codespan_core.proofs.Std.{◌≡◌, Bool, true, false, cond, List, [], ◌∷◌, filter, fold}
 use Rattle.codespan_core.proofs.Std.{Option, None, Some, refl, ◌&&◌, if◌then◌else◌, list_any}
 use Rattle.codespan_core.specs.Labels.{LabelModel, is_primary}
-use Rattle.codespan_picture.specs.Types.{LabelStyle, Primary, Secondary}
+use Rattle.codespan_output.specs.Types.{LabelStyle, Primary, Secondary}
 use Rattle.codespan_renderer.specs.Private.{prefer_primary, preferred_style}
 
 -- the style of the first label counts if the label passes, and then those of the others

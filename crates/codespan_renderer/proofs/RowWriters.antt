@@ -5,9 +5,9 @@ use Rattle.std.specs.Borrow.{GName}
 use Rattle.codespan_core.specs.Errors.{IsIo}
 use Rattle.codespan_core.specs.Streams.{Stream}
 use Rattle.codespan_core.specs.WriterLaw.{Sink, Frame, is_known, with_written, Writes, Puts}
-use Rattle.codespan_picture.specs.Rows.{Line, RowContext, rows_of}
-use Rattle.codespan_picture.specs.RowStreams.{stream_of_rows}
-use Rattle.codespan_picture.specs.Types.{Error}
+use Rattle.codespan_output.specs.Rows.{Line, RowContext, rows_of}
+use Rattle.codespan_output.specs.RowStreams.{stream_of_rows}
+use Rattle.codespan_output.specs.Types.{Error}
 use Rattle.codespan_renderer.specs.Private.{SameOutcome, inner_reference, inner_writer}
 use Rattle.codespan_renderer.specs.Private.{row_writer_sink}
 use Rattle.codespan_renderer.specs.{Renders, SameRenderer, sink_through, writer_of}

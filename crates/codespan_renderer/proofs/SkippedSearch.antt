@@ -5,15 +5,15 @@ use Rattle.codespan_core.proofs.Std.{◌∷◌, take, length, get_or, refl, sym,
 use Rattle.codespan_core.proofs.Std.{min, fold, add-zero, chars, nat_le, slice_get, and_parts}
 use Rattle.codespan_core.proofs.Std.{nat_tests, sum_by-cons}
 use Rattle.codespan_core.specs.Labels.{LabelModel}
-use Rattle.codespan_picture.specs.declared.char_metrics.Metrics.{Metrics}
-use Rattle.codespan_picture.specs.CharMetrics.{width_of}
-use Rattle.codespan_picture.specs.Arguments.{SingleLabelTuple, single_label_view}
-use Rattle.codespan_picture.specs.Arguments.{single_label_views, starts_from, starts_in_order}
-use Rattle.codespan_picture.specs.Private.LineCharacters.{EndBy}
-use Rattle.codespan_picture.specs.Private.RowLabels.{least_start}
+use Rattle.codespan_output.specs.declared.char_metrics.Metrics.{Metrics}
+use Rattle.codespan_output.specs.CharMetrics.{width_of}
+use Rattle.codespan_output.specs.Arguments.{SingleLabelTuple, single_label_view}
+use Rattle.codespan_output.specs.Arguments.{single_label_views, starts_from, starts_in_order}
+use Rattle.codespan_output.specs.Private.LineCharacters.{EndBy}
+use Rattle.codespan_output.specs.Private.RowLabels.{least_start}
 use Rattle.codespan_renderer.specs.declared.term.renderer.char_metrics.CharMetrics.{CharMetrics}
 use Rattle.codespan_renderer.specs.Private.{metrics_from, no_more, AreCached}
-use Rattle.codespan_picture.proofs.Consecutive.{AreConsecutive, char_metrics-consecutive}
+use Rattle.codespan_output.proofs.Consecutive.{AreConsecutive, char_metrics-consecutive}
 use Rattle.codespan_renderer.proofs.WidthSearch.{consecutive-front, consecutive-low}
 
 -- the characters before one that begins at a byte index or before it end by that index

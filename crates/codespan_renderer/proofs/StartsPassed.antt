@@ -5,11 +5,11 @@ use Rattle.codespan_core.proofs.Std.{nat_le, List, [], ◌∷◌, length, drop, 
 use Rattle.codespan_core.proofs.Std.{refl, sym, ◌∙◌, arith, not, if◌then◌else◌, and_parts}
 use Rattle.codespan_core.proofs.Std.{nat_tests}
 use Rattle.codespan_core.specs.Labels.{LabelModel, has_message}
-use Rattle.codespan_picture.specs.Types.{LabelStyle}
-use Rattle.codespan_picture.specs.declared.char_metrics.Metrics.{Metrics}
-use Rattle.codespan_picture.specs.Arguments.{SingleLabelTuple, single_label_view}
-use Rattle.codespan_picture.specs.Arguments.{single_label_views, starts_from}
-use Rattle.codespan_picture.specs.RowParts.{starts_in}
+use Rattle.codespan_output.specs.Types.{LabelStyle}
+use Rattle.codespan_output.specs.declared.char_metrics.Metrics.{Metrics}
+use Rattle.codespan_output.specs.Arguments.{SingleLabelTuple, single_label_view}
+use Rattle.codespan_output.specs.Arguments.{single_label_views, starts_from}
+use Rattle.codespan_output.specs.RowParts.{starts_in}
 use Rattle.codespan_renderer.specs.Private.{prefer_primary, preferred_style}
 use Rattle.codespan_renderer.proofs.PreferredStyles.{preferred-cons}
 use Rattle.codespan_renderer.proofs.PointerStyles.{preferred-step}

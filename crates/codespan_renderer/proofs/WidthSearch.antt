@@ -5,15 +5,15 @@ use Rattle.codespan_core.proofs.Std.{◌++◌, length, get_or, leb, refl, sym, a
 use Rattle.codespan_core.proofs.Std.{len_utf8_bounds, len_utf8, nat_le, chars, nat_tests}
 use Rattle.std.specs.List.Sorted.{IsPartitionPoint}
 use Rattle.std.specs.Str.Iter.{chars_rest}
-use Rattle.codespan_picture.specs.declared.char_metrics.Metrics.{Metrics}
-use Rattle.codespan_picture.specs.CharMetrics.{char_metrics, metrics_then, placeholder, width_of}
-use Rattle.codespan_picture.specs.CharMetrics.{width_at}
-use Rattle.codespan_picture.specs.RowParts.{metrics_up_to}
+use Rattle.codespan_output.specs.declared.char_metrics.Metrics.{Metrics}
+use Rattle.codespan_output.specs.CharMetrics.{char_metrics, metrics_then, placeholder, width_of}
+use Rattle.codespan_output.specs.CharMetrics.{width_at}
+use Rattle.codespan_output.specs.RowParts.{metrics_up_to}
 use Rattle.codespan_renderer.specs.declared.term.renderer.char_metrics.CharMetrics.{CharMetrics}
 use Rattle.codespan_renderer.specs.Private.{metrics_from, no_more, AreCached}
-use Rattle.codespan_picture.proofs.Consecutive.{AreConsecutive, char_metrics-consecutive}
-use Rattle.codespan_picture.proofs.Consecutive.{none-before}
-use Rattle.codespan_picture.proofs.Widths.{width-in}
+use Rattle.codespan_output.proofs.Consecutive.{AreConsecutive, char_metrics-consecutive}
+use Rattle.codespan_output.proofs.Consecutive.{none-before}
+use Rattle.codespan_output.proofs.Widths.{width-in}
 
 -- the default of `get_or`, for an index past the end of the list
 abbrev pub default_metrics : Metrics

@@ -1,8 +1,8 @@
 -- A renderer, as its contracts see it: a writer behind a reference, and a configuration. What its
--- calls render is in `RenderedRows` of `codespan_picture`.
+-- calls render is in `RenderedRows` of `codespan_output`.
 use Rattle.std.specs.Prelude.{◌≡◌, ◌∷◌, Result, IfErr}
 use Rattle.std.specs.Borrow.{GName}
-use Rattle.codespan_picture.specs.Types.{Error, Config}
+use Rattle.codespan_output.specs.Types.{Error, Config}
 use Rattle.codespan_core.specs.Errors.{IsIo}
 use Rattle.codespan_core.specs.Streams.{Stream}
 use Rattle.codespan_core.specs.WriterLaw.{Writes, Sink}

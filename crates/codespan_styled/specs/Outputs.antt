@@ -1,13 +1,13 @@
 -- What the call that returns the runs of a diagnostic's output does.
 use Rattle.std.specs.Prelude.{◌≡◌, List}
-use Rattle.codespan_picture.specs.Types.{Diagnostic, Config}
+use Rattle.codespan_output.specs.Types.{Diagnostic, Config}
 use Rattle.codespan_base.specs.FileModel.{FileDatabase}
 use Rattle.codespan_base.specs.LawfulFiles.{IsLawful}
 use Rattle.codespan_base.specs.Streams.{Stream, text_of}
-use Rattle.codespan_picture.specs.RichLaws.{IsOutput}
-use Rattle.codespan_picture.specs.Utf8Laws.{CharsAreScalars}
-use Rattle.codespan_picture.specs.OutputStreams.{NamesAreUtf8, output}
-use Rattle.codespan_picture.specs.Rows.{Locus}
+use Rattle.codespan_output.specs.RichLaws.{IsOutput}
+use Rattle.codespan_output.specs.Utf8Laws.{CharsAreScalars}
+use Rattle.codespan_output.specs.OutputStreams.{NamesAreUtf8, output}
+use Rattle.codespan_output.specs.Rows.{Locus}
 use Rattle.codespan_views.specs.Output.{Succeeds}
 use Rattle.codespan_styled.specs.Runs.{TextsAreUtf8, RunView, joined, runs_of}
 

@@ -8,7 +8,7 @@ use Rattle.std.specs.Str.{chars, encode_utf8_all}
 use Rattle.codespan_base.specs.StyleSpellings.{ansi_spelling}
 use Rattle.codespan_base.specs.declared.term.config.style_mark.StyleMark.{StyleMark}
 use Rattle.codespan_base.specs.declared.term.config.styles.Styles.{Styles}
-use Rattle.codespan_picture.specs.CharMetrics.{width_at}
+use Rattle.codespan_output.specs.CharMetrics.{width_at}
 use Rattle.codespan_styled.specs.Runs.{RunView, is_plain, run_characters}
 
 -- ---- safe characters

@@ -12,7 +12,7 @@ use crate::text::StyledText;
 use codespan_base::diagnostic::Diagnostic;
 use codespan_base::files::{Error, Files};
 use codespan_base::term::Config;
-use codespan_picture::scalar_chars::chars_are_scalars;
+use codespan_output::scalar_chars::chars_are_scalars;
 use codespan_views::emitting::emit_to_write_style;
 use std::alloc::Global;
 

@@ -79,7 +79,12 @@ static WORKED_ROWS: [WorkedRow; 12] = [
     (
         "overlap_in_the_second_file",
         &[("a.c", "one two\n"), ("b.c", "one two\n")],
-        &[(0, 2, 5, "x"), (1, 2, 5, "x"), (0, 5, 6, "x"), (1, 0, 3, "y")],
+        &[
+            (0, 2, 5, "x"),
+            (1, 2, 5, "x"),
+            (0, 5, 6, "x"),
+            (1, 0, 3, "y"),
+        ],
         "error: edit 1 overlaps edit 3",
     ),
     (

@@ -6,10 +6,10 @@ use Rattle.codespan_core.proofs.Std.{List, [], ◌∷◌, ◌++◌, take, drop, 
 use Rattle.codespan_core.proofs.Std.{⊎_elim, refl, sym, ◌∙◌, ap, arith, prefix_len, range_with_len}
 use Rattle.codespan_core.proofs.Std.{AllByRecursion, cases_Bool, eqb-true, eq-eqb}
 use Rattle.std.proofs.Math.Seq.{drop-append_seam}
-use Rattle.codespan_picture.specs.Sequences.{before_line, gap_between, in_sequence}
+use Rattle.codespan_output.specs.Sequences.{before_line, gap_between, in_sequence}
 use Rattle.codespan_views.specs.Private.{shows_line, Annotation, is_on_line, SnippetLine, Labeled}
 use Rattle.codespan_views.specs.Private.{Filled, Break, groups, lines_between, lines_from, lines_of}
-use Rattle.codespan_picture.proofs.ListElements.{all-pass, all-weaker, filter-nothing}
+use Rattle.codespan_output.proofs.ListElements.{all-pass, all-weaker, filter-nothing}
 
 -- ---- groups
 

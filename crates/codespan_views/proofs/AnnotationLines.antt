@@ -11,9 +11,9 @@ use Rattle.codespan_core.specs.FileModel.{FileModel, line_count}
 use Rattle.codespan_core.specs.Labels.{LaneMark, LabelModel, first_line, last_line, is_single}
 use Rattle.codespan_core.specs.Labels.{drawn_label, lane_mark_of, multi_line_labels, multi_label_on}
 use Rattle.codespan_core.specs.Lemmas.Lines.{line_of_below}
-use Rattle.codespan_picture.specs.Types.{Config}
-use Rattle.codespan_picture.specs.Lines.{shows}
-use Rattle.codespan_picture.specs.Snippets.{LabelInFile}
+use Rattle.codespan_output.specs.Types.{Config}
+use Rattle.codespan_output.specs.Lines.{shows}
+use Rattle.codespan_output.specs.Snippets.{LabelInFile}
 use Rattle.codespan_views.specs.Private.{Annotation, Single, Multi, is_before, is_on_line}
 use Rattle.codespan_views.specs.Private.{is_of_file, annotation_if_any, shows_line}
 use Rattle.codespan_views.specs.Private.{line_annotations, index_of_file, annotations_of_next}
@@ -25,10 +25,10 @@ use Rattle.codespan_views.proofs.LabelAnnotations.{lane_marks-on_line, single_la
 use Rattle.codespan_views.proofs.LabelAnnotations.{shown-on_line}
 use Rattle.codespan_views.proofs.LabelIndexing.{num_multi_labels_of-more}
 use Rattle.codespan_views.proofs.LaneMarks.{marks_from}
-use Rattle.codespan_picture.proofs.OrderSorts.{has_range}
-use Rattle.codespan_picture.proofs.ListElements.{all-both, all-append, all-weaker, filter-whole}
-use Rattle.codespan_picture.proofs.ListElements.{filter-nothing}
-use Rattle.codespan_picture.proofs.SortedFilters.{Falls}
+use Rattle.codespan_output.proofs.OrderSorts.{has_range}
+use Rattle.codespan_output.proofs.ListElements.{all-both, all-append, all-weaker, filter-whole}
+use Rattle.codespan_output.proofs.ListElements.{filter-nothing}
+use Rattle.codespan_output.proofs.SortedFilters.{Falls}
 use Rattle.codespan_views.proofs.FileLabels.{is_of_range, HasFileIndex}
 
 module _ {Id : Type 0} {same : Id → Id → Bool} {file : Id → FileModel} {ids : List Id} {f : ℕ}

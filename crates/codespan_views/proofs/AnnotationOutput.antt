@@ -8,14 +8,14 @@ use Rattle.std.proofs.lemmas.List.Sorted.{list_any-IsPermutation}
 use Rattle.codespan_core.specs.FileModel.{FileDatabase, FileModel, line_count}
 use Rattle.codespan_core.specs.Labels.{LaneMark, LabelModel, is_single, first_line, drawn_label}
 use Rattle.codespan_core.specs.Labels.{lane_marks_on, single_labels, sorted}
-use Rattle.codespan_picture.specs.Types.{Config}
-use Rattle.codespan_picture.specs.Arguments.{starts_in_order}
-use Rattle.codespan_picture.specs.Lines.{drawn_lines}
-use Rattle.codespan_picture.specs.Lookups.{filled_lines}
-use Rattle.codespan_picture.specs.Sequences.{break_between, in_sequence}
-use Rattle.codespan_picture.specs.Snippets.{LabelInFile, LabeledFileModel, labeled_file_model}
-use Rattle.codespan_picture.specs.Snippets.{num_multi_labels, line_at, line_rows, break_rows}
-use Rattle.codespan_picture.specs.Snippets.{rows_of_drawn, file_ids}
+use Rattle.codespan_output.specs.Types.{Config}
+use Rattle.codespan_output.specs.Arguments.{starts_in_order}
+use Rattle.codespan_output.specs.Lines.{drawn_lines}
+use Rattle.codespan_output.specs.Lookups.{filled_lines}
+use Rattle.codespan_output.specs.Sequences.{break_between, in_sequence}
+use Rattle.codespan_output.specs.Snippets.{LabelInFile, LabeledFileModel, labeled_file_model}
+use Rattle.codespan_output.specs.Snippets.{num_multi_labels, line_at, line_rows, break_rows}
+use Rattle.codespan_output.specs.Snippets.{rows_of_drawn, file_ids}
 use Rattle.codespan_views.specs.Private.{Collected, Annotation, is_before, is_on_line, is_of_file}
 use Rattle.codespan_views.specs.Private.{shows_line, annotation_view, IsCollected, IsIdAt}
 use Rattle.codespan_views.specs.Private.{all_annotations, lane_marks_in, lines_of, single_labels_in}
@@ -28,23 +28,23 @@ use Rattle.codespan_views.proofs.AnnotationOrder.{below_order, lane_mark_annotat
 use Rattle.codespan_views.proofs.SingleLabelOrder.{IsOn, single_labels-ascend}
 use Rattle.codespan_views.proofs.FileIndices.{index_of_file-at}
 use Rattle.codespan_views.proofs.LaneMarks.{ascend-climbs, lane_marks-ascend}
-use Rattle.codespan_picture.proofs.FillLemmas.{none_past}
+use Rattle.codespan_output.proofs.FillLemmas.{none_past}
 use Rattle.codespan_views.proofs.LinesOfLabels.{is_kind}
 use Rattle.codespan_views.proofs.LabelIndexing.{AreFiles, num_multi_labels_of-equal}
-use Rattle.codespan_picture.proofs.OrderSorts.{has_range, ascending-same, sorted-ascends}
-use Rattle.codespan_picture.proofs.OrderSorts.{sorted-keeps}
-use Rattle.codespan_picture.proofs.ListElements.{all-weaker, all-filter, all-both, all-pass}
-use Rattle.codespan_picture.proofs.ListElements.{filter-filter, any-filtered}
-use Rattle.codespan_picture.proofs.SortedLists.{Rises, rises-filter, rises-from_sorted}
-use Rattle.codespan_picture.proofs.SortedFilters.{Falls, filter-reverse, filter-sorted_climbs}
-use Rattle.codespan_picture.proofs.SortedFilters.{filter-sorted_falls}
+use Rattle.codespan_output.proofs.OrderSorts.{has_range, ascending-same, sorted-ascends}
+use Rattle.codespan_output.proofs.OrderSorts.{sorted-keeps}
+use Rattle.codespan_output.proofs.ListElements.{all-weaker, all-filter, all-both, all-pass}
+use Rattle.codespan_output.proofs.ListElements.{filter-filter, any-filtered}
+use Rattle.codespan_output.proofs.SortedLists.{Rises, rises-filter, rises-from_sorted}
+use Rattle.codespan_output.proofs.SortedFilters.{Falls, filter-reverse, filter-sorted_climbs}
+use Rattle.codespan_output.proofs.SortedFilters.{filter-sorted_falls}
 use Rattle.codespan_views.proofs.SingleLabelOrder.{ascends-starts}
 use Rattle.codespan_views.proofs.SnippetLineRows.{snippet_lines-rows, snippet_lines-fit}
 use Rattle.codespan_views.proofs.SnippetLineRows.{snippet_lines-lines, snippet_lines-fills}
 use Rattle.codespan_views.proofs.GroupAnnotations.{single_labels-of_range, range-rank}
 use Rattle.codespan_views.proofs.GroupAnnotations.{lane_marks-rank, lane_marks-of_annotations}
 use Rattle.codespan_views.proofs.GroupAnnotations.{single_labels-reverse, first-shows, lines-rise}
-use Rattle.codespan_picture.specs.Lines as lines
+use Rattle.codespan_output.specs.Lines as lines
 use Rattle.codespan_views.proofs.AnnotationLines as annotation_lines
 
 -- ---- the annotations of a file

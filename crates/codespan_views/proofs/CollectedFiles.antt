@@ -6,14 +6,14 @@ use Rattle.codespan_core.proofs.Std.{None, refl, sym, ap, ◌∙◌, arith, flat
 use Rattle.codespan_core.proofs.Std.{AllByRecursion, AllZip, flat_map-map}
 use Rattle.codespan_core.specs.FileModel.{FileDatabase, FileModel}
 use Rattle.codespan_core.specs.FileModel.Lookup.{LocationAt, Name}
-use Rattle.codespan_picture.specs.Types.{Config, Layout, Classic, Unbroken}
-use Rattle.codespan_picture.specs.Lines.{drawn_lines}
-use Rattle.codespan_picture.specs.Lookups.{filled_lines, first_error, lookups_of_file}
-use Rattle.codespan_picture.specs.Lookups.{numbers_for_padding}
-use Rattle.codespan_picture.specs.Padding.{digits_of, numbered_lines, padding_of}
-use Rattle.codespan_picture.specs.Snippets.{LabelInFile, LabeledFileModel, file_ids}
-use Rattle.codespan_picture.specs.Snippets.{labeled_file_model, labeled_file_models}
-use Rattle.codespan_picture.specs.Snippets.{num_multi_labels, rows_of_drawn}
+use Rattle.codespan_output.specs.Types.{Config, Layout, Classic, Unbroken}
+use Rattle.codespan_output.specs.Lines.{drawn_lines}
+use Rattle.codespan_output.specs.Lookups.{filled_lines, first_error, lookups_of_file}
+use Rattle.codespan_output.specs.Lookups.{numbers_for_padding}
+use Rattle.codespan_output.specs.Padding.{digits_of, numbered_lines, padding_of}
+use Rattle.codespan_output.specs.Snippets.{LabelInFile, LabeledFileModel, file_ids}
+use Rattle.codespan_output.specs.Snippets.{labeled_file_model, labeled_file_models}
+use Rattle.codespan_output.specs.Snippets.{num_multi_labels, rows_of_drawn}
 use Rattle.codespan_views.specs.Private.{Collected, RustFile, Annotation, annotation_view}
 use Rattle.codespan_views.specs.Private.{all_digit_counts, IsCollected, IsLookedUpEarly}
 use Rattle.codespan_views.specs.Private.{KeepsLabels, digits_of_files, early_failure}

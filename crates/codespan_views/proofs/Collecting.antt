@@ -5,19 +5,19 @@ use Rattle.codespan_core.proofs.Std.{common_steps, ◌≡◌, ℕ, true, List, [
 use Rattle.codespan_core.proofs.Std.{arith, Bor, append-nil, append_assoc, map-append, nat_tests}
 use Rattle.codespan_core.proofs.Std.{le-leb}
 use Rattle.codespan_core.specs.Labels.{LabelModel, first_line, last_line}
-use Rattle.codespan_picture.specs.Lines.{spans}
-use Rattle.codespan_picture.specs.Types.{Config, Label}
-use Rattle.codespan_picture.specs.OutputStreams.{label_of}
+use Rattle.codespan_output.specs.Lines.{spans}
+use Rattle.codespan_output.specs.Types.{Config, Label}
+use Rattle.codespan_output.specs.OutputStreams.{label_of}
 use Rattle.codespan_views.specs.Private.{RustAnnotation, LabelToCollect, Annotation, AnnotationKind}
 use Rattle.codespan_views.specs.Private.{annotation_if_any, line_annotations, multi_kind_by_ends}
 use Rattle.codespan_views.specs.Private.{kind_by_ends, AppendsAnnotations, IsLineOf, kind_view}
 use Rattle.codespan_views.specs.Private.{IsFarInside}
 use Rattle.codespan_views.specs.declared.annotation.LineInfo.{LineInfo}
 use borrow.Author.Tests.{eqb-true}
-use Rattle.codespan_picture.proofs.ListElements.{all-append, all-weaker}
+use Rattle.codespan_output.proofs.ListElements.{all-append, all-weaker}
 use Rattle.std.proofs.lemmas.Bool.{and_from, or_left, or_right}
-use Rattle.codespan_picture.specs.Lines.{is_around}
-use Rattle.codespan_picture.specs.Lookups.{is_looked_up}
+use Rattle.codespan_output.specs.Lines.{is_around}
+use Rattle.codespan_output.specs.Lookups.{is_looked_up}
 use Rattle.codespan_views.specs.declared.annotation.AnnotationKind.TheVariants as rust
 use Rattle.codespan_views.specs.declared.annotation.MultiLabelKind.TheVariants as label_kind
 

@@ -9,10 +9,10 @@ use Rattle.codespan_core.specs.LawfulFiles.{IsLawful, FailsPastLastLine, IsPastL
 use Rattle.codespan_core.specs.FileModel.Lookup.{LineRange, LineNumber}
 use Rattle.codespan_core.specs.Labels.{first_line, last_line}
 use Rattle.codespan_core.specs.Lemmas.Lines.{lines_have_indices, lines_within_text}
-use Rattle.codespan_picture.specs.Types.{Error}
-use Rattle.codespan_picture.specs.Lookups.{ends_context_lines, is_looked_up, line_lookups}
-use Rattle.codespan_picture.specs.Lookups.{lookup_past_end}
-use Rattle.codespan_picture.specs.declared.padding.PaddingWidth.{PaddingWidth}
+use Rattle.codespan_output.specs.Types.{Error}
+use Rattle.codespan_output.specs.Lookups.{ends_context_lines, is_looked_up, line_lookups}
+use Rattle.codespan_output.specs.Lookups.{lookup_past_end}
+use Rattle.codespan_output.specs.declared.padding.PaddingWidth.{PaddingWidth}
 use Rattle.codespan_views.specs.Private.{LabelToCollect, IsLookedUp, FindsLineAnnotations}
 use Rattle.codespan_views.specs.Private.{FindsLabelAnnotations, WidensPadding}
 use Rattle.codespan_views.specs.Private.{WidensPaddingForLine, lines_failure, failure_if_looked_up}
@@ -21,7 +21,7 @@ use Rattle.codespan_views.specs.Private.{annotations_if_looked_up, lookups_if_lo
 use Rattle.codespan_views.specs.Private.{RustAnnotation, failure_in, AppendsAnnotationsOf}
 use Rattle.codespan_views.specs.Private.{digit_count_if_spanned, label_digit_counts}
 use borrow.Author.Tests.{le-ltb}
-use Rattle.codespan_picture.proofs.Greatest.{greatest-append}
+use Rattle.codespan_output.proofs.Greatest.{greatest-append}
 use Rattle.codespan_views.proofs.Collecting.{AppendsAnnotations-both, AppendsAnnotations-none}
 use Rattle.codespan_views.proofs.FirstErrors.{first_error-lookups, or_failure-none, or_failure-some}
 use Rattle.codespan_views.proofs.RangeMaps.{flat_map_filtered, after_both, above_both, below_both}

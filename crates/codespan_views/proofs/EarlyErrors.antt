@@ -3,10 +3,10 @@
 use Rattle.codespan_core.proofs.Std.{arith, common_steps, ◌≡◌, List, ◌++◌, Option, Some, None}
 use Rattle.codespan_core.proofs.Std.{append_assoc, flat_map}
 use Rattle.codespan_core.specs.FileModel.{FileDatabase, Lookup, or_failure}
-use Rattle.codespan_picture.specs.Types.{Error, Config}
-use Rattle.codespan_picture.specs.Lookups.{early_lookups, first_error, locus_lookups}
-use Rattle.codespan_picture.specs.Lookups.{lookups_of_file, numbers_for_padding}
-use Rattle.codespan_picture.specs.Snippets.{LabelInFile, file_ids}
+use Rattle.codespan_output.specs.Types.{Error, Config}
+use Rattle.codespan_output.specs.Lookups.{early_lookups, first_error, locus_lookups}
+use Rattle.codespan_output.specs.Lookups.{lookups_of_file, numbers_for_padding}
+use Rattle.codespan_output.specs.Snippets.{LabelInFile, file_ids}
 use Rattle.codespan_views.specs.Private.{labels_failure}
 use Rattle.codespan_views.proofs.FirstErrors.{first_error-append}
 

@@ -2,7 +2,7 @@
 -- `RichDiagnostic::render`.
 use Rattle.codespan_core.proofs.Std.{◌≡◌, List, None}
 use Rattle.codespan_core.specs.FileModel.{FileDatabase, Lookup}
-use Rattle.codespan_picture.specs.Lookups.{first_error}
+use Rattle.codespan_output.specs.Lookups.{first_error}
 use Rattle.codespan_views.specs.{SomeFails}
 use Rattle.codespan_views.proofs.FirstErrors.{all_succeed}
 

@@ -10,13 +10,13 @@ use Rattle.codespan_core.specs.WriterLaw.{PrefixWritten, PrefixAppended}
 use Rattle.codespan_core.specs.declared.term.config.plain_ref.PlainWriterRef.{PlainWriterRef}
 use Rattle.codespan_core.specs.Writers.{fresh_plain_ref_sink, fresh_sink, plain_reference}
 use Rattle.codespan_core.specs.Writers.{plain_ref_sink, borrowed_writer}
-use Rattle.codespan_picture.specs.Types.{DisplayStyle, Rich, Medium, Short, Config, Diagnostic}
-use Rattle.codespan_picture.specs.Types.{Error}
-use Rattle.codespan_picture.specs.Rows.{Locus}
-use Rattle.codespan_picture.specs.Utf8Laws.{CharsAreScalars}
+use Rattle.codespan_output.specs.Types.{DisplayStyle, Rich, Medium, Short, Config, Diagnostic}
+use Rattle.codespan_output.specs.Types.{Error}
+use Rattle.codespan_output.specs.Rows.{Locus}
+use Rattle.codespan_output.specs.Utf8Laws.{CharsAreScalars}
 use Rattle.codespan_views.specs.{FailsAtLabel, WrittenBefore, IsRendered, TextMeansLabels}
 use Rattle.codespan_views.specs.{WritesStyled, WritesText}
-use Rattle.codespan_picture.proofs.PictureTexts.{text-output}
+use Rattle.codespan_output.proofs.PictureTexts.{text-output}
 
 -- a plain writer that was empty and received a stream has its text
 written_text : {old new : Sink} {bytes : List ℕ} (s : Stream)

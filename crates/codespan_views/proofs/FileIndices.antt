@@ -8,11 +8,11 @@ use Rattle.codespan_core.proofs.Std.{filter-append, list_any-append, list_any_at
 use Rattle.codespan_core.proofs.Std.{eq-eqb, ne_eqb, ◌≢◌, append_assoc, ap}
 use Rattle.std.proofs.lemmas.List.Folds.{position_or_len_push}
 use Rattle.codespan_core.specs.Labels.{first_seen}
-use Rattle.codespan_picture.specs.Snippets.{LabelInFile, file_ids}
+use Rattle.codespan_output.specs.Snippets.{LabelInFile, file_ids}
 use Rattle.codespan_views.specs.Private.{with_file, AreDistinct, IsIdAt, index_of_file, RustFile}
 use Rattle.codespan_views.specs.Private.{ids_view}
-use Rattle.codespan_picture.proofs.RefillLemmas.{any-map}
-use Rattle.codespan_picture.proofs.ListElements.{all-weaker, all-filter, all-pass}
+use Rattle.codespan_output.proofs.RefillLemmas.{any-map}
+use Rattle.codespan_output.proofs.ListElements.{all-weaker, all-filter, all-pass}
 
 -- the id at an index
 pub at-get : {Id : Type 0} (ids : List Id) (f : ℕ) (d : Id) → f < length ids

@@ -3,10 +3,10 @@
 use Rattle.codespan_core.proofs.Std.{◌≡◌, ℕ, ◌<◌, Bool, true, false, ◌==◌, List, Option, Some, None}
 use Rattle.codespan_core.specs.FileModel.{FileModel, line_count}
 use Rattle.codespan_core.specs.Labels.{LabelModel}
-use Rattle.codespan_picture.specs.Snippets.{LabelInFile}
+use Rattle.codespan_output.specs.Snippets.{LabelInFile}
 use Rattle.codespan_views.specs.Private.{Annotation, index_of_file, num_multi_labels_of}
 use Rattle.codespan_views.specs.Private.{single_label_of}
-use Rattle.codespan_picture.proofs.OrderSorts.{has_range}
+use Rattle.codespan_output.proofs.OrderSorts.{has_range}
 
 -- ---- ranges
 

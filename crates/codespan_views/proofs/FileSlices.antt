@@ -13,8 +13,8 @@ use Rattle.codespan_views.specs.Private.{annotation_view}
 use Rattle.codespan_views.proofs.AnnotationGroups.{IsRising, from_number, from_number-first}
 use Rattle.codespan_views.proofs.AnnotationGroups.{from_number-next, prefix-append}
 use Rattle.codespan_views.proofs.AnnotationOrder.{below_order, file_rises}
-use Rattle.codespan_picture.proofs.ListElements.{all-weaker, all-pass}
-use Rattle.codespan_picture.proofs.SortedLists.{Rises, rises-from_sorted}
+use Rattle.codespan_output.proofs.ListElements.{all-weaker, all-pass}
+use Rattle.codespan_output.proofs.SortedLists.{Rises, rises-from_sorted}
 
 -- ---- annotations
 

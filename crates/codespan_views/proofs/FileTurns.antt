@@ -12,8 +12,8 @@ use Rattle.codespan_views.specs.Private.{IsIdAt, flat_map_indexed, lines_at, lin
 use Rattle.codespan_views.proofs.FileSlices.{IsFileSlice, from_file, next-file, next_slice}
 use Rattle.codespan_views.proofs.FilesInOrder.{is-id}
 use Rattle.codespan_views.proofs.IndexedElements.{IsElementAt}
-use Rattle.codespan_picture.proofs.ListElements.{all-both, all-mapped, all-slice, all-pass}
-use Rattle.codespan_picture.proofs.ListElements.{all-weaker}
+use Rattle.codespan_output.proofs.ListElements.{all-both, all-mapped, all-slice, all-pass}
+use Rattle.codespan_output.proofs.ListElements.{all-weaker}
 
 -- ---- ids at their indices
 

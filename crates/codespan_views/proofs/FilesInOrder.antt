@@ -8,8 +8,8 @@ use Rattle.codespan_core.proofs.Std.{nat_tests, true, false}
 use Rattle.std.proofs.lemmas.List.Sums.{fails_before_first, passes_at_first}
 use Rattle.std.proofs.lemmas.Simd.{map-map}
 use Rattle.codespan_core.specs.FileModel.{FileModel}
-use Rattle.codespan_picture.specs.Arguments.{locus_view}
-use Rattle.codespan_picture.specs.Snippets.{LabelInFile, has_any}
+use Rattle.codespan_output.specs.Arguments.{locus_view}
+use Rattle.codespan_output.specs.Snippets.{LabelInFile, has_any}
 use Rattle.codespan_views.specs.Private.{LeastStarts, RustFile, AreLabeledFiles, ids_view}
 use Rattle.codespan_views.specs.Private.{loci_view, with_labels, without_locus, IsIdAt}
 use Rattle.codespan_views.specs.Private.{index_of_file}

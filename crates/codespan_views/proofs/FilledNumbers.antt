@@ -7,8 +7,8 @@ use Rattle.std.specs.Option.{option_copied}
 use Rattle.std.specs.Slice.Iter.{iter_rest, iter_steps}
 use Rattle.std.specs.declared.slice.Iter.{Iter}
 use Rattle.codespan_core.specs.FileModel.{FileModel, Lookup}
-use Rattle.codespan_picture.specs.Types.{Layout, Classic, Unbroken}
-use Rattle.codespan_picture.specs.Lookups.{filled_line_lookups}
+use Rattle.codespan_output.specs.Types.{Layout, Classic, Unbroken}
+use Rattle.codespan_output.specs.Lookups.{filled_line_lookups}
 use Rattle.codespan_views.specs.Private.{Annotation, known_numbers, AreNumbersOf, gap_lines}
 use Rattle.codespan_views.specs.Private.{lookups_with, Break, Filled, lookups_of_filled}
 

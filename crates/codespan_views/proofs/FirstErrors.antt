@@ -3,8 +3,8 @@
 use Rattle.codespan_core.proofs.Std.{common_steps, ◌≡◌, zero, suc, List, [], ◌∷◌, ◌++◌, Option}
 use Rattle.codespan_core.proofs.Std.{None, Some, refl, sym, ap, ◌∙◌, arith, map-append}
 use Rattle.codespan_core.specs.FileModel.{Lookup, or_failure}
-use Rattle.codespan_picture.specs.Types.{Error}
-use Rattle.codespan_picture.specs.Lookups.{Failures, lookups_of_file, first_error, AllSucceed}
+use Rattle.codespan_output.specs.Types.{Error}
+use Rattle.codespan_output.specs.Lookups.{Failures, lookups_of_file, first_error, AllSucceed}
 
 -- ---- errors, one after another
 

@@ -13,10 +13,10 @@ use Rattle.codespan_views.proofs.FileLabels.{has_label_range, is_of_range}
 use Rattle.codespan_views.proofs.AnnotationOrder.{kind_rises, line_rises, lane_mark_annotation}
 use Rattle.codespan_views.proofs.SingleLabelOrder.{IsOn}
 use Rattle.codespan_views.proofs.LinesOfLabels.{is_kind}
-use Rattle.codespan_picture.proofs.OrderSorts.{has_range}
-use Rattle.codespan_picture.proofs.ListElements.{all-weaker, all-both, any-nothing, filter-filter}
-use Rattle.codespan_picture.proofs.SortedLists.{Rises}
-use Rattle.codespan_picture.proofs.SortedFilters.{reverse-cons}
+use Rattle.codespan_output.proofs.OrderSorts.{has_range}
+use Rattle.codespan_output.proofs.ListElements.{all-weaker, all-both, any-nothing, filter-filter}
+use Rattle.codespan_output.proofs.SortedLists.{Rises}
+use Rattle.codespan_output.proofs.SortedFilters.{reverse-cons}
 
 -- ---- the annotations of a group
 

@@ -11,25 +11,25 @@ use Rattle.codespan_core.specs.FileModel.{FileDatabase, Lookup}
 use Rattle.codespan_core.specs.Labels.{is_primary}
 use Rattle.codespan_core.specs.Streams.{Stream}
 use Rattle.codespan_core.specs.WriterLaw.{PrefixWritten, Sink, Writes, failed_frame, is_known}
-use Rattle.codespan_picture.specs.Types.{Diagnostic, Label, Error, FormatError, OutOfMemory, Config}
-use Rattle.codespan_picture.specs.Types.{DisplayStyle, Medium, Rich, Short}
-use Rattle.codespan_picture.specs.Lookups.{AllSucceed, first_error, header_lookups_of, lookups_in}
-use Rattle.codespan_picture.specs.OutputStreams.{AreLoci, IsLocus, NamesAreUtf8, context_of}
-use Rattle.codespan_picture.specs.OutputStreams.{label_locus_byte, label_of, notes_of, output}
-use Rattle.codespan_picture.specs.OutputStreams.{header_text_of, labels_of}
-use Rattle.codespan_picture.specs.Picture.{headers_at, stated_locus}
-use Rattle.codespan_picture.specs.Rows.{Locus}
-use Rattle.codespan_picture.specs.RowStreams.{stream_of_rows}
-use Rattle.codespan_picture.specs.Snippets.{LabelInFile, has_any, note_rows, header_rows}
-use Rattle.codespan_picture.specs.Snippets.{primary_of}
+use Rattle.codespan_output.specs.Types.{Diagnostic, Label, Error, FormatError, OutOfMemory, Config}
+use Rattle.codespan_output.specs.Types.{DisplayStyle, Medium, Rich, Short}
+use Rattle.codespan_output.specs.Lookups.{AllSucceed, first_error, header_lookups_of, lookups_in}
+use Rattle.codespan_output.specs.OutputStreams.{AreLoci, IsLocus, NamesAreUtf8, context_of}
+use Rattle.codespan_output.specs.OutputStreams.{label_locus_byte, label_of, notes_of, output}
+use Rattle.codespan_output.specs.OutputStreams.{header_text_of, labels_of}
+use Rattle.codespan_output.specs.Picture.{headers_at, stated_locus}
+use Rattle.codespan_output.specs.Rows.{Locus}
+use Rattle.codespan_output.specs.RowStreams.{stream_of_rows}
+use Rattle.codespan_output.specs.Snippets.{LabelInFile, has_any, note_rows, header_rows}
+use Rattle.codespan_output.specs.Snippets.{primary_of}
 use Rattle.codespan_views.specs.{style_with_notes, WritesStyled}
 use Rattle.codespan_views.specs.Private.{IsUtf8Locus, header_row_with_newline}
 use Rattle.codespan_core.proofs.Chains.{WroteStream, WrotePrefix, known-after, written-then}
 use Rattle.codespan_core.proofs.Chains.{writes-last}
 use Rattle.codespan_core.proofs.Writes.{PrefixWritten-first, PrefixWritten-last}
-use Rattle.codespan_picture.proofs.Loci.{locus_there, zip_append, zip_each, zip_length, zip_texts}
-use Rattle.codespan_picture.proofs.Loci.{zip_weaker}
-use Rattle.codespan_picture.proofs.RichLemmas.{other_output}
+use Rattle.codespan_output.proofs.Loci.{locus_there, zip_append, zip_each, zip_length, zip_texts}
+use Rattle.codespan_output.proofs.Loci.{zip_weaker}
+use Rattle.codespan_output.proofs.RichLemmas.{other_output}
 use Rattle.codespan_views.proofs.FirstErrors.{all_succeed, first_error-append, first_error-some}
 use Rattle.codespan_views.proofs.IndexedElements.{IsElementAt, take-at}
 use Rattle.codespan_views.proofs.Renderings.{PrefixWritten-none}

@@ -8,13 +8,13 @@ use Rattle.std.proofs.Math.Bool.{and-false}
 use Rattle.codespan_core.specs.FileModel.{FileModel, line_count}
 use Rattle.codespan_core.specs.Labels.{LabelModel, first_line, last_line, is_single, drawn_label}
 use Rattle.codespan_core.specs.Labels.{LaneMark, lane_mark_of, multi_label_on}
-use Rattle.codespan_picture.specs.Types.{Config}
-use Rattle.codespan_picture.specs.Lines.{shows}
-use Rattle.codespan_picture.specs.Lookups.{is_looked_up}
+use Rattle.codespan_output.specs.Types.{Config}
+use Rattle.codespan_output.specs.Lines.{shows}
+use Rattle.codespan_output.specs.Lookups.{is_looked_up}
 use Rattle.codespan_views.specs.Private.{Annotation, AnnotationKind, Single, Multi, is_on_line}
 use Rattle.codespan_views.specs.Private.{annotation_if_any, shows_line, line_annotations}
 use Rattle.codespan_views.specs.Private.{annotations_of, Shown}
-use Rattle.codespan_picture.proofs.ListElements.{all-append}
+use Rattle.codespan_output.proofs.ListElements.{all-append}
 use Rattle.codespan_views.proofs.LinesOfLabels.{is_kind, among-below, all-range, on-line, not_shown}
 use Rattle.codespan_views.proofs.LinesOfLabels.{no_multi_label, own_shown}
 

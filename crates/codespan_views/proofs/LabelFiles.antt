@@ -3,12 +3,12 @@
 use Rattle.codespan_core.proofs.Std.{common_steps, ◌≡◌, Bool, true, false, List, [], ◌∷◌, ◌++◌, map}
 use Rattle.codespan_core.proofs.Std.{arith, sym, ap, ◌∙◌, IsEquivalence, AllByRecursion, map-append}
 use Rattle.codespan_core.proofs.Std.{ℕ, ◌+◌, take, take-append-drop, drop}
-use Rattle.codespan_picture.specs.Types.{Label}
-use Rattle.codespan_picture.specs.Snippets.{LabelInFile, file_ids}
+use Rattle.codespan_output.specs.Types.{Label}
+use Rattle.codespan_output.specs.Snippets.{LabelInFile, file_ids}
 use Rattle.codespan_views.specs.Private.{with_file, index_of_file}
 use Rattle.codespan_views.proofs.FileIndices.{index-final, file_ids-more, has, none-of_file}
 use Rattle.codespan_views.proofs.FileIndices.{file_ids-last}
-use Rattle.codespan_picture.specs.OutputStreams.{label_of}
+use Rattle.codespan_output.specs.OutputStreams.{label_of}
 use Rattle.codespan_views.proofs.IndexedElements.{IsElementAt, take-at}
 
 module _ {Id : Type 0} {same : Id → Id → Bool} (o : IsEquivalence same) (xs : List (LabelInFile Id))

@@ -9,12 +9,12 @@ use Rattle.std.proofs.lemmas.List.Sums.{length-filter}
 use Rattle.codespan_core.specs.FileModel.{FileDatabase, FileModel, line_count}
 use Rattle.codespan_core.specs.LawfulFiles.{IsLawful}
 use Rattle.codespan_core.specs.Labels.{LabelModel, is_single}
-use Rattle.codespan_picture.specs.Types.{Config}
-use Rattle.codespan_picture.specs.Snippets.{LabelInFile, num_multi_labels}
+use Rattle.codespan_output.specs.Types.{Config}
+use Rattle.codespan_output.specs.Snippets.{LabelInFile, num_multi_labels}
 use Rattle.codespan_views.specs.Private.{num_multi_labels_of, with_labels, file_least_starts}
 use Rattle.codespan_views.specs.Private.{least_starts_with, no_starts, index_of_file}
 use Rattle.codespan_views.specs.Private.{annotations_of_next, annotations_after, AreDistinct}
-use Rattle.codespan_picture.proofs.ListElements.{filter-nothing}
+use Rattle.codespan_output.proofs.ListElements.{filter-nothing}
 use Rattle.codespan_views.proofs.FileIndices.{has}
 use Rattle.codespan_views.proofs.LocusBytes.{start-others, start-own, start-unknown}
 

@@ -8,12 +8,12 @@ use Rattle.codespan_core.proofs.Std.{length-take-le}
 use Rattle.std.proofs.lemmas.List.{map-set}
 use Rattle.codespan_core.specs.FileModel.{FileDatabase, FileModel}
 use Rattle.codespan_core.specs.FileModel.Lookup.{LineIndex}
-use Rattle.codespan_picture.specs.Types.{Config, Label, Error}
-use Rattle.codespan_picture.specs.Lookups.{lookups_of_file, first_error, label_lookups}
-use Rattle.codespan_picture.specs.Lookups.{label_line_lookups}
-use Rattle.codespan_picture.specs.OutputStreams.{label_of}
-use Rattle.codespan_picture.specs.Snippets.{LabelInFile, file_ids}
-use Rattle.codespan_picture.specs.declared.padding.PaddingWidth.{PaddingWidth}
+use Rattle.codespan_output.specs.Types.{Config, Label, Error}
+use Rattle.codespan_output.specs.Lookups.{lookups_of_file, first_error, label_lookups}
+use Rattle.codespan_output.specs.Lookups.{label_line_lookups}
+use Rattle.codespan_output.specs.OutputStreams.{label_of}
+use Rattle.codespan_output.specs.Snippets.{LabelInFile, file_ids}
+use Rattle.codespan_output.specs.declared.padding.PaddingWidth.{PaddingWidth}
 use Rattle.codespan_views.specs.Private.{RustAnnotation, RustFile, FindsLabelAnnotations}
 use Rattle.codespan_views.specs.Private.{LabelToCollect, WidensPadding, labels_failure}
 use Rattle.codespan_views.specs.Private.{lines_failure, Annotation, failure_in, annotations_of}
@@ -23,8 +23,8 @@ use Rattle.codespan_views.specs.Private.{num_multi_labels_of, with_file, with_la
 use Rattle.codespan_views.specs.Private.{least_starts_with, no_starts, IsIdAt, index_of_file}
 use Rattle.codespan_views.specs.Private.{annotations_after, annotations_of_next, all_digit_counts}
 use Rattle.codespan_views.specs.Private.{label_digit_counts}
-use Rattle.codespan_picture.proofs.Greatest.{greatest-append}
-use Rattle.codespan_picture.proofs.ListElements.{all-both, all-mapped, all-weaker}
+use Rattle.codespan_output.proofs.Greatest.{greatest-append}
+use Rattle.codespan_output.proofs.ListElements.{all-both, all-mapped, all-weaker}
 use Rattle.codespan_views.proofs.FileIndices.{first_seen-differ, has-index, index_of_file-at}
 use Rattle.codespan_views.proofs.Collecting.{AppendsAnnotations-as, AppendsAnnotations-both}
 use Rattle.codespan_views.proofs.LabelAnnotations.{all-of_file}

@@ -6,12 +6,12 @@ use Rattle.codespan_core.proofs.Std.{enumerate_from, filter_map, nat_tests, and_
 use Rattle.codespan_core.specs.FileModel.{FileModel}
 use Rattle.codespan_core.specs.Labels.{LabelModel, LaneMark, lane_mark_of, lane_marks_on}
 use Rattle.codespan_core.specs.Labels.{multi_label_on}
-use Rattle.codespan_picture.specs.Arguments.{ascend_from}
-use Rattle.codespan_picture.specs.Snippets.{LabeledFileModel, num_multi_labels}
+use Rattle.codespan_output.specs.Arguments.{ascend_from}
+use Rattle.codespan_output.specs.Snippets.{LabeledFileModel, num_multi_labels}
 use Rattle.codespan_views.specs.Private.{is_before}
 use Rattle.codespan_views.proofs.AnnotationOrder.{lane_below, lane_mark_annotation}
-use Rattle.codespan_picture.proofs.ListElements.{all-weaker}
-use Rattle.codespan_picture.proofs.SortedLists.{Climbs}
+use Rattle.codespan_output.proofs.ListElements.{all-weaker}
+use Rattle.codespan_output.proofs.SortedLists.{Climbs}
 
 -- ---- the lane marks of a file's labels
 

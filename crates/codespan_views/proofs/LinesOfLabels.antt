@@ -5,12 +5,12 @@ use Rattle.codespan_core.proofs.Std.{false, cond, ◌==◌, nat_lt, nat_le, ◌&
 use Rattle.codespan_core.proofs.Std.{filter, flat_map, None, arith, range_with_len, AllByRecursion}
 use Rattle.codespan_core.proofs.Std.{eq-eqb, ne_eqb, nat_tests, append-nil, filter-append}
 use Rattle.codespan_core.specs.Labels.{LabelModel, multi_label_at}
-use Rattle.codespan_picture.specs.Types.{Config}
-use Rattle.codespan_picture.specs.Lines.{shows}
-use Rattle.codespan_picture.specs.Lines.{is_around}
+use Rattle.codespan_output.specs.Types.{Config}
+use Rattle.codespan_output.specs.Lines.{shows}
+use Rattle.codespan_output.specs.Lines.{is_around}
 use Rattle.codespan_views.specs.Private.{Annotation, rank_of, is_on_line}
-use Rattle.codespan_picture.proofs.ListElements.{all-append, filter-whole, filter-nothing}
-use Rattle.codespan_picture.proofs.ListElements.{all-weaker}
+use Rattle.codespan_output.proofs.ListElements.{all-append, filter-whole, filter-nothing}
+use Rattle.codespan_output.proofs.ListElements.{all-weaker}
 
 -- the annotation is of this kind
 abbrev pub is_kind : ℕ → Annotation → Bool

@@ -6,9 +6,9 @@ use Rattle.codespan_core.proofs.Std.{arith, common_steps}
 use Rattle.codespan_core.specs.FileModel.{FileDatabase, or_failure}
 use Rattle.codespan_core.specs.Streams.{Stream}
 use Rattle.codespan_core.specs.WriterLaw.{Sink}
-use Rattle.codespan_picture.specs.Types.{Error}
-use Rattle.codespan_picture.specs.RowStreams.{stream_of_rows}
-use Rattle.codespan_picture.specs.Private.LineViews.{context_view}
+use Rattle.codespan_output.specs.Types.{Error}
+use Rattle.codespan_output.specs.RowStreams.{stream_of_rows}
+use Rattle.codespan_output.specs.Private.LineViews.{context_view}
 use Rattle.codespan_views.specs.declared.snippet.Snippet.{Snippet}
 use Rattle.codespan_views.specs.Private.{lookups_with, HasLines, RendersLines, SnippetLine, Labeled}
 use Rattle.codespan_views.specs.Private.{Filled, Break, filled_lines_of, rows_of_lines, failure_of}

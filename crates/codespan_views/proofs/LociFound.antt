@@ -7,12 +7,12 @@ use Rattle.std.proofs.Math.Seq.{map-set_same}
 use Rattle.std.proofs.lemmas.List.{drop-set-lt, take_more_set}
 use Rattle.codespan_core.specs.FileModel.{FileModel, Lookup, or_failure}
 use Rattle.codespan_core.specs.FileModel.Lookup.{LocationAt, Name}
-use Rattle.codespan_picture.specs.Types.{Error}
-use Rattle.codespan_picture.specs.Lookups.{Failures, first_error, lookups_of_file}
+use Rattle.codespan_output.specs.Types.{Error}
+use Rattle.codespan_output.specs.Lookups.{Failures, first_error, lookups_of_file}
 use Rattle.codespan_views.specs.Private.{RustFile, LeastStarts, KeepsLabels, without_locus}
 use Rattle.codespan_views.specs.Private.{HasLocus, locus_lookups_of, locus_lookups_of_files}
 use Rattle.codespan_views.specs.Private.{locus_byte}
-use Rattle.codespan_picture.proofs.ListElements.{all-append}
+use Rattle.codespan_output.proofs.ListElements.{all-append}
 use Rattle.codespan_views.proofs.FirstErrors.{first_error-append}
 use Rattle.codespan_views.proofs.IndexedElements.{IsElementAt, drop-one}
 

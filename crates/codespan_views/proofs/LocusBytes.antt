@@ -4,10 +4,10 @@ use Rattle.codespan_core.proofs.Std.{common_steps, rules, arith, ◌≡◌, ℕ,
 use Rattle.codespan_core.proofs.Std.{[], ◌∷◌, ◌++◌, Some, append-nil, if◌then◌else◌, AllByRecursion}
 use Rattle.codespan_core.proofs.Std.{map-append, filter-append, fold-append, not, ◌&&◌, ◌||◌}
 use Rattle.codespan_core.specs.Labels.{is_primary}
-use Rattle.codespan_picture.specs.Snippets.{LabelInFile}
+use Rattle.codespan_output.specs.Snippets.{LabelInFile}
 use Rattle.codespan_views.specs.Private.{file_least_starts, least_if_any, least_with, no_starts}
 use Rattle.codespan_views.specs.Private.{least_starts_with, label_starts}
-use Rattle.codespan_picture.proofs.ListElements.{all-weaker, filter-nothing}
+use Rattle.codespan_output.proofs.ListElements.{all-weaker, filter-nothing}
 
 -- the least of some numbers and one more
 least-more : (ns : List ℕ) (n : ℕ)

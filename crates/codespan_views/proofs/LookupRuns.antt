@@ -7,7 +7,7 @@ use Rattle.codespan_core.specs.Errors.{IsIo}
 use Rattle.codespan_core.specs.FileModel.{or_failure}
 use Rattle.codespan_core.specs.Streams.{Stream}
 use Rattle.codespan_core.specs.WriterLaw.{Sink, Writes, PrefixWritten}
-use Rattle.codespan_picture.specs.Types.{Error, OutOfMemory}
+use Rattle.codespan_output.specs.Types.{Error, OutOfMemory}
 use Rattle.codespan_views.specs.Private.{FailedWithLookups, WritesWithLookups}
 use Rattle.codespan_core.proofs.Chains.{WrotePrefix, written-then, failed-before, failed-then}
 use Rattle.codespan_core.proofs.Chains.{known-after}

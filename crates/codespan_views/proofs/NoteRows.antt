@@ -4,10 +4,10 @@ use Rattle.codespan_core.proofs.Std.{◌≡◌, ℕ, ◌+◌, List, [], ◌∷�
 use Rattle.codespan_core.proofs.Std.{flat_map-append, append-nil, map-append, take-append-drop}
 use Rattle.std.specs.Str.Lines.{lines}
 use Rattle.codespan_core.specs.Streams.{Stream, newline}
-use Rattle.codespan_picture.specs.Rows.{RowContext, FinalRow, LaterNoteRow}
-use Rattle.codespan_picture.specs.RowStreams.{first_note_row, later_note_row, stream_of_rows}
-use Rattle.codespan_picture.specs.RenderedRows.{later_note_rows_stream, note_stream}
-use Rattle.codespan_picture.specs.Snippets.{note_rows, note_line_rows}
+use Rattle.codespan_output.specs.Rows.{RowContext, FinalRow, LaterNoteRow}
+use Rattle.codespan_output.specs.RowStreams.{first_note_row, later_note_row, stream_of_rows}
+use Rattle.codespan_output.specs.RenderedRows.{later_note_rows_stream, note_stream}
+use Rattle.codespan_output.specs.Snippets.{note_rows, note_line_rows}
 use Rattle.codespan_views.proofs.IndexedElements.{IsElementAt, take-at}
 
 module _ (context : RowContext) where

@@ -6,13 +6,13 @@ use Rattle.codespan_core.proofs.Std.{common_steps}
 use Rattle.std.proofs.Math.Nat.{max_comm}
 use Rattle.codespan_core.specs.FileModel.{FileModel, Lookup}
 use Rattle.codespan_core.specs.FileModel.Lookup.{LineNumber}
-use Rattle.codespan_picture.specs.Types.{Error}
-use Rattle.codespan_picture.specs.Lookups.{Failures, first_error, lookups_of_file}
-use Rattle.codespan_picture.specs.Padding.{count_digits}
+use Rattle.codespan_output.specs.Types.{Error}
+use Rattle.codespan_output.specs.Lookups.{Failures, first_error, lookups_of_file}
+use Rattle.codespan_output.specs.Padding.{count_digits}
 use Rattle.codespan_views.specs.Private.{RustFile, Annotation, digit_counts_of, flat_map_indexed}
 use Rattle.codespan_views.specs.Private.{lines_at, numbers_of, gap_lines, number_lookups, ids_view}
 use Rattle.codespan_views.specs.Private.{Labeled, SnippetLine, drawn_lines_of, filled_lines_of}
-use Rattle.codespan_picture.proofs.Greatest.{greatest-append}
+use Rattle.codespan_output.proofs.Greatest.{greatest-append}
 use Rattle.codespan_views.proofs.FilesInOrder.{id-at, id-inside}
 use Rattle.codespan_views.proofs.FirstErrors.{first_error-append}
 use Rattle.codespan_views.proofs.IndexedElements.{IsElementAt, drop-one}

@@ -1,12 +1,12 @@
 -- Loci of a rich output with UTF-8 names, for the clause `renders` of `RichDiagnostic::render`.
 use Rattle.codespan_core.proofs.Std.{List, AllZip}
 use Rattle.codespan_core.specs.FileModel.{FileDatabase}
-use Rattle.codespan_picture.specs.Types.{Rich, Diagnostic}
-use Rattle.codespan_picture.specs.OutputStreams.{AreLoci, IsLocus, NamesAreUtf8, files_of}
-use Rattle.codespan_picture.specs.OutputStreams.{snippet_locus_byte}
-use Rattle.codespan_picture.specs.Rows.{Locus}
+use Rattle.codespan_output.specs.Types.{Rich, Diagnostic}
+use Rattle.codespan_output.specs.OutputStreams.{AreLoci, IsLocus, NamesAreUtf8, files_of}
+use Rattle.codespan_output.specs.OutputStreams.{snippet_locus_byte}
+use Rattle.codespan_output.specs.Rows.{Locus}
 use Rattle.codespan_views.specs.Private.{IsLocusOfFile}
-use Rattle.codespan_picture.proofs.Loci.{zip_map, zip_texts, zip_weaker}
+use Rattle.codespan_output.proofs.Loci.{zip_map, zip_texts, zip_weaker}
 
 module _ {Id : Type 0} (files : FileDatabase Id) (d : Diagnostic Id) (loci : List Locus)
     (are : AllZip IsLocusOfFile (files_of files d) loci) where

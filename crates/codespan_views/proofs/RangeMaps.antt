@@ -4,8 +4,8 @@ use Rattle.codespan_core.proofs.Std.{◌≡◌, ℕ, ◌+◌, ◌<◌, ◌≤◌
 use Rattle.codespan_core.proofs.Std.{◌∷◌, ◌++◌, refl, arith, nat_lt, nat_le, if◌then◌else◌, filter}
 use Rattle.codespan_core.proofs.Std.{flat_map, common_steps, zero, suc, ◌-◌}
 use Rattle.codespan_core.proofs.Std.{range_with_len, flat_map-append}
-use Rattle.codespan_picture.specs.Lines.{spans}
-use Rattle.codespan_picture.proofs.CaretLemmas.{range_with_len-append}
+use Rattle.codespan_output.specs.Lines.{spans}
+use Rattle.codespan_output.proofs.CaretLemmas.{range_with_len-append}
 
 -- the images of the elements that pass a test
 pub flat_map_filtered : {X : Type 0} (h : ℕ → List X) (p : ℕ → Bool) (ls : List ℕ)

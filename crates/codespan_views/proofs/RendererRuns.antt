@@ -6,9 +6,9 @@ use Rattle.std.specs.Borrow.{GName}
 use Rattle.std.specs.Result.{IsErrAnd}
 use Rattle.codespan_core.specs.Streams.{Stream}
 use Rattle.codespan_core.specs.WriterLaw.{Sink, is_known, with_written}
-use Rattle.codespan_picture.specs.Types.{Error, Config}
-use Rattle.codespan_picture.specs.Rows.{Row, RowContext}
-use Rattle.codespan_picture.specs.RowStreams.{stream_of_rows}
+use Rattle.codespan_output.specs.Types.{Error, Config}
+use Rattle.codespan_output.specs.Rows.{Row, RowContext}
+use Rattle.codespan_output.specs.RowStreams.{stream_of_rows}
 use Rattle.codespan_renderer.specs.declared.term.renderer.Renderer.{Renderer}
 use Rattle.codespan_renderer.specs.Private.RowWriters.{inner_reference, inner_writer}
 use Rattle.codespan_renderer.specs.Private.RowWriters.{row_writer_sink}

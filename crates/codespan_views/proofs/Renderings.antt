@@ -7,19 +7,19 @@ use Rattle.codespan_core.specs.Errors.{IsIo}
 use Rattle.codespan_core.specs.FileModel.{FileDatabase, Lookup}
 use Rattle.codespan_core.specs.Streams.{Stream}
 use Rattle.codespan_core.specs.WriterLaw.{Sink, PrefixWritten, Writes}
-use Rattle.codespan_picture.specs.Types.{Config, Diagnostic, Error, FormatError, OutOfMemory, Rich}
-use Rattle.codespan_picture.specs.OutputStreams.{NamesAreUtf8, files_of, labels_of, output}
-use Rattle.codespan_picture.specs.Picture.{stated_loci}
-use Rattle.codespan_picture.specs.Rows.{Locus}
-use Rattle.codespan_picture.specs.Lookups.{early_lookups, late_lookups, first_error}
-use Rattle.codespan_picture.specs.RichLaws.{IsOutput}
+use Rattle.codespan_output.specs.Types.{Config, Diagnostic, Error, FormatError, OutOfMemory, Rich}
+use Rattle.codespan_output.specs.OutputStreams.{NamesAreUtf8, files_of, labels_of, output}
+use Rattle.codespan_output.specs.Picture.{stated_loci}
+use Rattle.codespan_output.specs.Rows.{Locus}
+use Rattle.codespan_output.specs.Lookups.{early_lookups, late_lookups, first_error}
+use Rattle.codespan_output.specs.RichLaws.{IsOutput}
 use Rattle.codespan_views.specs.{WritesStyled}
 use Rattle.codespan_views.specs.Private.{FailedWithLookups, WritesWithLookups, IsLocusOfFile}
 use Rattle.codespan_views.specs.Private.{late_failure}
 use Rattle.codespan_core.proofs.Chains.{WrotePrefix}
 use Rattle.codespan_core.proofs.KnownBytes.{extended-nil}
-use Rattle.codespan_picture.proofs.Loci.{stated_are_loci}
-use Rattle.codespan_picture.proofs.RichLemmas.{rich_output}
+use Rattle.codespan_output.proofs.Loci.{stated_are_loci}
+use Rattle.codespan_output.proofs.RichLemmas.{rich_output}
 use Rattle.codespan_views.proofs.EmitErrors.{some_fails}
 use Rattle.codespan_views.proofs.FirstErrors.{first_error-some, first_error-none, all_succeed}
 use Rattle.codespan_views.proofs.LabelIndexing.{AreFiles}

@@ -7,15 +7,15 @@ use Rattle.codespan_core.specs.Errors.{IsIo}
 use Rattle.codespan_core.specs.FileModel.{FileDatabase}
 use Rattle.codespan_core.specs.Streams.{Stream, newline}
 use Rattle.codespan_core.specs.WriterLaw.{Sink, Writes}
-use Rattle.codespan_picture.specs.Types.{Config, Rich, Diagnostic, Label, Error, FormatError}
-use Rattle.codespan_picture.specs.Types.{OutOfMemory}
-use Rattle.codespan_picture.specs.Lookups.{early_lookups, first_error, late_lookups}
-use Rattle.codespan_picture.specs.OutputStreams.{header_text_of, label_of, labels_of, context_of}
-use Rattle.codespan_picture.specs.OutputStreams.{notes_of}
-use Rattle.codespan_picture.specs.Padding.{padding_of}
-use Rattle.codespan_picture.specs.Rows.{FinalRow, HeaderRow, Row}
-use Rattle.codespan_picture.specs.RowStreams.{stream_of, stream_of_rows}
-use Rattle.codespan_picture.specs.Snippets.{LabelInFile, labeled_file_models, note_rows}
+use Rattle.codespan_output.specs.Types.{Config, Rich, Diagnostic, Label, Error, FormatError}
+use Rattle.codespan_output.specs.Types.{OutOfMemory}
+use Rattle.codespan_output.specs.Lookups.{early_lookups, first_error, late_lookups}
+use Rattle.codespan_output.specs.OutputStreams.{header_text_of, label_of, labels_of, context_of}
+use Rattle.codespan_output.specs.OutputStreams.{notes_of}
+use Rattle.codespan_output.specs.Padding.{padding_of}
+use Rattle.codespan_output.specs.Rows.{FinalRow, HeaderRow, Row}
+use Rattle.codespan_output.specs.RowStreams.{stream_of, stream_of_rows}
+use Rattle.codespan_output.specs.Snippets.{LabelInFile, labeled_file_models, note_rows}
 use Rattle.codespan_views.specs.Private.{Collected, IsLookedUpEarly, loci_view, labels_failure}
 use Rattle.codespan_views.specs.Private.{WritesWithLookups, IsLocusOfFile, RendersSnippets}
 use Rattle.codespan_views.specs.Private.{closing_rows, header_row_with_newline, late_failure}

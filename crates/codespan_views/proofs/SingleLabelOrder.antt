@@ -3,12 +3,12 @@
 use Rattle.codespan_core.proofs.Std.{◌≡◌, ℕ, ◌≤◌, false, true, List, [], ◌∷◌, refl, arith}
 use Rattle.codespan_core.proofs.Std.{AllByRecursion, nat_tests, common_steps, sym, ◌∙◌, cons_option}
 use Rattle.codespan_core.specs.Labels.{LabelModel, range_precedes}
-use Rattle.codespan_picture.specs.Arguments.{starts_from, starts_in_order}
-use Rattle.codespan_picture.proofs.OrderSorts.{Ascends}
-use Rattle.codespan_picture.proofs.ListElements.{all-weaker}
+use Rattle.codespan_output.specs.Arguments.{starts_from, starts_in_order}
+use Rattle.codespan_output.proofs.OrderSorts.{Ascends}
+use Rattle.codespan_output.proofs.ListElements.{all-weaker}
 use Rattle.codespan_views.specs.Private.{Annotation, AnnotationKind, Shown, Single, Multi}
 use Rattle.codespan_views.specs.Private.{is_before, single_label_of, single_labels_in}
-use Rattle.codespan_picture.proofs.SortedLists.{Rises}
+use Rattle.codespan_output.proofs.SortedLists.{Rises}
 use Rattle.codespan_views.proofs.AnnotationOrder.{range_rises}
 
 -- ---- labels by their ranges

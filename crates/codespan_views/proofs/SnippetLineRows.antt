@@ -6,17 +6,17 @@ use Rattle.codespan_core.proofs.Std.{flat_map, Option, None, refl, sym, ◌∙�
 use Rattle.codespan_core.proofs.Std.{AllByRecursion, append-nil}
 use Rattle.std.proofs.lemmas.List.Concat.{flat_map_single}
 use Rattle.codespan_core.specs.FileModel.{FileModel}
-use Rattle.codespan_picture.specs.Rows.{Line}
-use Rattle.codespan_picture.specs.Sequences.{break_between, in_sequence}
-use Rattle.codespan_picture.specs.Snippets.{break_rows, line_rows}
+use Rattle.codespan_output.specs.Rows.{Line}
+use Rattle.codespan_output.specs.Sequences.{break_between, in_sequence}
+use Rattle.codespan_output.specs.Snippets.{break_rows, line_rows}
 use Rattle.codespan_views.specs.Private.{Annotation, SnippetLine, Labeled, Filled, Break}
 use Rattle.codespan_views.specs.Private.{line_of_group, rows_of_line, rows_of_lines, filled_line_of}
 use Rattle.codespan_views.specs.Private.{filled_lines_of, drawn_line_of, drawn_lines_of}
 use Rattle.codespan_views.specs.Private.{are_annotations_in_order, are_lane_marks_in_order}
 use Rattle.codespan_views.specs.Private.{is_line_in_order}
-use Rattle.codespan_picture.proofs.Filling.{given, is_drawn_among, lines-shown}
-use Rattle.codespan_picture.proofs.Sequences.{all-gap, all-sequence, flat_map-gap}
-use Rattle.codespan_picture.proofs.Sequences.{flat_map-sequence, sequence-flat}
+use Rattle.codespan_output.proofs.Filling.{given, is_drawn_among, lines-shown}
+use Rattle.codespan_output.proofs.Sequences.{all-gap, all-sequence, flat_map-gap}
+use Rattle.codespan_output.proofs.Sequences.{flat_map-sequence, sequence-flat}
 use Rattle.codespan_views.proofs.AnnotationGroups.{lines_after}
 
 -- ---- the elements of snippet lines

@@ -5,9 +5,9 @@ use Rattle.codespan_core.proofs.Std.{map, filter, refl, unwrap_or}
 use Rattle.codespan_core.specs.FileModel.{FileModel}
 use Rattle.codespan_core.specs.Labels.{LabelModel, is_primary}
 use Rattle.std.proofs.lemmas.Simd.{map-map}
-use Rattle.codespan_picture.specs.Snippets.{LabelInFile, labeled_file_model, least, locus_byte_of}
-use Rattle.codespan_picture.proofs.ListElements.{filter-filter}
-use Rattle.codespan_picture.proofs.RefillLemmas.{filter-map}
+use Rattle.codespan_output.specs.Snippets.{LabelInFile, labeled_file_model, least, locus_byte_of}
+use Rattle.codespan_output.proofs.ListElements.{filter-filter}
+use Rattle.codespan_output.proofs.RefillLemmas.{filter-map}
 use Rattle.codespan_views.specs.Private.{file_least_starts, least_if_any, locus_byte, label_starts}
 
 -- the least of some numbers is that of those that there are

@@ -8,16 +8,16 @@ use Rattle.codespan_core.specs.FileModel.{FileDatabase, FileModel, Lookup, or_fa
 use Rattle.codespan_core.specs.FileModel.Lookup.{Source}
 use Rattle.codespan_core.specs.Streams.{Stream}
 use Rattle.codespan_core.specs.WriterLaw.{Sink}
-use Rattle.codespan_picture.specs.Types.{Diagnostic, Error, Layout, Classic, Unbroken, Config}
-use Rattle.codespan_picture.specs.Arguments.{locus_view}
-use Rattle.codespan_picture.specs.Lookups.{filled_lines, first_error, lookups_of_file}
-use Rattle.codespan_picture.specs.Lookups.{snippet_lookups}
-use Rattle.codespan_picture.specs.OutputStreams.{labels_of, notes_of}
-use Rattle.codespan_picture.specs.Rows.{Locus, Row, RowContext}
-use Rattle.codespan_picture.specs.RowStreams.{stream_of_rows}
-use Rattle.codespan_picture.specs.Lines.{drawn_lines}
-use Rattle.codespan_picture.specs.Snippets.{rows_of_drawn, empty_row_after, LabeledFileModel}
-use Rattle.codespan_picture.specs.Snippets.{has_any, labeled_file_model, num_multi_labels, snippets}
+use Rattle.codespan_output.specs.Types.{Diagnostic, Error, Layout, Classic, Unbroken, Config}
+use Rattle.codespan_output.specs.Arguments.{locus_view}
+use Rattle.codespan_output.specs.Lookups.{filled_lines, first_error, lookups_of_file}
+use Rattle.codespan_output.specs.Lookups.{snippet_lookups}
+use Rattle.codespan_output.specs.OutputStreams.{labels_of, notes_of}
+use Rattle.codespan_output.specs.Rows.{Locus, Row, RowContext}
+use Rattle.codespan_output.specs.RowStreams.{stream_of_rows}
+use Rattle.codespan_output.specs.Lines.{drawn_lines}
+use Rattle.codespan_output.specs.Snippets.{rows_of_drawn, empty_row_after, LabeledFileModel}
+use Rattle.codespan_output.specs.Snippets.{has_any, labeled_file_model, num_multi_labels, snippets}
 use Rattle.codespan_views.specs.Private.{Collected, RustFile, IsLookedUpEarly, known_numbers}
 use Rattle.codespan_views.specs.Private.{known_numbers_of_labels, AreNumbersOf, lookups_with}
 use Rattle.codespan_views.specs.Private.{ids_view, loci_view, WritesWithLookups, SnippetLine}

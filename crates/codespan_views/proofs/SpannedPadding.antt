@@ -8,18 +8,18 @@ use Rattle.codespan_core.proofs.Std.{and_parts, eq-eqb, true≢false, flat_map-m
 use Rattle.codespan_core.proofs.Std.{length-map, get_or-map}
 use Rattle.codespan_core.specs.FileModel.{FileModel, line_count}
 use Rattle.codespan_core.specs.Labels.{LabelModel}
-use Rattle.codespan_picture.specs.Types.{Config, Classic}
-use Rattle.codespan_picture.specs.Padding.{count_digits, digits_of, numbered_lines, padding_of}
-use Rattle.codespan_picture.specs.Padding.{spanned_lines}
-use Rattle.codespan_picture.specs.Snippets.{LabelInFile, LabeledFileModel, labeled_file_model}
-use Rattle.codespan_picture.specs.Snippets.{labeled_file_models, file_ids}
+use Rattle.codespan_output.specs.Types.{Config, Classic}
+use Rattle.codespan_output.specs.Padding.{count_digits, digits_of, numbered_lines, padding_of}
+use Rattle.codespan_output.specs.Padding.{spanned_lines}
+use Rattle.codespan_output.specs.Snippets.{LabelInFile, LabeledFileModel, labeled_file_model}
+use Rattle.codespan_output.specs.Snippets.{labeled_file_models, file_ids}
 use Rattle.codespan_views.specs.Private.{is_spanned}
 use Rattle.codespan_views.specs.Private.{index_of_file, all_digit_counts, digit_count_if_spanned}
 use Rattle.codespan_views.specs.Private.{label_digit_counts}
-use Rattle.codespan_picture.proofs.Greatest.{greatest-any, greatest-append, greatest-same}
-use Rattle.codespan_picture.proofs.PaddingLemmas.{contains-filter, contains-range, numbered-fits}
-use Rattle.codespan_picture.proofs.RefillLemmas.{any-map}
-use Rattle.codespan_picture.proofs.ListElements.{all-append, any-filtered}
+use Rattle.codespan_output.proofs.Greatest.{greatest-any, greatest-append, greatest-same}
+use Rattle.codespan_output.proofs.PaddingLemmas.{contains-filter, contains-range, numbered-fits}
+use Rattle.codespan_output.proofs.RefillLemmas.{any-map}
+use Rattle.codespan_output.proofs.ListElements.{all-append, any-filtered}
 use Rattle.codespan_views.proofs.FileIndices.{file_ids-has, at-get, index_of_file-at, has-index}
 
 -- ---- what holds of all elements

@@ -1,15 +1,15 @@
 -- What an error of a call that emits a diagnostic means: which lookup failed first, and what has
 -- been written by then.
 use Rattle.std.specs.Prelude.{◌≡◌, ◌⊎◌, List, ◌∷◌, ◌++◌, flat_map, length, take, Some, Contains}
-use Rattle.codespan_picture.specs.Types.{Diagnostic, Error, FormatError, Config, DisplayStyle, Rich}
-use Rattle.codespan_picture.specs.Types.{Medium, Short}
+use Rattle.codespan_output.specs.Types.{Diagnostic, Error, FormatError, Config, DisplayStyle, Rich}
+use Rattle.codespan_output.specs.Types.{Medium, Short}
 use Rattle.codespan_core.specs.Errors.{IsIo}
 use Rattle.codespan_core.specs.FileModel.{FileDatabase, Lookup}
-use Rattle.codespan_picture.specs.Lookups.{AllSucceed, IsLookupError, early_lookups, first_error}
-use Rattle.codespan_picture.specs.Lookups.{header_lookups_of, late_lookups, lookups_in}
-use Rattle.codespan_picture.specs.OutputStreams.{labels_of}
-use Rattle.codespan_picture.specs.Rows.{Locus}
-use Rattle.codespan_picture.specs.Snippets.{LabelInFile, primary_of}
+use Rattle.codespan_output.specs.Lookups.{AllSucceed, IsLookupError, early_lookups, first_error}
+use Rattle.codespan_output.specs.Lookups.{header_lookups_of, late_lookups, lookups_in}
+use Rattle.codespan_output.specs.OutputStreams.{labels_of}
+use Rattle.codespan_output.specs.Rows.{Locus}
+use Rattle.codespan_output.specs.Snippets.{LabelInFile, primary_of}
 
 -- one of these lookups fails with this error
 pub record FailsWith {Id : Type 0} (files : FileDatabase Id) (lookups : List (Id × Lookup))

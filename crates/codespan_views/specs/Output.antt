@@ -1,12 +1,12 @@
 -- What the calls that return the text of a diagnostic or append it to a string do.
 use Rattle.std.specs.Prelude.{◌≡◌, ℕ, ◌⊎◌, List, ◌++◌}
-use Rattle.codespan_picture.specs.Types.{Diagnostic, Error, OutOfMemory, Config, DisplayStyle}
+use Rattle.codespan_output.specs.Types.{Diagnostic, Error, OutOfMemory, Config, DisplayStyle}
 use Rattle.codespan_core.specs.FileModel.{FileDatabase}
 use Rattle.codespan_core.specs.Streams.{Stream, text_of}
-use Rattle.codespan_picture.specs.RichLaws.{IsOutput, MeansLabels}
-use Rattle.codespan_picture.specs.OutputStreams.{NamesAreUtf8}
-use Rattle.codespan_picture.specs.Rows.{Locus}
-use Rattle.codespan_picture.specs.Lookups.{AllSucceed, IsLookupError, lookups_in}
+use Rattle.codespan_output.specs.RichLaws.{IsOutput, MeansLabels}
+use Rattle.codespan_output.specs.OutputStreams.{NamesAreUtf8}
+use Rattle.codespan_output.specs.Rows.{Locus}
+use Rattle.codespan_output.specs.Lookups.{AllSucceed, IsLookupError, lookups_in}
 
 module _ {Id : Type 0} (config : Config) (files : FileDatabase Id) (d : Diagnostic Id) where
   -- no lookup failed, and each name is a text

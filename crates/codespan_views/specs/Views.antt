@@ -1,6 +1,6 @@
 -- The views, as their contracts see them: a diagnostic, and a configuration or a style.
 use Rattle.std.specs.Prelude.{Bool, if◌then◌else◌}
-use Rattle.codespan_picture.specs.Types.{Diagnostic, Config, DisplayStyle, Medium, Short}
+use Rattle.codespan_output.specs.Types.{Diagnostic, Config, DisplayStyle, Medium, Short}
 use Rattle.codespan_views.specs.declared.rich.RichDiagnostic.{RichDiagnostic}
 use Rattle.codespan_views.specs.declared.short.ShortDiagnostic.{ShortDiagnostic}
 

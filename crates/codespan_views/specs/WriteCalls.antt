@@ -1,13 +1,13 @@
 -- What the calls that write a diagnostic do: those that write plain text, and those that write to a
 -- writer of styles. `EmitErrors` says what an error means.
 use Rattle.std.specs.Prelude.{◌≡◌, true, ℕ, List, Option, Result, MatchResult}
-use Rattle.codespan_picture.specs.Types.{Diagnostic, Error, Config, DisplayStyle}
+use Rattle.codespan_output.specs.Types.{Diagnostic, Error, Config, DisplayStyle}
 use Rattle.codespan_core.specs.FileModel.{FileDatabase}
 use Rattle.codespan_core.specs.Streams.{Stream, text_of}
 use Rattle.codespan_core.specs.WriterLaw.{AppendsBytes, WritesOrPrefix, Sink, extended, is_known}
 use Rattle.codespan_core.specs.WriterLaw.{failed_frame, with_written, are_known}
-use Rattle.codespan_picture.specs.RichLaws.{IsOutput}
-use Rattle.codespan_picture.specs.Picture.{headers_at}
+use Rattle.codespan_output.specs.RichLaws.{IsOutput}
+use Rattle.codespan_output.specs.Picture.{headers_at}
 use Rattle.codespan_views.specs.EmitErrors.{FailsAs}
 use Rattle.codespan_views.specs.Output.{Succeeds}
 

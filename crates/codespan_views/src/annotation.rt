@@ -1,8 +1,8 @@
 //! Annotations: what a label does on a line of its file; those of one file, and of one line.
 
 ghost use Rattle.codespan_core.specs.Labels.{from_line_start};
-ghost use Rattle.codespan_picture.specs.Arguments.{multi_label_view};
-ghost use Rattle.codespan_picture.specs.OutputStreams.{label_of};
+ghost use Rattle.codespan_output.specs.Arguments.{multi_label_view};
+ghost use Rattle.codespan_output.specs.OutputStreams.{label_of};
 ghost use Rattle.codespan_views.specs.Private.Annotations.{AppendsAnnotations, annotation_view};
 ghost use Rattle.codespan_views.specs.Private.Annotations.{kind_view, multi_label_from};
 ghost use Rattle.codespan_views.specs.Private.Annotations.{annotation_if_any, is_before};
@@ -16,7 +16,7 @@ ghost use Rattle.std.specs.Prelude.{slice_get, ⊤, ◌-◌, ◌≡◌, ◌≤�
 
 use codespan_core::diagnostic::Label;
 use codespan_core::files::Error;
-use codespan_picture::arguments::MultiLabel;
+use codespan_output::arguments::MultiLabel;
 use std::alloc::AllocError;
 use std::ops::Range;
 

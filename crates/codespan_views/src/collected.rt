@@ -2,8 +2,8 @@
 //! vector, the files of the labels with their loci, and the numbers of filled lines.
 
 ghost use Rattle.codespan_core.specs.LawfulFiles.{FailsBy};
-ghost use Rattle.codespan_picture.specs.Lookups.{first_error};
-ghost use Rattle.codespan_picture.specs.OutputStreams.{label_of};
+ghost use Rattle.codespan_output.specs.Lookups.{first_error};
+ghost use Rattle.codespan_output.specs.OutputStreams.{label_of};
 ghost use Rattle.codespan_views.specs.Private.Annotations.{IsLineOf, IsOfFiles, annotation_view};
 ghost use Rattle.codespan_views.specs.Private.Annotations.{is_before};
 ghost use Rattle.codespan_views.specs.Private.Collections.{IsCollected, all_digit_counts};
@@ -32,7 +32,7 @@ use crate::source_file::SourceFile;
 use codespan_core::diagnostic::Label;
 use codespan_core::files::{Error, Files};
 use codespan_core::term::{Config, Layout};
-use codespan_picture::padding::PaddingWidth;
+use codespan_output::padding::PaddingWidth;
 use std::alloc::Global;
 
 /// What was collected of the labels of a diagnostic.

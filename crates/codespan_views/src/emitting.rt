@@ -12,7 +12,7 @@ use codespan_core::diagnostic::Diagnostic;
 use codespan_core::files::{Error, Files};
 use codespan_core::term::config::plain_ref::PlainWriterRef;
 use codespan_core::term::{Config, DisplayStyle, PlainWriter, WriteStyle};
-use codespan_picture::scalar_chars::chars_are_scalars;
+use codespan_output::scalar_chars::chars_are_scalars;
 use codespan_renderer::term::renderer::Renderer;
 use std::io::Write;
 
@@ -31,7 +31,7 @@ const INITIAL_CAPACITY: usize = 1024;
 /// - Any other error: that of the first lookup that fails.
 ///
 /// Nothing is looked up without labels, and in short and medium style without primary labels. The
-/// order of the lookups is this project's own; `docs/DIFFERENCES.md` states it.
+/// order of the lookups is this project's own; `docs/CONTRACTS.md` states it.
 ///
 /// # Example
 ///

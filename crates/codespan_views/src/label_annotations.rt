@@ -10,7 +10,7 @@ ghost use Rattle.codespan_views.specs.Private.LabelsToCollect.{IfContinues, IfEn
 ghost use Rattle.codespan_views.specs.Private.LabelsToCollect.{WidensPadding, WidensPaddingForLine};
 ghost use Rattle.codespan_views.specs.Private.LabelsToCollect.{HasLabelLines, label_of_collector};
 ghost use Rattle.codespan_views.specs.Private.LabelsToCollect.{lines_failure, failure_if_looked_up};
-ghost use Rattle.codespan_picture.specs.OutputStreams.{label_of};
+ghost use Rattle.codespan_output.specs.OutputStreams.{label_of};
 ghost use Rattle.codespan_views.specs.Private.LabelAnnotations.{IsFarInside, kind_by_ends};
 ghost use Rattle.codespan_views.specs.Private.LabelAnnotations.{line_annotations};
 ghost use Rattle.codespan_views.specs.Private.LabelAnnotations.{multi_kind_by_ends};

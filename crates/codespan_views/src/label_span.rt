@@ -3,9 +3,9 @@
 ghost use Rattle.std.specs.Prelude.{◌≡◌, ◌<◌, ◌≤◌, ℕ, ◌==◌, ◌&&◌, nat_lt, IfOk, [], ◌∷◌};
 ghost use Rattle.codespan_core.specs.FileModel.Lookup.{LineIndex};
 ghost use Rattle.codespan_core.specs.LawfulFiles.{FailsBy};
-ghost use Rattle.codespan_picture.specs.Lines.{is_around, shows, spans};
+ghost use Rattle.codespan_output.specs.Lines.{is_around, shows, spans};
 ghost use Rattle.codespan_core.specs.Labels.{LabelModel, first_line, last_line};
-ghost use Rattle.codespan_picture.specs.OutputStreams.{label_of};
+ghost use Rattle.codespan_output.specs.OutputStreams.{label_of};
 ghost use Rattle.codespan_views.specs.Private.Annotations.{multi_label_from};
 ghost use Rattle.codespan_views.specs.Private.SourceFiles.{failure_in};
 ghost use Rattle.codespan_views.specs.Private.LabelAnnotations.{IsFarInside, multi_label_by_ends};

@@ -1,7 +1,7 @@
 //! The files of labels, in the order of their first labels, with the least starts of their labels.
 
 ghost use Rattle.codespan_core.specs.Labels.{is_primary};
-ghost use Rattle.codespan_picture.specs.OutputStreams.{label_of};
+ghost use Rattle.codespan_output.specs.OutputStreams.{label_of};
 ghost use Rattle.codespan_views.specs.Private.LabeledFiles.{AreDistinct, index_of_file};
 ghost use Rattle.codespan_views.specs.Private.LabeledFiles.{ids_view, with_file};
 ghost use Rattle.codespan_views.specs.Private.LabeledFiles.{without_locus};
@@ -13,7 +13,7 @@ ghost use Rattle.std.specs.Prelude.{◌^◌, ◌≡◌};
 use crate::label_span::LabelSpan;
 use codespan_core::diagnostic::{Label, LabelStyle};
 use codespan_core::files::{Error, Location};
-use codespan_picture::arguments::Locus;
+use codespan_output::arguments::Locus;
 
 /// A file with labels.
 #[derive(Drop)]

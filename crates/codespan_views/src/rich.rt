@@ -2,9 +2,9 @@
 //! medium style have them too.
 
 ghost use Rattle.codespan_core.specs.declared.term.config.DisplayStyle.TheVariants.{Rich};
-ghost use Rattle.codespan_picture.specs.Arguments.{locus_view};
-ghost use Rattle.codespan_picture.specs.OutputStreams.{labels_of, notes_of};
-ghost use Rattle.codespan_picture.specs.Snippets.{note_rows};
+ghost use Rattle.codespan_output.specs.Arguments.{locus_view};
+ghost use Rattle.codespan_output.specs.OutputStreams.{labels_of, notes_of};
+ghost use Rattle.codespan_output.specs.Snippets.{note_rows};
 ghost use Rattle.codespan_renderer.specs.Renderers.{Renders, SameRenderer, config_of, writer_of};
 ghost use Rattle.codespan_views.specs.Private.EarlyLookups.{IsLookedUpEarly};
 ghost use Rattle.codespan_views.specs.Private.Rendering.{RendersRows, RendersSnippets};

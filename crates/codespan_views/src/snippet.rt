@@ -18,10 +18,10 @@ use crate::snippet::line_buffers::{LineBuffers, fill_lane_marks};
 use crate::source_file::SourceFile;
 use codespan_core::files::{Error, Files};
 use codespan_core::term::WriteStyle;
-use codespan_picture::rows::header::write_snippet_start;
-use codespan_picture::rows::line::RowContext;
-use codespan_picture::rows::line_rows::write_line;
-use codespan_picture::rows::notes::{write_break, write_snippet_empty};
+use codespan_output::rows::header::write_snippet_start;
+use codespan_output::rows::line::RowContext;
+use codespan_output::rows::line_rows::write_line;
+use codespan_output::rows::notes::{write_break, write_snippet_empty};
 use codespan_renderer::term::renderer::row_writer::RowWriter;
 use codespan_renderer::term::renderer::{Lanes, Line, Locus};
 

@@ -3,8 +3,8 @@
 ghost use Rattle.std.specs.Prelude.{◌≡◌, ◌∷◌, [], None, IfOk, IfSome};
 ghost use Rattle.codespan_core.specs.FileModel.Lookup.{LineNumber, LocationAt, Name as NameLookup};
 ghost use Rattle.codespan_core.specs.LawfulFiles.{FailsBy};
-ghost use Rattle.codespan_picture.specs.Arguments.{locus_view};
-ghost use Rattle.codespan_picture.specs.Lookups.{line_lookups};
+ghost use Rattle.codespan_output.specs.Arguments.{locus_view};
+ghost use Rattle.codespan_output.specs.Lookups.{line_lookups};
 ghost use Rattle.codespan_views.specs.Private.Annotations.{IsLineAt};
 ghost use Rattle.codespan_views.specs.Private.Loci.{IsUtf8Locus};
 ghost use Rattle.codespan_views.specs.Private.SourceFiles.{FailsByOrFormatError, lookups_of_filled};
@@ -14,7 +14,7 @@ ghost use Rattle.codespan_views.specs.Private.SourceFiles.{failure_unless_past_e
 use crate::annotation::LineInfo;
 use codespan_core::diagnostic::text::display_text;
 use codespan_core::files::{Error, Files};
-use codespan_picture::arguments::Locus;
+use codespan_output::arguments::Locus;
 use std::alloc::Global;
 
 /// A file of a file database.

@@ -6,8 +6,8 @@ use Rattle.std.specs.List.{range_with_len}
 use Rattle.std.specs.Fmt.{digits}
 use Rattle.std.specs.Option.{option_map_or}
 use Rattle.unicode_width.proofs.Computing.{unicode_width}
-use Rattle.codespan_picture.specs.Types.{Config, DisplayStyle, Rich, Medium, Short, Severity}
-use Rattle.codespan_picture.specs.Types.{LabelStyle, Primary, Secondary}
+use Rattle.codespan_output.specs.Types.{Config, DisplayStyle, Rich, Medium, Short, Severity}
+use Rattle.codespan_output.specs.Types.{LabelStyle, Primary, Secondary}
 use Rattle.codespan_base.specs.declared.diagnostic.Severity.TheVariants.{Error}
 use Rattle.codespan_base.specs.FileModel.{FileModel, line_of}
 use Rattle.codespan_base.specs.SimpleModel.{simple_file, missing_file}
@@ -15,13 +15,13 @@ use Rattle.codespan_base.specs.MappedModel.{mapped_file}
 use Rattle.codespan_base.specs.Streams.{Stream, Spelling, byte_stream}
 use Rattle.codespan_base.specs.StyleSpellings.{ansi_spelling, default_styles}
 use Rattle.codespan_base.specs.Ansi.{ansi_reset, escape, ansi_bold, ansi_color, ansi_style}
-use Rattle.codespan_picture.specs.declared.arguments.MultiLabel.TheVariants as rust_variant
-use Rattle.codespan_picture.specs.Arguments.{LaneMarkTuple}
-use Rattle.codespan_picture.specs.Rows.{Line}
-use Rattle.codespan_picture.specs.RowDefinitions.{row_definitions}
-use Rattle.codespan_picture.specs.Snippets.{LabelInFile, labeled_file_models}
-use Rattle.codespan_picture.specs.OutputStreams.{rendered, locus_bytes}
-use Rattle.codespan_picture.specs.Picture.{stated_locus}
+use Rattle.codespan_output.specs.declared.arguments.MultiLabel.TheVariants as rust_variant
+use Rattle.codespan_output.specs.Arguments.{LaneMarkTuple}
+use Rattle.codespan_output.specs.Rows.{Line}
+use Rattle.codespan_output.specs.RowDefinitions.{row_definitions}
+use Rattle.codespan_output.specs.Snippets.{LabelInFile, labeled_file_models}
+use Rattle.codespan_output.specs.OutputStreams.{rendered, locus_bytes}
+use Rattle.codespan_output.specs.Picture.{stated_locus}
 
 -- opens all definitions of an output, so that it computes
 unfoldable pub worked_definitions : Unit {0}

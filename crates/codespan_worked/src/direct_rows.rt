@@ -5,10 +5,10 @@ ghost use Rattle.codespan_base.specs.Defaults.{default_config};
 ghost use Rattle.codespan_base.specs.Streams.{text_of};
 ghost use Rattle.codespan_base.specs.declared.diagnostic.Severity.TheVariants.{Error};
 ghost use Rattle.codespan_base.specs.declared.diagnostic.LabelStyle.TheVariants.{Secondary};
-ghost use Rattle.codespan_picture.specs.Arguments.{lanes_in_order};
-ghost use Rattle.codespan_picture.specs.OutputStreams.{context_of};
-ghost use Rattle.codespan_picture.specs.Rows.{rows_of};
-ghost use Rattle.codespan_picture.specs.RowStreams.{stream_of_rows};
+ghost use Rattle.codespan_output.specs.Arguments.{lanes_in_order};
+ghost use Rattle.codespan_output.specs.OutputStreams.{context_of};
+ghost use Rattle.codespan_output.specs.Rows.{rows_of};
+ghost use Rattle.codespan_output.specs.RowStreams.{stream_of_rows};
 ghost use Rattle.codespan_worked.specs.Worked.{label, line_of_labels, bars_in, rows};
 
 /// Shows that a range whose start is after its end is rendered as it is passed: it has no caret.

@@ -9,7 +9,7 @@ ghost use Rattle.codespan_base.specs.Streams.{text_of};
 ghost use Rattle.codespan_base.specs.declared.diagnostic.Severity.TheVariants.{Error};
 ghost use Rattle.codespan_base.specs.declared.diagnostic.LabelStyle.TheVariants.{Primary};
 ghost use Rattle.codespan_base.specs.declared.files.Error.TheVariants.{FileMissing};
-ghost use Rattle.codespan_picture.specs.Lookups.{first_error, header_lookups_of};
+ghost use Rattle.codespan_output.specs.Lookups.{first_error, header_lookups_of};
 ghost use Rattle.codespan_worked.specs.Worked.{text_file, mapped_text_file, from_zero, label};
 ghost use Rattle.codespan_worked.specs.Worked.{message_only, rich, short, rows, many_lines};
 ghost use Rattle.codespan_worked.specs.Worked.{many_labels, evens, odds};

@@ -1,7 +1,7 @@
 -- Several outputs, one after another.
 use Rattle.std.specs.Prelude.{◌≡◌, ℕ, List, [], ◌∷◌}
 use Rattle.codespan_base.specs.FileModel.{FileDatabase}
-use Rattle.codespan_picture.specs.Types.{Config, Diagnostic}
+use Rattle.codespan_output.specs.Types.{Config, Diagnostic}
 use Rattle.codespan_reporting.specs.Output.{IsAppended}
 
 -- the outputs of these diagnostics have been appended, in their order

@@ -9,10 +9,10 @@ use Rattle.codespan_base.specs.declared.files.Error.{Error}
 use Rattle.codespan_base.specs.declared.term.config.Config.{Config}
 use Rattle.codespan_base.specs.FileModel.{FileDatabase}
 use Rattle.codespan_base.specs.SimpleModel.{missing_file, simple_file, database_file}
-use Rattle.codespan_picture.specs.OutputStreams.{labels_of}
-use Rattle.codespan_picture.specs.Snippets.{LabelInFile}
-use Rattle.codespan_picture.specs.StatedNames.{NamesAreStated}
-use Rattle.codespan_picture.proofs.StatedNames.{output_stated}
+use Rattle.codespan_output.specs.OutputStreams.{labels_of}
+use Rattle.codespan_output.specs.Snippets.{LabelInFile}
+use Rattle.codespan_output.specs.StatedNames.{NamesAreStated}
+use Rattle.codespan_output.proofs.StatedNames.{output_stated}
 use Rattle.codespan_styled.specs.Outputs.{AreRuns}
 use Rattle.codespan_styled.specs.Runs.{RunView, runs_of}
 use Rattle.gallery_cases.specs.Documents.{AreRunsOver}

@@ -4,8 +4,8 @@ use Rattle.codespan_base.specs.declared.term.config.Config.{Config}
 use Rattle.codespan_base.specs.declared.diagnostic.Diagnostic.{Diagnostic}
 use Rattle.codespan_base.specs.FileModel.{FileDatabase}
 use Rattle.codespan_base.specs.StyleSpellings.{default_styles}
-use Rattle.codespan_picture.specs.Lookups.{AllSucceed, lookups_in}
-use Rattle.codespan_picture.specs.Picture.{picture}
+use Rattle.codespan_output.specs.Lookups.{AllSucceed, lookups_in}
+use Rattle.codespan_output.specs.Picture.{picture}
 use Rattle.codespan_styled.specs.Glyphs.{glyphs_of}
 use Rattle.codespan_styled.specs.Html.{html_element}
 use Rattle.codespan_styled.specs.Runs.{RunView, runs_of}

@@ -3,7 +3,7 @@
 ghost use Rattle.std.specs.Prelude.{◌≡◌, IfOk, OnOk};
 ghost use Rattle.gallery_cases.specs.declared.case.ColorChoice.TheVariants.{Plain};
 ghost use Rattle.codespan_views.specs.Output.{IsAppended};
-ghost use Rattle.codespan_picture.specs.StatedNames.{NamesAreStated};
+ghost use Rattle.codespan_output.specs.StatedNames.{NamesAreStated};
 ghost use Rattle.codespan_styled.specs.Runs.{styled_runs};
 ghost use Rattle.gallery_cases.specs.Documents.{AreRunsOf, AreRunsOver};
 ghost use Rattle.gallery_cases.specs.CaseOutputs.{AppendsOutput};

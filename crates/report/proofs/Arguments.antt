@@ -2,7 +2,7 @@
 -- arguments request, one by one.
 use Rattle.codespan_core.proofs.Std.{◌≡◌, ℕ, ◌<◌, ◌≤◌, ◌⊎◌, inl, inr, List, [], ◌∷◌, length, get_or}
 use Rattle.codespan_core.proofs.Std.{map, Option, None, refl, ap, sym, ◌∙◌, arith, option_map}
-use Rattle.codespan_picture.specs.Types.{DisplayStyle}
+use Rattle.codespan_output.specs.Types.{DisplayStyle}
 use Rattle.program_io.specs.Names.{display_style_named}
 use Rattle.report.specs.Requests.{request_of, number_of, label_request_of, label_request_with}
 use Rattle.report.specs.Requests.RequestView.{OneLabel, OfScript}

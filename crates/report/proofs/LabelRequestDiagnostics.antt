@@ -3,7 +3,7 @@
 use Rattle.codespan_core.proofs.Std.{◌≡◌, [], ◌∷◌, ◌++◌, ap, ◌∙◌, refl, string_bytes, None, Result}
 use Rattle.codespan_core.proofs.Std.{Ok, Err, IfOk}
 use Rattle.codespan_core.specs.Diagnostics.{diagnostic_view}
-use Rattle.codespan_picture.specs.Types.{Diagnostic, Label, Primary}
+use Rattle.codespan_output.specs.Types.{Diagnostic, Label, Primary}
 use Rattle.report.specs.ReportDiagnostics.{label_request_diagnostic}
 use Rattle.report.specs.Requests.{LabelRequestView}
 use Rattle.codespan_core.specs.declared.diagnostic.Severity.TheVariants as severities

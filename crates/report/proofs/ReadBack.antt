@@ -9,7 +9,7 @@ use Rattle.codespan_core.proofs.Std.{slice_split, length-map, filter_map-append,
 use Rattle.std.proofs.Common.{option_and_then}
 use Rattle.std.specs.declared.ops.Range.{Range}
 use Rattle.codespan_core.specs.declared.diagnostic.Severity.TheVariants.{Error}
-use Rattle.codespan_picture.specs.Types.{Primary, Secondary, Severity}
+use Rattle.codespan_output.specs.Types.{Primary, Secondary, Severity}
 use Rattle.program_io.specs.Fields.{field_of, past_space}
 use Rattle.program_io.specs.Names.{severity_named}
 use Rattle.report.specs.declared.script.Fault.{Fault}

@@ -8,7 +8,7 @@ use Rattle.std.proofs.Common.{one-add}
 use Rattle.std.specs.declared.ops.Range.{Range}
 use Rattle.codespan_core.specs.declared.diagnostic.Severity.TheVariants.{Bug, Error, Warning, Note}
 use Rattle.codespan_core.specs.declared.diagnostic.Severity.TheVariants.{Help}
-use Rattle.codespan_picture.specs.Types.{LabelStyle, Primary, Secondary, Severity}
+use Rattle.codespan_output.specs.Types.{LabelStyle, Primary, Secondary, Severity}
 use Rattle.program_io.specs.Fields.{field_of, is_space, past_space}
 use Rattle.program_io.specs.Names.{severity_named}
 use Rattle.report.specs.Requests.{number_of}

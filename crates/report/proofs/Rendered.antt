@@ -7,12 +7,12 @@ use Rattle.codespan_core.specs.Diagnostics.{diagnostic_view}
 use Rattle.codespan_core.specs.FileModel.{FileDatabase}
 use Rattle.codespan_core.specs.ConfigEquality.{IsEqualConfig}
 use Rattle.codespan_core.specs.Streams.{text_of}
-use Rattle.codespan_picture.specs.Types.{Diagnostic, Error, Config, DisplayStyle}
-use Rattle.codespan_picture.specs.Lookups.{Failures}
-use Rattle.codespan_picture.specs.ViewPictures.{picture_of_diagnostic_view}
+use Rattle.codespan_output.specs.Types.{Diagnostic, Error, Config, DisplayStyle}
+use Rattle.codespan_output.specs.Lookups.{Failures}
+use Rattle.codespan_output.specs.ViewPictures.{picture_of_diagnostic_view}
 use Rattle.codespan_views.specs.Output.{IsRendered}
-use Rattle.codespan_picture.proofs.StatedNames.{output_stated}
-use Rattle.codespan_picture.proofs.ViewPictures.{picture-of_view}
+use Rattle.codespan_output.proofs.StatedNames.{output_stated}
+use Rattle.codespan_output.proofs.ViewPictures.{picture-of_view}
 use Rattle.report.specs.RenderedTexts.{report_config, only_file, output_text}
 
 -- a configuration equal to the default one, in a style

@@ -14,7 +14,7 @@ use Rattle.std.proofs.lemmas.List.{get_or_append_left, get_or_at}
 use Rattle.std.proofs.lemmas.List.Sums.{position_or_len_is}
 use Rattle.codespan_core.specs.declared.diagnostic.Severity.TheVariants.{Bug, Error, Warning, Note}
 use Rattle.codespan_core.specs.declared.diagnostic.Severity.TheVariants.{Help}
-use Rattle.codespan_picture.specs.Types.{Primary, Secondary, Severity}
+use Rattle.codespan_output.specs.Types.{Primary, Secondary, Severity}
 use Rattle.program_io.specs.Fields.{field_of, is_space, past_space}
 use Rattle.report.specs.Statements.{IsLineSuffix, IsStatable, Statement, joined_fields}
 use Rattle.codespan_core.specs.Diagnostics.{severity_name}

@@ -1,9 +1,9 @@
 -- What a cursor over a cached line has returned, and which labels it has passed.
 use Rattle.std.specs.Prelude.{ℕ, ◌+◌, ◌≤◌, List}
-use Rattle.codespan_picture.specs.declared.char_metrics.Metrics.{Metrics}
+use Rattle.codespan_output.specs.declared.char_metrics.Metrics.{Metrics}
 use Rattle.codespan_renderer.specs.declared.term.renderer.cached.label_cursor.LabelCursor.{LabelCursor}
 use Rattle.codespan_renderer.specs.Private.LabelCursors.{HasPassedLabels}
-use Rattle.codespan_picture.specs.Private.CharCursors.{AreContiguous}
+use Rattle.codespan_output.specs.Private.CharCursors.{AreContiguous}
 
 -- the cursor is before these characters, and has passed the labels that start before the first of
 -- them

@@ -2,13 +2,13 @@
 use Rattle.std.specs.Prelude.{◌≡◌, ℕ, ◌+◌, ◌≤◌, Bool, true, ◌||◌, ◌&&◌, nat_lt, max, if◌then◌else◌}
 use Rattle.std.specs.Prelude.{List, drop, filter, Option}
 use Rattle.codespan_core.specs.Labels.{LabelModel, has_message, is_primary}
-use Rattle.codespan_picture.specs.Types.{LabelStyle}
-use Rattle.codespan_picture.specs.declared.char_metrics.Metrics.{Metrics}
+use Rattle.codespan_output.specs.Types.{LabelStyle}
+use Rattle.codespan_output.specs.declared.char_metrics.Metrics.{Metrics}
 use Rattle.codespan_renderer.specs.declared.term.renderer.cached.label_cursor.LabelCursor.{LabelCursor}
 use Rattle.codespan_renderer.specs.declared.term.renderer.cached.label_cursor.StartCursor.{StartCursor}
-use Rattle.codespan_picture.specs.Arguments.{single_label_views, starts_from, starts_in_order}
-use Rattle.codespan_picture.specs.RowParts.{starts_in}
-use Rattle.codespan_picture.specs.Private.CharCursors.{is_covered}
+use Rattle.codespan_output.specs.Arguments.{single_label_views, starts_from, starts_in_order}
+use Rattle.codespan_output.specs.RowParts.{starts_in}
+use Rattle.codespan_output.specs.Private.CharCursors.{is_covered}
 use Rattle.codespan_renderer.specs.Private.PreferredStyles.{preferred_style}
 
 -- the greatest end with that of a label that meets the test, if it covers a byte

@@ -1,6 +1,6 @@
 -- The style that takes precedence among those of some labels, found label by label.
 use Rattle.std.specs.Prelude.{Bool, List, filter, fold, Option, Some}
-use Rattle.codespan_picture.specs.Types.{LabelStyle, Primary}
+use Rattle.codespan_output.specs.Types.{LabelStyle, Primary}
 use Rattle.codespan_core.specs.Labels.{LabelModel}
 
 -- of two styles a primary one takes precedence

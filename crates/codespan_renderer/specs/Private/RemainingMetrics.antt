@@ -3,9 +3,9 @@ use Rattle.std.specs.Prelude.{◌≡◌, ℕ, ◌+◌, ◌≤◌, Bool, true, fa
 use Rattle.std.specs.Prelude.{None}
 use Rattle.std.specs.Str.{chars}
 use Rattle.std.specs.Str.Iter.{chars_rest}
-use Rattle.codespan_picture.specs.declared.char_metrics.Metrics.{Metrics}
+use Rattle.codespan_output.specs.declared.char_metrics.Metrics.{Metrics}
 use Rattle.codespan_renderer.specs.declared.term.renderer.char_metrics.CharMetrics.{CharMetrics}
-use Rattle.codespan_picture.specs.CharMetrics.{metrics_then, placeholder}
+use Rattle.codespan_output.specs.CharMetrics.{metrics_then, placeholder}
 
 -- what is after the last character, by the byte index and the column there
 abbrev pub MetricsAfterEnd : Type 0

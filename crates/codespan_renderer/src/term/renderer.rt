@@ -1,7 +1,7 @@
 //! The rows of a rendered diagnostic: [`Renderer`] has a call for each kind.
 
 ghost use Rattle.std.specs.Prelude.{◌≡◌};
-ghost use Rattle.codespan_picture.specs.Arguments.{lanes_in_order};
+ghost use Rattle.codespan_output.specs.Arguments.{lanes_in_order};
 
 pub mod cached;
 mod char_metrics;
@@ -14,13 +14,13 @@ use codespan_core::diagnostic::{LabelStyle, Severity};
 use codespan_core::files::Error;
 use codespan_core::term::config::writing::put_all;
 use codespan_core::term::{Config, WriteStyle};
-pub use codespan_picture::arguments::{Locus, MultiLabel, SingleLabel};
-use codespan_picture::rows::header::{write_header, write_snippet_start};
-use codespan_picture::rows::line::RowContext;
-pub use codespan_picture::rows::line::{Lanes, Line};
-use codespan_picture::rows::line_rows::write_line;
-use codespan_picture::rows::messages::Messages;
-use codespan_picture::rows::notes::{write_break, write_note, write_snippet_empty};
+pub use codespan_output::arguments::{Locus, MultiLabel, SingleLabel};
+use codespan_output::rows::header::{write_header, write_snippet_start};
+use codespan_output::rows::line::RowContext;
+pub use codespan_output::rows::line::{Lanes, Line};
+use codespan_output::rows::line_rows::write_line;
+use codespan_output::rows::messages::Messages;
+use codespan_output::rows::notes::{write_break, write_note, write_snippet_empty};
 use row_writer::RowWriter;
 use scanned_line::ScannedLine;
 use std::cell::Cell;
@@ -66,14 +66,14 @@ pub struct Renderer<'writer, 'config, W> {
 impl<'writer, 'config, W: WriteStyle> Renderer<'writer, 'config, W> {
     ghost use Rattle.std.specs.Prelude.{◌≡◌, IsTrue};
     ghost use Rattle.codespan_core.specs.Streams.{newline};
-    ghost use Rattle.codespan_picture.specs.Private.LineViews.{context_view};
-    ghost use Rattle.codespan_picture.specs.OutputStreams.{context_of};
+    ghost use Rattle.codespan_output.specs.Private.LineViews.{context_view};
+    ghost use Rattle.codespan_output.specs.OutputStreams.{context_of};
     ghost use Rattle.codespan_renderer.specs.Renderers.{writer_of, reference_of, config_of};
     ghost use Rattle.codespan_renderer.specs.Renderers.{Renders};
-    ghost use Rattle.codespan_picture.specs.RenderedRows.{rendered_header, rendered_start};
-    ghost use Rattle.codespan_picture.specs.RenderedRows.{rendered_snippet_empty};
-    ghost use Rattle.codespan_picture.specs.RenderedRows.{rendered_break, rendered_note};
-    ghost use Rattle.codespan_picture.specs.RenderedRows.{rendered_source, source_line};
+    ghost use Rattle.codespan_output.specs.RenderedRows.{rendered_header, rendered_start};
+    ghost use Rattle.codespan_output.specs.RenderedRows.{rendered_snippet_empty};
+    ghost use Rattle.codespan_output.specs.RenderedRows.{rendered_break, rendered_note};
+    ghost use Rattle.codespan_output.specs.RenderedRows.{rendered_source, source_line};
 
     /// Returns a renderer over `writer` with the characters, tab width and layout of `config`.
     pub fn new(

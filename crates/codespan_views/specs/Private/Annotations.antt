@@ -8,7 +8,7 @@ use Rattle.codespan_core.specs.FileModel.{FileModel}
 use Rattle.codespan_core.specs.LawfulFiles.{IsLineRange}
 use Rattle.codespan_core.specs.Labels.{LabelModel, LaneMark, MultiLabel, Top, Left, Bottom}
 use Rattle.codespan_core.specs.Labels.{from_line_start}
-use Rattle.codespan_picture.specs.OutputStreams.{label_of}
+use Rattle.codespan_output.specs.OutputStreams.{label_of}
 use Rattle.codespan_views.specs.Private.Types.{RustAnnotation}
 use Rattle.codespan_views.specs.declared.annotation.MultiLabelKind.{MultiLabelKind}
 use Rattle.codespan_views.specs.declared.annotation.LineInfo.{LineInfo}

@@ -4,9 +4,9 @@ use Rattle.std.specs.Prelude.{ℕ, Bool, List, [], ◌∷◌, ◌++◌, length, 
 use Rattle.std.specs.List.{AllByRecursion}
 use Rattle.std.specs.List.Sorted.{IsPermutation, IsSortedBy}
 use Rattle.codespan_core.specs.FileModel.{FileDatabase, FileModel}
-use Rattle.codespan_picture.specs.Types.{Config}
-use Rattle.codespan_picture.specs.Snippets.{LabelInFile, file_ids, labeled_file_model}
-use Rattle.codespan_picture.specs.Snippets.{num_multi_labels}
+use Rattle.codespan_output.specs.Types.{Config}
+use Rattle.codespan_output.specs.Snippets.{LabelInFile, file_ids, labeled_file_model}
+use Rattle.codespan_output.specs.Snippets.{num_multi_labels}
 use Rattle.codespan_views.specs.Private.Types.{Collected}
 use Rattle.codespan_views.specs.Private.Annotations.{Annotation, IsOfFiles, annotation_view}
 use Rattle.codespan_views.specs.Private.Annotations.{is_before}

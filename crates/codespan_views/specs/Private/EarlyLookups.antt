@@ -3,11 +3,11 @@ use Rattle.std.specs.Prelude.{◌≡◌, ℕ, ◌+◌, List, [], ◌∷◌, ◌+
 use Rattle.std.specs.Prelude.{max}
 use Rattle.std.specs.List.{AllByRecursion}
 use Rattle.codespan_core.specs.FileModel.{FileDatabase, FileModel, Lookup}
-use Rattle.codespan_picture.specs.Types.{Config, Error, Layout, Classic, Unbroken}
-use Rattle.codespan_picture.specs.Lookups.{Failures, filled_lines, first_error, lookups_of_file}
-use Rattle.codespan_picture.specs.Padding.{count_digits, padding_of}
-use Rattle.codespan_picture.specs.Snippets.{LabelInFile, file_ids, labeled_file_model}
-use Rattle.codespan_picture.specs.Snippets.{labeled_file_models}
+use Rattle.codespan_output.specs.Types.{Config, Error, Layout, Classic, Unbroken}
+use Rattle.codespan_output.specs.Lookups.{Failures, filled_lines, first_error, lookups_of_file}
+use Rattle.codespan_output.specs.Padding.{count_digits, padding_of}
+use Rattle.codespan_output.specs.Snippets.{LabelInFile, file_ids, labeled_file_model}
+use Rattle.codespan_output.specs.Snippets.{labeled_file_models}
 use Rattle.codespan_views.specs.Private.Types.{Collected, RustFile}
 use Rattle.codespan_views.specs.Private.Annotations.{Annotation, is_of_file}
 use Rattle.codespan_views.specs.Private.Annotations.{annotation_view}

@@ -7,10 +7,10 @@ use Rattle.std.specs.Option.{option_map}
 use Rattle.codespan_core.specs.FileModel.{FileModel, line_count, line_start, Lookup}
 use Rattle.codespan_core.specs.Labels.{LabelModel, MultiLabel, first_line, last_line, lane_mark_of}
 use Rattle.codespan_core.specs.Labels.{from_line_start, multi_label_at}
-use Rattle.codespan_picture.specs.Types.{Config}
-use Rattle.codespan_picture.specs.Lines.{shows, spans}
-use Rattle.codespan_picture.specs.Lookups.{looked_up_lines, is_looked_up, line_lookups}
-use Rattle.codespan_picture.specs.Padding.{count_digits}
+use Rattle.codespan_output.specs.Types.{Config}
+use Rattle.codespan_output.specs.Lines.{shows, spans}
+use Rattle.codespan_output.specs.Lookups.{looked_up_lines, is_looked_up, line_lookups}
+use Rattle.codespan_output.specs.Padding.{count_digits}
 use Rattle.codespan_views.specs.Private.Annotations.{Annotation, AnnotationKind, Shown, Single}
 use Rattle.codespan_views.specs.Private.Annotations.{Multi, annotation_if_any}
 

@@ -3,9 +3,9 @@ use Rattle.std.specs.Prelude.{◌≡◌, ℕ, zero, suc, Bool, false, List, [], 
 use Rattle.std.specs.Prelude.{if◌then◌else◌}
 use Rattle.std.specs.List.{AllByRecursion, list_any, position_or_len}
 use Rattle.codespan_core.specs.FileModel.{FileModel}
-use Rattle.codespan_picture.specs.Arguments.{locus_view}
-use Rattle.codespan_picture.specs.Rows.{Locus}
-use Rattle.codespan_picture.specs.Snippets.{LabelInFile, labeled_file_model, num_multi_labels}
+use Rattle.codespan_output.specs.Arguments.{locus_view}
+use Rattle.codespan_output.specs.Rows.{Locus}
+use Rattle.codespan_output.specs.Snippets.{LabelInFile, labeled_file_model, num_multi_labels}
 use Rattle.codespan_views.specs.Private.Types.{RustFile, LeastStarts}
 use Rattle.codespan_views.specs.Private.Loci.{file_least_starts}
 

@@ -3,12 +3,12 @@ use Rattle.std.specs.Prelude.{◌≡◌, ℕ, Bool, true, false, List, ◌++◌,
 use Rattle.std.specs.Prelude.{IfOk, Result}
 use Rattle.codespan_core.specs.FileModel.{FileDatabase, FileModel}
 use Rattle.codespan_core.specs.Labels.{LabelModel, first_line, last_line}
-use Rattle.codespan_picture.specs.Types.{Error, Config}
-use Rattle.codespan_picture.specs.Lookups.{Failures, looked_up_lines, first_error, is_looked_up}
-use Rattle.codespan_picture.specs.Lookups.{label_lookups, line_lookups, lookup_past_end}
-use Rattle.codespan_picture.specs.OutputStreams.{label_of}
-use Rattle.codespan_picture.specs.Snippets.{LabelInFile}
-use Rattle.codespan_picture.specs.declared.padding.PaddingWidth.{PaddingWidth}
+use Rattle.codespan_output.specs.Types.{Error, Config}
+use Rattle.codespan_output.specs.Lookups.{Failures, looked_up_lines, first_error, is_looked_up}
+use Rattle.codespan_output.specs.Lookups.{label_lookups, line_lookups, lookup_past_end}
+use Rattle.codespan_output.specs.OutputStreams.{label_of}
+use Rattle.codespan_output.specs.Snippets.{LabelInFile}
+use Rattle.codespan_output.specs.declared.padding.PaddingWidth.{PaddingWidth}
 use Rattle.codespan_views.specs.Private.Types.{RustAnnotation}
 use Rattle.codespan_views.specs.declared.label_annotations.LabelCollector.{LabelCollector}
 use Rattle.codespan_views.specs.Private.LabelAnnotations.{annotations_of, annotations_if_looked_up}

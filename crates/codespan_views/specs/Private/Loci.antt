@@ -6,11 +6,11 @@ use Rattle.std.specs.Str.{IsUtf8}
 use Rattle.codespan_core.specs.FileModel.Lookup.{LocationAt, Name}
 use Rattle.codespan_core.specs.FileModel.{FileModel, Lookup}
 use Rattle.codespan_core.specs.Labels.{LabelModel, is_primary}
-use Rattle.codespan_picture.specs.Arguments.{locus_view}
-use Rattle.codespan_picture.specs.Lookups.{lookups_of_file}
-use Rattle.codespan_picture.specs.OutputStreams.{IsLocus, label_locus_byte, snippet_locus_byte}
-use Rattle.codespan_picture.specs.Rows.{Locus}
-use Rattle.codespan_picture.specs.Snippets.{LabelInFile, LabeledFileModel}
+use Rattle.codespan_output.specs.Arguments.{locus_view}
+use Rattle.codespan_output.specs.Lookups.{lookups_of_file}
+use Rattle.codespan_output.specs.OutputStreams.{IsLocus, label_locus_byte, snippet_locus_byte}
+use Rattle.codespan_output.specs.Rows.{Locus}
+use Rattle.codespan_output.specs.Snippets.{LabelInFile, LabeledFileModel}
 use Rattle.codespan_views.specs.Private.Types.{LeastStarts, RustFile}
 
 -- the least of some numbers, if there is one

@@ -4,9 +4,9 @@ use Rattle.codespan_core.specs.Errors.{IsIo}
 use Rattle.codespan_core.specs.FileModel.{FileDatabase}
 use Rattle.codespan_core.specs.Streams.{Stream}
 use Rattle.codespan_core.specs.WriterLaw.{Sink, Writes, is_known, PrefixWritten}
-use Rattle.codespan_picture.specs.Private.LineViews.{context_view}
-use Rattle.codespan_picture.specs.RowStreams.{stream_of_rows}
-use Rattle.codespan_picture.specs.Types.{Error, OutOfMemory}
+use Rattle.codespan_output.specs.Private.LineViews.{context_view}
+use Rattle.codespan_output.specs.RowStreams.{stream_of_rows}
+use Rattle.codespan_output.specs.Types.{Error, OutOfMemory}
 use Rattle.codespan_views.specs.Private.SnippetLines.{SnippetLine, AreInOrder, filled_lines_of}
 use Rattle.codespan_views.specs.Private.SnippetLines.{rows_of_lines, AreNumbersOf, lookups_with}
 use Rattle.codespan_views.specs.Private.SourceFiles.{failure_of, model_of}

@@ -6,16 +6,16 @@ use Rattle.codespan_core.specs.Errors.{IsIo}
 use Rattle.codespan_core.specs.FileModel.{FileDatabase}
 use Rattle.codespan_core.specs.Streams.{Stream, newline}
 use Rattle.codespan_core.specs.WriterLaw.{Sink, Writes}
-use Rattle.codespan_picture.specs.Types.{Diagnostic, Severity, Error, Config}
-use Rattle.codespan_picture.specs.declared.rows.line.RowContext.{RowContext}
-use Rattle.codespan_picture.specs.Private.LineViews.{context_view}
-use Rattle.codespan_picture.specs.Lookups.{first_error, late_lookups}
-use Rattle.codespan_picture.specs.OutputStreams.{header_text_of, labels_of, context_of, notes_of}
-use Rattle.codespan_picture.specs.declared.arguments.Locus.{Locus as RustLocus}
-use Rattle.codespan_picture.specs.Arguments.{locus_view}
-use Rattle.codespan_picture.specs.Rows.{EmptyRow, FinalRow, Locus, Row, SnippetStartRow}
-use Rattle.codespan_picture.specs.RowStreams.{header_row, stream_of_rows}
-use Rattle.codespan_picture.specs.Snippets.{snippets, has_any, labeled_file_models, note_rows}
+use Rattle.codespan_output.specs.Types.{Diagnostic, Severity, Error, Config}
+use Rattle.codespan_output.specs.declared.rows.line.RowContext.{RowContext}
+use Rattle.codespan_output.specs.Private.LineViews.{context_view}
+use Rattle.codespan_output.specs.Lookups.{first_error, late_lookups}
+use Rattle.codespan_output.specs.OutputStreams.{header_text_of, labels_of, context_of, notes_of}
+use Rattle.codespan_output.specs.declared.arguments.Locus.{Locus as RustLocus}
+use Rattle.codespan_output.specs.Arguments.{locus_view}
+use Rattle.codespan_output.specs.Rows.{EmptyRow, FinalRow, Locus, Row, SnippetStartRow}
+use Rattle.codespan_output.specs.RowStreams.{header_row, stream_of_rows}
+use Rattle.codespan_output.specs.Snippets.{snippets, has_any, labeled_file_models, note_rows}
 use Rattle.codespan_renderer.specs.declared.term.renderer.Renderer.{Renderer}
 use Rattle.codespan_renderer.specs.declared.term.renderer.row_writer.RowWriter.{RowWriter}
 use Rattle.codespan_renderer.specs.Private.RowWriters.{row_writer_sink}

@@ -7,10 +7,10 @@ use Rattle.std.specs.Prelude.{drop}
 use Rattle.codespan_core.specs.FileModel.Lookup.{LineNumber}
 use Rattle.codespan_core.specs.FileModel.{FileModel, Lookup, line_text}
 use Rattle.codespan_core.specs.Labels.{LabelModel, LaneMark}
-use Rattle.codespan_picture.specs.Arguments.{ascend_from, starts_in_order}
-use Rattle.codespan_picture.specs.CharMetrics.{text_without_line_end}
-use Rattle.codespan_picture.specs.Rows.{Line, Row, BreakRow, rows_of}
-use Rattle.codespan_picture.specs.Sequences.{before_line, gap_between}
+use Rattle.codespan_output.specs.Arguments.{ascend_from, starts_in_order}
+use Rattle.codespan_output.specs.CharMetrics.{text_without_line_end}
+use Rattle.codespan_output.specs.Rows.{Line, Row, BreakRow, rows_of}
+use Rattle.codespan_output.specs.Sequences.{before_line, gap_between}
 use Rattle.codespan_views.specs.Private.Annotations.{Annotation, AnnotationKind, Single, Multi}
 use Rattle.codespan_views.specs.Private.Annotations.{shows_line}
 use Rattle.codespan_views.specs.Private.SourceFiles.{lookups_of_filled}

@@ -3,9 +3,9 @@ use Rattle.std.specs.Prelude.{List, Option, ◌≡◌, ◌≢◌, Some, None, Re
 use Rattle.std.specs.Prelude.{ℕ, true, nat_lt, ◌&&◌, if◌then◌else◌}
 use Rattle.codespan_core.specs.FileModel.Lookup.{LineRange, LineNumber}
 use Rattle.codespan_core.specs.FileModel.{FileDatabase, FileModel, line_count, Lookup, or_failure}
-use Rattle.codespan_picture.specs.Lookups.{Failures, lookups_of_file, first_error}
-use Rattle.codespan_picture.specs.Lookups.{ends_context_lines}
-use Rattle.codespan_picture.specs.Types.{Error, FormatError, OutOfMemory}
+use Rattle.codespan_output.specs.Lookups.{Failures, lookups_of_file, first_error}
+use Rattle.codespan_output.specs.Lookups.{ends_context_lines}
+use Rattle.codespan_output.specs.Types.{Error, FormatError, OutOfMemory}
 use Rattle.codespan_views.specs.declared.source_file.SourceFile.{SourceFile}
 
 -- the error of the first of these lookups of a file that fails

@@ -2,8 +2,8 @@
 
 ghost use Rattle.std.specs.Prelude.{◌≡◌, [], IfOk, OnErr, IsErrOf, map};
 ghost use Rattle.std.specs.Slice.Iter.{iter_rest};
-ghost use Rattle.codespan_picture.specs.Arguments.{single_label_views};
-ghost use Rattle.codespan_picture.specs.Arguments.{lane_mark_view};
+ghost use Rattle.codespan_output.specs.Arguments.{single_label_views};
+ghost use Rattle.codespan_output.specs.Arguments.{lane_mark_view};
 ghost use Rattle.codespan_views.specs.Private.Annotations.{annotation_view};
 ghost use Rattle.codespan_views.specs.Private.SnippetLines.{lane_marks_in, single_labels_in};
 

@@ -1,4 +1,4 @@
-use Rattle.codespan_picture.specs.OutputStreams.{output}
+use Rattle.codespan_output.specs.OutputStreams.{output}
 use Rattle.codespan_laws.proofs.ColorLemmas as colors
 use Rattle.codespan_laws.proofs.laws.colors_change_no_text.Goals as goal
 

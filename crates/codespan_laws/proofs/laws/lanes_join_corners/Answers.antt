@@ -1,4 +1,4 @@
-use Rattle.codespan_picture.proofs.LaneLineRuns as lanes
+use Rattle.codespan_output.proofs.LaneLineRuns as lanes
 use Rattle.codespan_laws.proofs.laws.lanes_join_corners.Goals as goal
 
 pub returns : goal.returns

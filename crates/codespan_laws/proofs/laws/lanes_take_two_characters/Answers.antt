@@ -1,5 +1,5 @@
-use Rattle.codespan_picture.specs.Lanes.{row_crossing, row_shape}
-use Rattle.codespan_picture.specs.RowParts.{inner_gutter}
+use Rattle.codespan_output.specs.Lanes.{row_crossing, row_shape}
+use Rattle.codespan_output.specs.RowParts.{inner_gutter}
 use Rattle.codespan_laws.proofs.LaneWidths.{row_length-lanes_in}
 use Rattle.codespan_laws.proofs.laws.lanes_take_two_characters.Goals as goal
 

@@ -3,9 +3,9 @@
 ghost use Rattle.std.specs.Prelude.{◌≡◌, ◌+◌, ◌*◌, ◌^◌, ◌<◌, ◌≤◌, length, drop, unwrap_or, false};
 ghost use Rattle.std.specs.Str.{IsUtf8};
 ghost use Rattle.std.specs.Str.Iter.{chars_rest};
-ghost use Rattle.codespan_picture.specs.CharMetrics.{width_at};
+ghost use Rattle.codespan_output.specs.CharMetrics.{width_at};
 
-pub use codespan_picture::char_metrics::Metrics;
+pub use codespan_output::char_metrics::Metrics;
 use std::str::Chars;
 use unicode_width::UnicodeWidthChar;
 
@@ -27,8 +27,8 @@ pub struct CharMetrics<'text> {
 
 impl<'text> CharMetrics<'text> {
     ghost use Rattle.std.specs.Prelude.{true};
-    ghost use Rattle.codespan_picture.specs.CharMetrics.{metrics_then, width_of};
-    ghost use Rattle.codespan_picture.specs.RowParts.{metrics_up_to};
+    ghost use Rattle.codespan_output.specs.CharMetrics.{metrics_then, width_of};
+    ghost use Rattle.codespan_output.specs.RowParts.{metrics_up_to};
     ghost use Rattle.codespan_renderer.specs.Private.RemainingMetrics.{MetricsAfterEnd};
     ghost use Rattle.codespan_renderer.specs.Private.RemainingMetrics.{YieldsCharacter};
     ghost use Rattle.codespan_renderer.specs.Private.RemainingMetrics.{metrics_from};

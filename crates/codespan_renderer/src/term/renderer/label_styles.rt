@@ -2,8 +2,8 @@
 
 ghost use Rattle.std.specs.Prelude.{◌≡◌, filter};
 ghost use Rattle.codespan_core.specs.Labels.{has_message};
-ghost use Rattle.codespan_picture.specs.Arguments.{single_label_view, single_label_views};
-ghost use Rattle.codespan_picture.specs.RowParts.{starts_in};
+ghost use Rattle.codespan_output.specs.Arguments.{single_label_view, single_label_views};
+ghost use Rattle.codespan_output.specs.RowParts.{starts_in};
 ghost use Rattle.codespan_renderer.specs.Private.PreferredStyles.{preferred_style, prefer_primary};
 
 use crate::term::renderer::SingleLabel;

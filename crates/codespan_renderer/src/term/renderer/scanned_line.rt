@@ -2,18 +2,18 @@
 //! character.
 
 ghost use Rattle.std.specs.Prelude.{◌≡◌, ⊤};
-ghost use Rattle.codespan_picture.specs.Arguments.{single_label_views};
-ghost use Rattle.codespan_picture.specs.RowParts.{max_label_start};
+ghost use Rattle.codespan_output.specs.Arguments.{single_label_views};
+ghost use Rattle.codespan_output.specs.RowParts.{max_label_start};
 
 use crate::term::renderer::SingleLabel;
 use crate::term::renderer::char_metrics::{CharMetrics, Metrics};
 use crate::term::renderer::label_styles::{prefer_primary, start_style};
 use codespan_core::diagnostic::LabelStyle;
-use codespan_picture::rows::char_cursor::CharCursor;
-use codespan_picture::rows::line_characters::LineCharacters;
-use codespan_picture::rows::messages::Messages;
-use codespan_picture::rows::pointer_cursor::{Pointer, PointerCursor};
-use codespan_picture::rows::pointers::{max_label_start, pointer_under};
+use codespan_output::rows::char_cursor::CharCursor;
+use codespan_output::rows::line_characters::LineCharacters;
+use codespan_output::rows::messages::Messages;
+use codespan_output::rows::pointer_cursor::{Pointer, PointerCursor};
+use codespan_output::rows::pointers::{max_label_start, pointer_under};
 
 /// A cursor that scans the text of a line. It tests all labels at each character, so they may be in
 /// any order.
@@ -61,8 +61,8 @@ pub struct PointerScan<'row, 'd> {
 }
 
 impl<'row, 'd> PointerCursor for PointerScan<'row, 'd> {
-    ghost use Rattle.codespan_picture.specs.Rows.{hanging_labels};
-    ghost use Rattle.codespan_picture.specs.Private.PointerLists.{pointers_in};
+    ghost use Rattle.codespan_output.specs.Rows.{hanging_labels};
+    ghost use Rattle.codespan_output.specs.Private.PointerLists.{pointers_in};
     ghost use Rattle.codespan_renderer.specs.Private.RemainingMetrics.{metrics_from, no_more};
 
     ghost remaining = { λ s. pointers_in (hanging_labels (single_label_views s.messages.labels.now))

@@ -2,8 +2,8 @@ use Rattle.codespan_core.proofs.Std.{common_steps, ◌≡◌, ◌<◌, ◌≤◌
 use Rattle.codespan_core.proofs.Std.{map, ap, ◌∙◌, arith, err_from_is_err_and, IsPermutation-map}
 use Rattle.codespan_core.proofs.Std.{recursion_from_All, All-permutation, All-from_recursion}
 use Rattle.codespan_core.proofs.Std.{take_all, subst, if◌then◌else◌, ◌==◌}
-use Rattle.codespan_picture.specs.OutputStreams.{label_of}
-use Rattle.codespan_picture.specs.Snippets.{file_ids}
+use Rattle.codespan_output.specs.OutputStreams.{label_of}
+use Rattle.codespan_output.specs.Snippets.{file_ids}
 use Rattle.codespan_views.specs.Private.{IsOfFiles, annotation_view, RustFile, ids_view}
 use Rattle.codespan_views.specs.Private.{index_of_file}
 use contract.Lifetimes.{Lfts}

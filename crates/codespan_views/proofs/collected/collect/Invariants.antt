@@ -1,6 +1,6 @@
 use Rattle.codespan_core.proofs.Std.{map}
-use Rattle.codespan_picture.specs.OutputStreams.{label_of}
-use Rattle.codespan_picture.specs.Snippets.{file_ids}
+use Rattle.codespan_output.specs.OutputStreams.{label_of}
+use Rattle.codespan_output.specs.Snippets.{file_ids}
 use Rattle.codespan_views.proofs.LabelFiles.{before}
 use Rattle.codespan_views.proofs.LabelsCollected.{AreCollected}
 use Rattle.codespan_views.proofs.collected.collect.Given as goal

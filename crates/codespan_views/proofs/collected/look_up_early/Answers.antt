@@ -1,5 +1,5 @@
 use Rattle.codespan_core.proofs.Std.{◌≡◌, arith, common_steps, err_from_is_err_and}
-use Rattle.codespan_picture.specs.Lookups.{first_error}
+use Rattle.codespan_output.specs.Lookups.{first_error}
 use Rattle.codespan_views.specs.Private.{early_failure, locus_lookups_of_files}
 use Rattle.codespan_views.proofs.FirstErrors.{first_error-none, first_error-some}
 use Rattle.codespan_views.proofs.collected.look_up_early.Given.{Over}

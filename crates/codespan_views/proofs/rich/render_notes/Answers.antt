@@ -1,8 +1,8 @@
 use Rattle.codespan_core.proofs.Std.{◌+◌, Result, take, sym, string_bytes}
 use Rattle.std.specs.Str.Lines.{lines}
-use Rattle.codespan_picture.specs.Types.{Error, Config}
-use Rattle.codespan_picture.specs.OutputStreams.{context_of}
-use Rattle.codespan_picture.specs.RenderedRows.{note_stream, rendered_note}
+use Rattle.codespan_output.specs.Types.{Error, Config}
+use Rattle.codespan_output.specs.OutputStreams.{context_of}
+use Rattle.codespan_output.specs.RenderedRows.{note_stream, rendered_note}
 use Rattle.codespan_renderer.specs.declared.term.renderer.Renderer.{Renderer}
 use Rattle.codespan_renderer.specs.Renderers.{Renders, config_of}
 use Rattle.codespan_views.proofs.NoteRows.{notes-cut, notes-next, stream_of_notes}

@@ -1,6 +1,6 @@
 use Rattle.codespan_core.proofs.Std.{◌≡◌, ℕ, ◌+◌, ◌<◌, ◌≤◌, List, ◌∷◌, map, length, get_or, drop}
 use Rattle.codespan_core.proofs.Std.{refl, ◌∙◌, add-one, drop-cons, le-leb, lt-ltb}
-use Rattle.codespan_picture.specs.Arguments.{LaneMarkTuple, lane_mark_view, ascend_from}
+use Rattle.codespan_output.specs.Arguments.{LaneMarkTuple, lane_mark_view, ascend_from}
 use Rattle.codespan_renderer.proofs.term.renderer.lanes_in_order.Goals as goal
 
 -- the lanes ascend from one that is in order on where those after it do

@@ -1,5 +1,5 @@
 use Rattle.codespan_core.proofs.Std.{◌≡◌, drop, map}
-use Rattle.codespan_picture.specs.Arguments.{lanes_in_order, lane_mark_view, ascend_from}
+use Rattle.codespan_output.specs.Arguments.{lanes_in_order, lane_mark_view, ascend_from}
 use Rattle.codespan_renderer.proofs.term.renderer.lanes_in_order.Given as goal
 
 -- the remaining lane marks decide

@@ -3,28 +3,28 @@
 
 ghost use Rattle.std.specs.Prelude.{◌≡◌, ◌≤◌, ◌++◌, IsTrue, length, map, take};
 ghost use Rattle.std.specs.Str.{chars};
-ghost use Rattle.codespan_picture.specs.CharMetrics.{char_metrics, metrics_then, width_of};
-ghost use Rattle.codespan_picture.specs.Arguments.{lane_mark_view, single_label_views};
-ghost use Rattle.codespan_picture.specs.Arguments.{starts_in_order};
-ghost use Rattle.codespan_picture.specs.Rows.{hanging_labels};
+ghost use Rattle.codespan_output.specs.CharMetrics.{char_metrics, metrics_then, width_of};
+ghost use Rattle.codespan_output.specs.Arguments.{lane_mark_view, single_label_views};
+ghost use Rattle.codespan_output.specs.Arguments.{starts_in_order};
+ghost use Rattle.codespan_output.specs.Rows.{hanging_labels};
 ghost use Rattle.codespan_renderer.specs.Private.RemainingMetrics.{after_last};
 ghost use Rattle.codespan_renderer.specs.Private.CursorStates.{IsBefore, HasReturned};
 ghost use Rattle.codespan_renderer.specs.Private.CachedMetrics.{AreCached, ReachesPast};
 ghost use Rattle.codespan_renderer.specs.Private.CachedMetrics.{remaining_from_cache, reach_of};
-ghost use Rattle.codespan_picture.specs.Private.LineCharacters.{EndBy};
-ghost use Rattle.codespan_picture.specs.Private.PointerLists.{pointers_in};
-ghost use Rattle.codespan_picture.specs.Private.RowLabels.{least_start};
+ghost use Rattle.codespan_output.specs.Private.LineCharacters.{EndBy};
+ghost use Rattle.codespan_output.specs.Private.PointerLists.{pointers_in};
+ghost use Rattle.codespan_output.specs.Private.RowLabels.{least_start};
 
 use crate::term::renderer::cached::cached_metrics::MetricsFromCache;
 use crate::term::renderer::cached::label_cursor::LabelCursor;
 use crate::term::renderer::cached::pointers::CachedPointers;
 use crate::term::renderer::char_metrics::{CharMetrics, Metrics};
 use codespan_core::diagnostic::LabelStyle;
-use codespan_picture::rows::char_cursor::CharCursor;
-use codespan_picture::rows::line::Line;
-use codespan_picture::rows::line_characters::LineCharacters;
-use codespan_picture::rows::messages::Messages;
-use codespan_picture::rows::pointer_cursor::Pointer;
+use codespan_output::rows::char_cursor::CharCursor;
+use codespan_output::rows::line::Line;
+use codespan_output::rows::line_characters::LineCharacters;
+use codespan_output::rows::messages::Messages;
+use codespan_output::rows::pointer_cursor::Pointer;
 
 /// A cursor over the characters of a cached line. It goes through the labels in the order of their
 /// starts, each of them once.

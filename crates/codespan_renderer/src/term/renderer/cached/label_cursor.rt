@@ -2,10 +2,10 @@
 
 ghost use Rattle.std.specs.Prelude.{◌≡◌, ◌+◌, ◌<◌, ◌≤◌, ◌&&◌, nat_lt, true, max, filter};
 ghost use Rattle.codespan_core.specs.Labels.{has_message, is_primary};
-ghost use Rattle.codespan_picture.specs.Arguments.{single_label_view, single_label_views};
-ghost use Rattle.codespan_picture.specs.RowParts.{starts_in};
+ghost use Rattle.codespan_output.specs.Arguments.{single_label_view, single_label_views};
+ghost use Rattle.codespan_output.specs.RowParts.{starts_in};
 ghost use Rattle.codespan_renderer.specs.Private.PreferredStyles.{preferred_style};
-ghost use Rattle.codespan_picture.specs.Private.CharCursors.{is_covered};
+ghost use Rattle.codespan_output.specs.Private.CharCursors.{is_covered};
 ghost use Rattle.codespan_renderer.specs.Private.LabelCursors.{end_with, HasPassedLabels};
 ghost use Rattle.codespan_renderer.specs.Private.LabelCursors.{HasPassedStarts};
 

@@ -1,7 +1,7 @@
 //! The characters of a line and the pointers under them, in memory that serves many lines.
 
 ghost use Rattle.std.specs.Prelude.{◌≡◌, IfOk, IsErrOf, IsTrue, OnErr};
-ghost use Rattle.codespan_picture.specs.Arguments.{single_label_views, starts_in_order};
+ghost use Rattle.codespan_output.specs.Arguments.{single_label_views, starts_in_order};
 ghost use Rattle.codespan_renderer.specs.Private.CachedMetrics.{AreCached, ReachesPast};
 
 use crate::term::renderer::cached::cached_line::CachedLine;
@@ -10,9 +10,9 @@ use crate::term::renderer::cached::pointers::find_pointers;
 use crate::term::renderer::cached::reach::reach_of;
 use crate::term::renderer::char_metrics::{CharMetrics, Metrics};
 use codespan_core::files::Error;
-use codespan_picture::rows::line::Line;
-use codespan_picture::rows::messages::Messages;
-use codespan_picture::rows::pointer_cursor::Pointer;
+use codespan_output::rows::line::Line;
+use codespan_output::rows::messages::Messages;
+use codespan_output::rows::pointer_cursor::Pointer;
 use std::alloc::Global;
 
 /// The characters of a line and the pointers under them, cached for all its rows.

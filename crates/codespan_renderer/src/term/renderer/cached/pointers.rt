@@ -1,19 +1,19 @@
 //! The pointers under the carets of a line, cached for its pointer row and its hanging messages.
 
 ghost use Rattle.std.specs.Prelude.{◌≡◌, IfOk, IsErrOf, IsTrue, OnErr};
-ghost use Rattle.codespan_picture.specs.CharMetrics.{char_metrics};
-ghost use Rattle.codespan_picture.specs.Arguments.{single_label_views, starts_in_order};
-ghost use Rattle.codespan_picture.specs.Rows.{hanging_labels};
-ghost use Rattle.codespan_picture.specs.Private.PointerLists.{pointers_in};
+ghost use Rattle.codespan_output.specs.CharMetrics.{char_metrics};
+ghost use Rattle.codespan_output.specs.Arguments.{single_label_views, starts_in_order};
+ghost use Rattle.codespan_output.specs.Rows.{hanging_labels};
+ghost use Rattle.codespan_output.specs.Private.PointerLists.{pointers_in};
 ghost use Rattle.codespan_renderer.specs.Private.CachedMetrics.{remaining_from_cache};
 
 use crate::term::renderer::cached::cached_metrics::MetricsFromCache;
 use crate::term::renderer::cached::label_cursor::StartCursor;
 use codespan_core::files::Error;
-use codespan_picture::rows::line::Line;
-use codespan_picture::rows::messages::{Messages, has_any_message};
-use codespan_picture::rows::pointer_cursor::{Pointer, PointerCursor};
-use codespan_picture::rows::pointers::{max_label_start, pointer_under};
+use codespan_output::rows::line::Line;
+use codespan_output::rows::messages::{Messages, has_any_message};
+use codespan_output::rows::pointer_cursor::{Pointer, PointerCursor};
+use codespan_output::rows::pointers::{max_label_start, pointer_under};
 
 /// A cursor over cached pointers.
 #[derive(Drop)]

@@ -1,11 +1,11 @@
 //! How far the rows under a line reach into its text.
 
 ghost use Rattle.std.specs.Prelude.{◌≡◌, map};
-ghost use Rattle.codespan_picture.specs.Arguments.{lane_mark_view, single_label_views};
+ghost use Rattle.codespan_output.specs.Arguments.{lane_mark_view, single_label_views};
 ghost use Rattle.codespan_renderer.specs.Private.CachedMetrics.{farther, reach_of};
 
 use crate::term::renderer::MultiLabel;
-use codespan_picture::rows::line::Line;
+use codespan_output::rows::line::Line;
 
 /// Returns the greatest byte index that a row under the line may need: the greatest start or end of
 /// its labels, start of a `Top` or end of a `Bottom`; `None` where the line has none of them.

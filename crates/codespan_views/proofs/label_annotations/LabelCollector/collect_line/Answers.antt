@@ -1,7 +1,7 @@
 use Rattle.codespan_core.proofs.Std.{◌≡◌, ◌∙◌, false, true, rules, sym, arith, common_steps}
-use Rattle.codespan_picture.specs.Lines.{spans}
-use Rattle.codespan_picture.specs.Lookups.{is_looked_up}
-use Rattle.codespan_picture.specs.OutputStreams.{label_of}
+use Rattle.codespan_output.specs.Lines.{spans}
+use Rattle.codespan_output.specs.Lookups.{is_looked_up}
+use Rattle.codespan_output.specs.OutputStreams.{label_of}
 use Rattle.codespan_views.specs.Private.{label_of_collector, model_of}
 use Rattle.codespan_views.proofs.Collecting.{AppendsAnnotations-none, far-spans, looked_up-around}
 use Rattle.codespan_views.proofs.Collecting.{looked_up-spanned}

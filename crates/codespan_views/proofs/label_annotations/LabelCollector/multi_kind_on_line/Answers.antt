@@ -1,6 +1,6 @@
 use Rattle.codespan_core.proofs.Std.{ap, option_map}
 use Rattle.codespan_core.specs.Labels.{lane_mark_of}
-use Rattle.codespan_picture.specs.OutputStreams.{label_of}
+use Rattle.codespan_output.specs.OutputStreams.{label_of}
 use Rattle.codespan_views.specs.Private.{Multi}
 use Rattle.codespan_views.proofs.label_annotations.LabelCollector.multi_kind_on_line.Goals as goal
 

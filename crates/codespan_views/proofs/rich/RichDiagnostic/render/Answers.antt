@@ -1,7 +1,7 @@
 use Rattle.codespan_core.proofs.Std.{Err, rules, refl, sym, ◌∙◌, arith, nat_tests}
 use contract.Lifetimes.{Lfts}
-use Rattle.codespan_picture.specs.OutputStreams.{context_of}
-use Rattle.codespan_picture.specs.RowStreams.{stream_of_rows}
+use Rattle.codespan_output.specs.OutputStreams.{context_of}
+use Rattle.codespan_output.specs.RowStreams.{stream_of_rows}
 use Rattle.codespan_views.specs.Private.{closing_rows}
 use Rattle.codespan_views.specs.{diagnostic_of, view_config_of}
 use Rattle.codespan_core.proofs.Chains.{failed-before}

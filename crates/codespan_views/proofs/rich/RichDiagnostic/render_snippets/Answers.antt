@@ -1,8 +1,8 @@
 use Rattle.codespan_core.proofs.Std.{◌≡◌, ◌==◌, ◌+◌, ◌||◌, not, rules, List, [], ◌∷◌, length, map}
 use Rattle.codespan_core.proofs.Std.{Ok, Err, refl, sym, ap, ◌∙◌, arith, nat_lt, string_bytes, true}
 use Rattle.codespan_core.proofs.Std.{false, Bool, ne_eqb}
-use Rattle.codespan_picture.specs.OutputStreams.{labels_of, notes_of}
-use Rattle.codespan_picture.specs.Snippets.{has_any, labeled_file_model}
+use Rattle.codespan_output.specs.OutputStreams.{labels_of, notes_of}
+use Rattle.codespan_output.specs.Snippets.{has_any, labeled_file_model}
 use Rattle.codespan_views.specs.Private.{annotation_view, lines_of}
 use Rattle.codespan_views.specs.{diagnostic_of, view_config_of}
 use Rattle.codespan_views.proofs.CollectedFiles.{IsFileOfLabels, file-at}

@@ -1,7 +1,7 @@
 use Rattle.codespan_core.proofs.Std.{◌≡◌, ◌≤◌, drop, length, map}
 use Rattle.std.specs.Slice.Iter.{iter_rest}
-use Rattle.codespan_picture.specs.OutputStreams.{labels_of}
-use Rattle.codespan_picture.specs.Private.LineViews.{context_view}
+use Rattle.codespan_output.specs.OutputStreams.{labels_of}
+use Rattle.codespan_output.specs.Private.LineViews.{context_view}
 use Rattle.codespan_renderer.specs.Private.RowWriters.{row_writer_sink}
 use Rattle.codespan_views.specs.Private.{annotation_view, known_numbers_of_labels, ids_view}
 use Rattle.codespan_views.specs.{diagnostic_of, view_config_of}

@@ -1,5 +1,5 @@
 use Rattle.codespan_core.proofs.Std.{◌≡◌, ◌++◌, map, drop}
-use Rattle.codespan_picture.specs.Arguments.{lane_mark_view}
+use Rattle.codespan_output.specs.Arguments.{lane_mark_view}
 use Rattle.codespan_views.specs.Private.{annotation_view, lane_marks_in}
 use Rattle.codespan_views.proofs.snippet.line_buffers.fill_lane_marks.Given as goal
 

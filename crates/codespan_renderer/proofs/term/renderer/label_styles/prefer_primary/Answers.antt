@@ -1,5 +1,5 @@
 use Rattle.codespan_core.proofs.Std.{◌≡◌, Option, Some, refl, ap, ◌∙◌}
-use Rattle.codespan_picture.specs.Types.{LabelStyle, Primary}
+use Rattle.codespan_output.specs.Types.{LabelStyle, Primary}
 use Rattle.codespan_renderer.specs.Private.{prefer_primary}
 use Rattle.codespan_renderer.proofs.term.renderer.label_styles.prefer_primary.Goals as goal
 

@@ -1,7 +1,7 @@
 use Rattle.codespan_core.proofs.Std.{◌≡◌, filter, drop}
 use Rattle.codespan_core.specs.Labels.{has_message}
-use Rattle.codespan_picture.specs.Arguments.{single_label_views}
-use Rattle.codespan_picture.specs.RowParts.{starts_in}
+use Rattle.codespan_output.specs.Arguments.{single_label_views}
+use Rattle.codespan_output.specs.RowParts.{starts_in}
 use Rattle.codespan_renderer.specs.Private.{preferred_style}
 use Rattle.codespan_renderer.proofs.term.renderer.label_styles.start_style.Given as goal
 

@@ -1,5 +1,5 @@
 use Rattle.codespan_core.proofs.Std.{◌≡◌, ◌++◌, map, drop}
-use Rattle.codespan_picture.specs.Arguments.{single_label_views}
+use Rattle.codespan_output.specs.Arguments.{single_label_views}
 use Rattle.codespan_views.specs.Private.{annotation_view, single_labels_in}
 use Rattle.codespan_views.proofs.snippet.line_buffers.LineBuffers.refill.Given as goal
 

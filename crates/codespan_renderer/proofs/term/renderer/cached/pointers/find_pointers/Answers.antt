@@ -1,11 +1,11 @@
 use Rattle.codespan_core.proofs.Std.{◌≡◌, ◌∙◌, ◌++◌, ap, append-nil, refl, sym, arith, chars}
 use Rattle.codespan_core.proofs.Std.{IsUtf8-had}
-use Rattle.codespan_picture.specs.CharMetrics.{char_metrics}
-use Rattle.codespan_picture.specs.Arguments.{single_label_views}
+use Rattle.codespan_output.specs.CharMetrics.{char_metrics}
+use Rattle.codespan_output.specs.Arguments.{single_label_views}
 use Rattle.codespan_renderer.specs.Private.{remaining_from_cache}
-use Rattle.codespan_picture.proofs.Consecutive.{char_metrics-consecutive}
-use Rattle.codespan_picture.proofs.Hanging.{none_hangs}
-use Rattle.codespan_picture.proofs.ScanState.{scan_state-char_metrics, scan_state-more}
+use Rattle.codespan_output.proofs.Consecutive.{char_metrics-consecutive}
+use Rattle.codespan_output.proofs.Hanging.{none_hangs}
+use Rattle.codespan_output.proofs.ScanState.{scan_state-char_metrics, scan_state-more}
 use Rattle.codespan_renderer.proofs.PiecesInOrder.{before-ordered, after-ordered}
 use Rattle.codespan_renderer.proofs.PointerCursors.{no-pointers, passing-start, passing-at}
 use Rattle.codespan_renderer.proofs.PointerCursors.{passing-more, found-style, found-some}

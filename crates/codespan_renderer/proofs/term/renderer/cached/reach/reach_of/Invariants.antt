@@ -1,6 +1,6 @@
 use Rattle.codespan_core.proofs.Std.{◌≡◌, [], drop, map, fold}
 use Rattle.codespan_core.specs.Labels.{LabelModel, LaneMark}
-use Rattle.codespan_picture.specs.Arguments.{lane_mark_view, single_label_views}
+use Rattle.codespan_output.specs.Arguments.{lane_mark_view, single_label_views}
 use Rattle.codespan_renderer.specs.Private.{farther, farther_multi_label, reach_of}
 use Rattle.codespan_renderer.proofs.term.renderer.cached.reach.reach_of.Given as goal
 

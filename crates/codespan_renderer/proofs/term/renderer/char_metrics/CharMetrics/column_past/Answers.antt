@@ -1,9 +1,9 @@
 use Rattle.codespan_core.proofs.Std.{ap, arith}
-use Rattle.codespan_picture.specs.CharMetrics.{width_of}
-use Rattle.codespan_picture.specs.RowParts.{metrics_up_to}
+use Rattle.codespan_output.specs.CharMetrics.{width_of}
+use Rattle.codespan_output.specs.RowParts.{metrics_up_to}
 use Rattle.codespan_renderer.specs.Private.{metrics_from, no_more}
 use Rattle.codespan_renderer.proofs.CachedScans.{past-scan}
-use Rattle.codespan_picture.proofs.Widths.{width-out}
+use Rattle.codespan_output.proofs.Widths.{width-out}
 use Rattle.codespan_renderer.proofs.term.renderer.char_metrics.CharMetrics.column_past.Goals as goal
 
 pub returns-then-metrics-byte_index : goal.returns-then-metrics-byte_index

@@ -1,6 +1,6 @@
 use Rattle.codespan_core.proofs.Std.{◌≡◌, ◌+◌, length}
-use Rattle.codespan_picture.specs.CharMetrics.{width_of}
-use Rattle.codespan_picture.specs.RowParts.{metrics_up_to}
+use Rattle.codespan_output.specs.CharMetrics.{width_of}
+use Rattle.codespan_output.specs.RowParts.{metrics_up_to}
 use Rattle.codespan_renderer.specs.Private.{metrics_from, no_more}
 use Rattle.codespan_renderer.proofs.term.renderer.char_metrics.CharMetrics.column_past.Given as goal
 

@@ -3,7 +3,7 @@ use Rattle.std.specs.Str.Iter.{chars_rest}
 use Rattle.std.proofs.lemmas.Str.{IsUtf8-past_char, drop_past_char}
 use Rattle.codespan_renderer.specs.Private.{MetricsAfterEnd, metrics_from}
 use Rattle.codespan_renderer.proofs.MetricsSteps.{metrics_then-char, metrics_then-end, bytes-taken}
-use Rattle.codespan_picture.proofs.CharSteps.{bytes_left}
+use Rattle.codespan_output.proofs.CharSteps.{bytes_left}
 use Rattle.codespan_renderer.proofs.term.renderer.char_metrics.CharMetrics.next_metrics.Goals as goal
 
 pub invariant_of-self : goal.invariant_of-self

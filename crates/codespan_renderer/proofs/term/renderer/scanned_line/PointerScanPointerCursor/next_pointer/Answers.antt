@@ -1,5 +1,5 @@
 use Rattle.codespan_core.proofs.Std.{[], refl, sym, ◌∙◌}
-use Rattle.codespan_picture.specs.Arguments.{single_label_views}
+use Rattle.codespan_output.specs.Arguments.{single_label_views}
 use Rattle.codespan_renderer.specs.Private.{no_more}
 use Rattle.codespan_renderer.proofs.PointerCursors.{found-none, found-some, found-style}
 use Rattle.codespan_renderer.proofs.PointerCursors.{scan-past-at}

@@ -1,7 +1,7 @@
 use Rattle.codespan_core.proofs.Std.{◌≡◌, length}
-use Rattle.codespan_picture.specs.Arguments.{single_label_views}
-use Rattle.codespan_picture.specs.Rows.{hanging_labels}
-use Rattle.codespan_picture.specs.Private.PointerLists.{pointers_in}
+use Rattle.codespan_output.specs.Arguments.{single_label_views}
+use Rattle.codespan_output.specs.Rows.{hanging_labels}
+use Rattle.codespan_output.specs.Private.PointerLists.{pointers_in}
 use Rattle.codespan_renderer.specs.Private.{metrics_from, no_more}
 use Rattle.codespan_renderer.proofs.term.renderer.scanned_line.PointerScanPointerCursor.next_pointer.Given as goal
 

@@ -1,6 +1,6 @@
 use Rattle.codespan_core.proofs.Std.{◌≡◌, [], drop, ◌∙◌, arith, common_steps}
-use Rattle.codespan_picture.specs.Carets.{covers}
-use Rattle.codespan_picture.specs.Arguments.{single_label_views}
+use Rattle.codespan_output.specs.Carets.{covers}
+use Rattle.codespan_output.specs.Arguments.{single_label_views}
 use Rattle.codespan_renderer.proofs.PreferredStyles.{preferred-none}
 use Rattle.codespan_renderer.proofs.term.renderer.scanned_line.ScanCursorCharCursor.style_under.Goals as goal
 

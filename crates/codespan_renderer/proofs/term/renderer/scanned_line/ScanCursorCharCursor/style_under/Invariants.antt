@@ -1,7 +1,7 @@
 use Rattle.codespan_core.proofs.Std.{◌≡◌, drop, None}
 use Rattle.codespan_core.specs.Labels.{LabelModel}
-use Rattle.codespan_picture.specs.Carets.{covers}
-use Rattle.codespan_picture.specs.Arguments.{single_label_views}
+use Rattle.codespan_output.specs.Carets.{covers}
+use Rattle.codespan_output.specs.Arguments.{single_label_views}
 use Rattle.codespan_renderer.specs.Private.{preferred_style}
 use Rattle.codespan_renderer.proofs.term.renderer.scanned_line.ScanCursorCharCursor.style_under.Given as goal
 

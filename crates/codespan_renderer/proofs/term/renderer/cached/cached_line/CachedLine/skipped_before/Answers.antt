@@ -1,5 +1,5 @@
 use Rattle.codespan_core.proofs.Std.{arith, ap, sym, ◌∙◌, nat_tests}
-use Rattle.codespan_picture.specs.declared.char_metrics.Metrics.{Metrics}
+use Rattle.codespan_output.specs.declared.char_metrics.Metrics.{Metrics}
 use Rattle.codespan_renderer.proofs.SkippedSearch.{cached-ended, cached-width}
 use Rattle.codespan_renderer.proofs.term.renderer.cached.cached_line.CachedLine.skipped_before.Goals as goal
 

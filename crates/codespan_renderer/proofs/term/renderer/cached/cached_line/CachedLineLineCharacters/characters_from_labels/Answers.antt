@@ -1,6 +1,6 @@
 use Rattle.codespan_core.proofs.Std.{◌≡◌, take, ◌∙◌}
-use Rattle.codespan_picture.specs.Arguments.{single_label_views}
-use Rattle.codespan_picture.specs.Private.RowLabels.{least_start}
+use Rattle.codespan_output.specs.Arguments.{single_label_views}
+use Rattle.codespan_output.specs.Private.RowLabels.{least_start}
 use Rattle.codespan_renderer.proofs.SkippedSearch.{least-of_first, least-of_none}
 use Rattle.codespan_renderer.proofs.term.renderer.cached.cached_line.CachedLineLineCharacters.characters_from_labels.Goals.{in-Some}
 use Rattle.codespan_renderer.proofs.term.renderer.cached.cached_line.CachedLineLineCharacters.characters_from_labels.Goals.{in-None}

@@ -2,7 +2,7 @@ use Rattle.codespan_core.proofs.Std.{◌≡◌, true, false, leb, arith, rules, 
 use Rattle.std.specs.List.Sorted.{IsPartitionPoint}
 use Rattle.std.proofs.lemmas.List.Sorted.{IsPartitionedBy-leb, IsNonDecreasingBy-from_default}
 use Rattle.std.proofs.lemmas.List.Sorted.{IsPartitionPoint-from_clause}
-use Rattle.codespan_picture.specs.declared.char_metrics.Metrics.{Metrics}
+use Rattle.codespan_output.specs.declared.char_metrics.Metrics.{Metrics}
 use Rattle.codespan_renderer.proofs.WidthSearch.{default_metrics, cached-cut, cached-past}
 use Rattle.codespan_renderer.proofs.WidthSearch.{cached-ascends}
 use Rattle.codespan_renderer.proofs.term.renderer.cached.cached_line.CachedLineLineCharacters.width_up_to.Goals.{After-partition_point-count}

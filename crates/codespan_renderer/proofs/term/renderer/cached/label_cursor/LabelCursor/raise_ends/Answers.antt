@@ -1,6 +1,6 @@
 use Rattle.codespan_core.proofs.Std.{rules, ◌≡◌, sym, ◌∙◌, lt-ltb}
 use Rattle.codespan_core.specs.contracts.diagnostic.LabelStyle.{the_type}
-use Rattle.codespan_picture.specs.Types.{Primary}
+use Rattle.codespan_output.specs.Types.{Primary}
 use denote.Enum.Bare.{same_true}
 use Rattle.codespan_renderer.proofs.term.renderer.cached.label_cursor.LabelCursor.raise_ends.Goals as goal
 

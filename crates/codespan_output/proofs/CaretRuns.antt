@@ -1,0 +1,208 @@
+-- For `write_carets`: the carets under a line, run by run.
+use Rattle.codespan_core.proofs.Std.{◌≡◌, ℕ, ◌+◌, ◌<◌, ◌≤◌, Bool, true, false, List, [], ◌∷◌, ◌++◌}
+use Rattle.codespan_core.proofs.Std.{Option, None, Some, refl, sym, ap, ◌∙◌, append_assoc}
+use Rattle.codespan_core.proofs.Std.{append-nil, add-zero, arith, le-ltb, lt-ltb, nat_lt}
+use Rattle.codespan_core.proofs.Std.{if◌then◌else◌}
+use Rattle.codespan_core.specs.Labels.{LabelModel}
+use Rattle.codespan_core.specs.Streams.{Stream, spaces, byte_stream, repeated}
+use Rattle.codespan_output.specs.Types.{Severity, LabelStyle, Chars, Metrics}
+use Rattle.codespan_output.specs.{style_under, caret_for, max_label_end, RowContext, style_change}
+use Rattle.codespan_output.specs.{styled, caret_glyphs, carets}
+use Rattle.codespan_output.specs.Private.{caret_run, AreContiguous}
+use Rattle.codespan_output.proofs.CaretEnds.{style_under-below}
+use Rattle.codespan_output.proofs.RowEquations.{spaces-add, repeated-add, style_change-same}
+use Rattle.codespan_output.proofs.RowEquations.{regroup}
+
+-- the carets of the remaining characters
+abbrev glyphs_left : RowContext → List LabelModel → Option LabelStyle → List Metrics → Stream
+glyphs_left context labels previous cs =
+    styled context.severity (style_under labels)
+    (λ c. caret_glyphs context.chars (max_label_end labels) (style_under labels c)
+    c) previous cs
+
+-- the carets of a run that has begun, and of the remaining characters
+abbrev pub carets_left : RowContext → List LabelModel → Option LabelStyle → ℕ → List Metrics
+    → Stream
+carets_left context labels previous run cs =
+    caret_run context.chars previous run ++ glyphs_left context labels previous cs
+
+-- no run has begun
+pub carets-start : (context : RowContext) (labels : List LabelModel) (cs : List Metrics)
+    → carets_left context labels None 0 cs ≡ carets context labels cs
+unfolding carets caret_run spaces byte_stream
+carets-start context labels cs = refl
+
+-- ---- a run
+
+-- how many cells of carets or spaces a character has under it, where they reach to this end
+abbrev pub caret_count : ℕ → Option LabelStyle → Metrics → ℕ
+caret_count end None c = if nat_lt c.byte_index end then c.unicode_width else 0
+caret_count end (Some style) c = c.unicode_width
+
+spaces-count : (chars : Chars) (end : ℕ) (c : Metrics) (run : ℕ) (b : Bool)
+    → nat_lt c.byte_index end ≡ b
+    → caret_run chars None (run + caret_count end None c) ≡ caret_run chars None run ++ caret_glyphs
+    chars end None c
+unfolding caret_run caret_glyphs
+spaces-count chars end c run true e = rw e (spaces-add run c.unicode_width)
+spaces-count chars end c run false e =
+    rw e (ap spaces (add-zero run) ∙ sym (append-nil (spaces run)))
+
+-- a run without a cell
+none-run : (chars : Chars) (style : Option LabelStyle) → caret_run chars style 0 ≡ []
+unfolding caret_run spaces repeated byte_stream
+none-run chars None = refl
+none-run chars (Some style) = refl
+
+-- a run continues under a character
+pub run-counts : (chars : Chars) (end : ℕ) (style : Option LabelStyle) (c : Metrics) (run : ℕ)
+    → caret_run chars style (run + caret_count end style c) ≡ caret_run chars style
+    run ++ caret_glyphs chars end style c
+unfolding caret_run caret_glyphs
+run-counts chars end None c run = spaces-count chars end c run _ refl
+run-counts chars end (Some style) c run =
+    repeated-add run c.unicode_width (caret_for chars (Some style))
+
+-- ---- the remaining characters
+
+grown : (run shown more rest : Stream) → more ≡ run ++ shown → run ++ (shown ++ rest) ≡ more ++ rest
+grown run shown more rest e =
+    sym (append_assoc run shown rest) ∙ ap (λ (l : Stream). l ++ rest) (sym e)
+
+goes_on : (context : RowContext) (labels : List LabelModel) (run : ℕ) (c : Metrics)
+    (cs : List Metrics)
+    → caret_run context.chars (style_under labels c)
+    run
+    ++ (caret_glyphs context.chars (max_label_end labels) (style_under labels c) c
+    ++ glyphs_left context labels (style_under labels c) cs)
+    ≡ carets_left context labels (style_under labels c)
+    (run + caret_count (max_label_end labels) (style_under labels c) c) cs
+goes_on context labels run c cs =
+    grown (caret_run context.chars (style_under labels c) run)
+    (caret_glyphs context.chars (max_label_end labels) (style_under labels c) c)
+    (caret_run context.chars (style_under labels c)
+    (run + caret_count (max_label_end labels) (style_under labels c) c))
+    (glyphs_left context labels (style_under labels c) cs)
+    (run-counts context.chars (max_label_end labels) (style_under labels c) c run)
+
+unchanged : (chars : Chars) (severity : Severity) (previous style : Option LabelStyle) (run : ℕ)
+    → previous ≡ style
+    → caret_run chars previous run ++ style_change severity previous style
+    ≡ caret_run chars style run
+unchanged chars severity previous style run e =
+    rw (e, style_change-same severity style) (append-nil (caret_run chars style run))
+
+-- the next character continues the run
+pub carets-same : (context : RowContext) (labels : List LabelModel)
+    (previous style : Option LabelStyle) (run count : ℕ) (c : Metrics) (left cs : List Metrics)
+    → left ≡ c ∷ cs → style ≡ style_under labels c
+    → count ≡ caret_count (max_label_end labels) style c → previous ≡ style
+    → carets_left context labels previous run left
+    ≡ carets_left context labels style (run + count) cs
+carets-same context labels previous style run count c left cs l s n e =
+    rw (l, n, s)
+    (regroup (caret_run context.chars previous run)
+    (style_change context.severity previous (style_under labels c))
+    (caret_glyphs context.chars (max_label_end labels) (style_under labels c) c)
+    (glyphs_left context labels (style_under labels c) cs)
+    ∙ ap
+    (λ (l : Stream). l
+    ++ (caret_glyphs context.chars (max_label_end labels) (style_under labels c) c
+    ++ glyphs_left context labels (style_under labels c) cs))
+    (unchanged context.chars context.severity previous (style_under labels c) run (e ∙ s))
+    ∙ goes_on context labels run c cs)
+
+begins : (context : RowContext) (labels : List LabelModel) (c : Metrics) (cs : List Metrics)
+    → caret_glyphs context.chars (max_label_end labels) (style_under labels c) c ++ glyphs_left
+    context labels (style_under labels c) cs
+    ≡ carets_left context labels (style_under labels c)
+    (0 + caret_count (max_label_end labels) (style_under labels c) c) cs
+begins context labels c cs =
+    ap (λ (l : Stream). l ++ (caret_glyphs context.chars (max_label_end labels)
+    (style_under labels c) c ++ glyphs_left context labels (style_under labels c) cs))
+    (sym (none-run context.chars (style_under labels c)))
+    ∙ goes_on context labels 0 c cs
+
+-- the next character begins another run
+pub carets-turn : (context : RowContext) (labels : List LabelModel)
+    (previous style : Option LabelStyle) (run count : ℕ) (c : Metrics) (left cs : List Metrics)
+    → left ≡ c ∷ cs → style ≡ style_under labels c
+    → count ≡ caret_count (max_label_end labels) style c
+    → carets_left context labels previous run left ≡ caret_run context.chars previous run
+    ++ style_change
+    context.severity previous style ++ carets_left context labels style (0 + count) cs
+carets-turn context labels previous style run count c left cs l s n =
+    rw (l, n, s)
+    (regroup (caret_run context.chars previous run)
+    (style_change context.severity previous (style_under labels c))
+    (caret_glyphs context.chars (max_label_end labels) (style_under labels c) c)
+    (glyphs_left context labels (style_under labels c) cs)
+    ∙ ap
+    (λ (l : Stream). caret_run context.chars previous run
+    ++ style_change context.severity previous (style_under labels c) ++ l)
+    (begins context labels c cs))
+
+-- none remains
+pub carets-end : (context : RowContext) (labels : List LabelModel) (previous : Option LabelStyle)
+    (run : ℕ) (left : List Metrics)
+    → left ≡ []
+    → caret_run context.chars previous run ++ style_change context.severity previous None
+    ≡ carets_left
+    context labels previous run left
+carets-end context labels previous run left e = rw e refl
+
+-- ---- past the greatest end
+
+not-none : (labels : List LabelModel) (c : Metrics) → max_label_end labels ≤ c.byte_index
+    → (style : Option LabelStyle) → style_under labels c ≡ style → style_under labels c ≡ None
+not-none labels c past None is = is
+not-none labels c past (Some style) is = let low = style_under-below labels c style is in
+    absurd (omega arith)
+
+-- a character there has no label over it
+none-past : (labels : List LabelModel) (c : Metrics) → max_label_end labels ≤ c.byte_index
+    → style_under labels c ≡ None
+none-past labels c past = not-none labels c past (style_under labels c) refl
+
+-- and shows nothing
+glyphs-past : (chars : Chars) (end : ℕ) (c : Metrics) → end ≤ c.byte_index
+    → caret_glyphs chars end None c ≡ []
+unfolding caret_glyphs
+glyphs-past chars end c past =
+    let none : nat_lt c.byte_index end ≡ false = le-ltb c.byte_index end past in
+    rw none refl
+
+-- where all characters begin there, the carets end
+glyphs_left-past : (context : RowContext) (labels : List LabelModel) (previous : Option LabelStyle)
+    (byte_index : ℕ) (cs : List Metrics)
+    → AreContiguous byte_index cs → max_label_end labels ≤ byte_index
+    → glyphs_left context labels previous cs ≡ style_change context.severity previous None
+glyphs_left-past context labels previous byte_index [] follow past = refl
+glyphs_left-past context labels previous byte_index (c ∷ cs) follow past =
+    let there : max_label_end labels ≤ c.byte_index = omega (arith, follow.0) in
+    rw (
+      none-past labels c there,
+      glyphs-past context.chars (max_label_end labels) c there,
+      glyphs_left-past context labels None (byte_index + c.bytes) cs follow.2 (omega arith),
+      style_change-same context.severity None,
+    )
+    (append-nil (style_change context.severity previous None ++ [])
+    ∙ append-nil (style_change context.severity previous None))
+
+-- the run that has begun is the last one
+pub carets-past : (context : RowContext) (labels : List LabelModel) (previous : Option LabelStyle)
+    (run byte_index : ℕ) (left : List Metrics)
+    → AreContiguous byte_index left → max_label_end labels ≤ byte_index
+    → caret_run context.chars previous run ++ style_change context.severity previous None
+    ≡ carets_left
+    context labels previous run left
+carets-past context labels previous run byte_index left follow past =
+    ap (λ (l : Stream). caret_run context.chars previous run ++ l)
+    (sym (glyphs_left-past context labels previous byte_index left follow past))
+
+-- a character before that has all its cells counted
+pub counts-all : (style : Option LabelStyle) (end : ℕ) (c : Metrics) → c.byte_index < end
+    → c.unicode_width ≡ caret_count end style c
+counts-all None end c h = let low : nat_lt c.byte_index end ≡ true = lt-ltb c.byte_index end h in
+    rw low refl
+counts-all (Some style) end c h = refl

@@ -1,0 +1,305 @@
+-- For `outputs_are_utf8`: the streams of rows are texts.
+use Rattle.codespan_core.proofs.Std.{◌≡◌, ℕ, ◌-◌, Bool, true, false, List, [], ◌∷◌, ◌++◌, Option}
+use Rattle.codespan_core.proofs.Std.{Some, None, refl, sym, subst, arith, Contains, codes, nat_lt}
+use Rattle.codespan_core.proofs.Std.{nat_le, if◌then◌else◌, IfSome, IsScalar, AllByRecursion}
+use Rattle.codespan_core.proofs.Std.{list_any, range_with_len, IsUtf8, cond_both}
+use Rattle.codespan_core.proofs.Std.{All-from_recursion}
+use Rattle.std.proofs.lemmas.List.Elements.{All-contains, Contains-append_right}
+use Rattle.codespan_core.specs.SnippetStarts.{start_text}
+use Rattle.codespan_core.specs.Labels.{LabelModel, LaneMark, MultiLabel, Top, Left, Bottom}
+use Rattle.codespan_core.specs.Streams.{Stream, byte_stream, spaces, space, newline}
+use Rattle.codespan_core.specs.declared.term.config.style_mark.StyleMark.TheVariants.{Header}
+use Rattle.codespan_core.specs.declared.term.config.style_mark.StyleMark.TheVariants.{HeaderMessage}
+use Rattle.codespan_core.specs.declared.term.config.style_mark.StyleMark.TheVariants.{NoteBullet}
+use Rattle.codespan_core.specs.declared.term.config.style_mark.StyleMark.TheVariants.{SourceBorder}
+use Rattle.codespan_core.specs.declared.term.config.style_mark.StyleMark.TheVariants.{Label, Reset}
+use Rattle.codespan_output.specs.Types.{LabelStyle, Severity, Metrics}
+use Rattle.codespan_output.specs.declared.lane_shapes.Shape.{Shape}
+use Rattle.codespan_output.specs.{caret_for, max_label_end, style_under, width_of, LaneRowKind}
+use Rattle.codespan_output.specs.{Source, EmptyOrBreak, SingleLabels, Underline, label_glyph}
+use Rattle.codespan_output.specs.{lane_mark_in, row_crossing, row_shape, shape_of}
+use Rattle.codespan_output.specs.{style_of_lane_mark, Locus, RowContext, Line, Row, HeaderRow}
+use Rattle.codespan_output.specs.{SnippetStartRow, EmptyRow, BreakRow, SourceRow, CaretRow}
+use Rattle.codespan_output.specs.{PointerRow, HangingRow, UnderlineRow, FirstNoteRow, LaterNoteRow}
+use Rattle.codespan_output.specs.{FinalRow, hanging_labels, trailing_label, snippet_locus}
+use Rattle.codespan_output.specs.{label_message, inner_gutter_column, inner_gutter, leading_of}
+use Rattle.codespan_output.specs.{line_metrics, line_metrics_to_end, source_style, source_glyph}
+use Rattle.codespan_output.specs.{colored_text, caret_glyphs, carets, trailing_message, starts_in}
+use Rattle.codespan_output.specs.{max_label_start, spaces_up_to, pointer_style, pointer_at}
+use Rattle.codespan_output.specs.{pointers, metrics_before, metrics_up_to, start_caret, end_caret}
+use Rattle.codespan_output.specs.{underline_message, underline, bracketed, header_locus}
+use Rattle.codespan_output.specs.{header_row, snippet_start_row, empty_row, break_row, source_row}
+use Rattle.codespan_output.specs.{row_start, caret_row, pointer_row, hanging_row, underline_row}
+use Rattle.codespan_output.specs.{first_note_row, later_note_row, stream_of, stream_of_rows}
+use Rattle.codespan_output.specs.{StreamIsUtf8, CharsAreScalars}
+use Rattle.codespan_output.specs.Rows.{Lanes}
+use Rattle.codespan_output.proofs.LaneLineLemmas.{each_all}
+use Rattle.codespan_output.proofs.Rightmost.{Around, around_trails, around_rightmost, trailing_of}
+use Rattle.codespan_output.proofs.Rightmost.{around_is, trailing_is}
+use Rattle.codespan_output.proofs.ListElements.{all-weaker}
+use Rattle.codespan_output.proofs.StreamTexts.{text-none, text-both, followed, text-byte_stream}
+use Rattle.codespan_output.proofs.StreamTexts.{text-style_mark, text-glyph, text-space}
+use Rattle.codespan_output.proofs.StreamTexts.{text-newline, text-colon_space, text-open}
+use Rattle.codespan_output.proofs.StreamTexts.{text-close, text-spaces, text-repeated, text-each}
+use Rattle.codespan_output.proofs.StreamTexts.{text-severity, text-locus, text-outer_gutter}
+use Rattle.codespan_output.proofs.StreamTexts.{text-outer_gutter_number, text-border_left}
+use Rattle.codespan_output.proofs.StreamTexts.{text-border_left_break, text-styled}
+use Rattle.codespan_output.proofs.StreamTexts.{text-label_message}
+use Rattle.codespan_output.proofs.LaneTexts.{text-label_glyph, text-lane_characters}
+use Rattle.codespan_output.proofs.LaneTexts.{scalar-caret_for, scalar-start_caret}
+use Rattle.codespan_output.proofs.LaneTexts.{scalar-end_caret, scalar-char_metrics}
+use Rattle.codespan_output.proofs.LaneTexts.{text-source_glyph, MultiLabelIsUtf8, RowIsUtf8}
+
+-- ---- rows
+
+text-header_locus : (at : Option Locus) → IfSome at (λ p. IsUtf8 p.name)
+    → StreamIsUtf8 (header_locus at)
+unfolding header_locus
+text-header_locus None h = text-none
+text-header_locus (Some p) h =
+    text-both (snippet_locus p) (byte_stream (codes ": ")) (text-locus p h) text-colon_space
+
+text-bracketed : (code : Option (List ℕ)) → IfSome code IsUtf8 → StreamIsUtf8 (bracketed code)
+unfolding bracketed
+text-bracketed None h = text-none
+text-bracketed (Some []) h = text-none
+text-bracketed (Some (c ∷ cs)) h =
+    text-both (byte_stream (codes "[") ++ byte_stream (c ∷ cs)) (byte_stream (codes "]"))
+    (text-both (byte_stream (codes "[")) (byte_stream (c ∷ cs)) text-open
+    (text-byte_stream (c ∷ cs) h)) text-close
+
+-- the trailing message is a text where the labels' messages are
+text-trailing_label : (severity : Severity) (labels : List LabelModel)
+    → AllByRecursion (λ (x : LabelModel). StreamIsUtf8 x.message) labels
+    → StreamIsUtf8 (trailing_message severity (trailing_label labels))
+unfolding trailing_message
+text-trailing_label severity [] h = text-none
+text-trailing_label severity (x ∷ xs) h =
+    subst (λ t. StreamIsUtf8 (trailing_message severity t)) (sym (trailing_is (x ∷ xs)))
+    (by (around_rightmost (x ∷ xs)) refl)
+  where
+    shown : (y : LabelModel) → StreamIsUtf8 y.message
+        → StreamIsUtf8 (trailing_message severity (Some y))
+    shown y t =
+        text-both space (label_message severity y.style y.message) text-space
+        (text-label_message severity y.style y.message t)
+
+    here : (a : Around) → a.before ++ (a.here ∷ a.after) ≡ x ∷ xs → StreamIsUtf8 a.here.message
+    here a whole =
+        All-contains (λ (y : LabelModel). StreamIsUtf8 y.message) (x ∷ xs) a.here
+        (All-from_recursion (λ (y : LabelModel). StreamIsUtf8 y.message) (x ∷ xs) h)
+        (subst (λ ys. Contains ys a.here) whole
+        (Contains-append_right a.before (a.here ∷ a.after) a.here (0, omega arith, refl)))
+
+    tested : (a : Around) → StreamIsUtf8 a.here.message → (b : Bool)
+        → StreamIsUtf8 (trailing_message severity (if b then Some a.here else None))
+    tested a t true = shown a.here t
+    tested a t false = text-none
+
+    by : (r : Option Around) → around_rightmost (x ∷ xs) ≡ r
+        → StreamIsUtf8 (trailing_message severity (trailing_of r))
+    by None is = text-none
+    by (Some a) is =
+        tested a (here a (around_is (max_label_end (x ∷ xs)) (x ∷ xs) a is)) (around_trails a)
+
+module _ (context : RowContext) (ok : CharsAreScalars context.chars) where
+  text-inner_gutter_column : (crossing : Option LaneMark) (shape : MultiLabel → Shape)
+      (lane_mark : Option LaneMark)
+      → StreamIsUtf8 (inner_gutter_column context crossing shape lane_mark)
+  unfolding inner_gutter_column
+  text-inner_gutter_column crossing shape lane_mark =
+      text-lane_characters context.chars ok context.severity crossing (style_of_lane_mark lane_mark)
+      (shape_of shape lane_mark)
+
+  text-inner_gutter : (leading : ℕ) (row : LaneRowKind) (lanes : Lanes)
+      → StreamIsUtf8 (inner_gutter context leading row lanes)
+  unfolding inner_gutter
+  text-inner_gutter leading row lanes =
+      let shown : ℕ → Stream = λ lane. inner_gutter_column context (row_crossing row lane)
+      (row_shape context.layout leading row lane) (lane_mark_in lanes.lane_marks lane) in
+      text-each shown (range_with_len 0 lanes.count)
+      (each_all (λ lane. StreamIsUtf8 (shown lane)) (range_with_len 0 lanes.count)
+      (λ lane. text-inner_gutter_column (row_crossing row lane)
+      (row_shape context.layout leading row lane) (lane_mark_in lanes.lane_marks lane)))
+
+  -- the source
+  text-colored : (line : Line) → IsUtf8 line.text → StreamIsUtf8 (colored_text context line)
+  unfolding colored_text
+  text-colored line u =
+      text-styled context.severity (source_style line) source_glyph None (line_metrics context line)
+      (all-weaker (λ (c : Metrics). IsScalar c.ch) (λ (c : Metrics). StreamIsUtf8 (source_glyph c))
+      text-source_glyph (line_metrics context line)
+      (scalar-char_metrics context.tab_width line.text u))
+
+  -- the carets
+  text-caret_glyphs : (end : ℕ) (style : Option LabelStyle) (c : Metrics)
+      → StreamIsUtf8 (caret_glyphs context.chars end style c)
+  unfolding caret_glyphs
+  text-caret_glyphs end None c =
+      cond_both (nat_lt c.byte_index end) (spaces c.unicode_width) [] StreamIsUtf8
+      (λ _. text-spaces c.unicode_width) (λ _. text-none)
+  text-caret_glyphs end (Some style) c =
+      text-repeated c.unicode_width (caret_for context.chars (Some style))
+      (scalar-caret_for context.chars ok (Some style))
+
+  text-carets : (labels : List LabelModel) (cs : List Metrics)
+      → StreamIsUtf8 (carets context labels cs)
+  unfolding carets
+  text-carets labels cs =
+      text-styled context.severity (style_under labels)
+      (λ c. caret_glyphs context.chars (max_label_end labels) (style_under labels c) c) None cs
+      (each_all
+      (λ c. StreamIsUtf8 (caret_glyphs context.chars (max_label_end labels) (style_under labels c)
+      c))
+      cs (λ c. text-caret_glyphs (max_label_end labels) (style_under labels c) c))
+
+  -- the pointers
+  text-spaces_up_to : (byte_index : ℕ) (c : Metrics) (n : ℕ)
+      → StreamIsUtf8 (spaces_up_to byte_index c n)
+  unfolding spaces_up_to
+  text-spaces_up_to byte_index c n =
+      cond_both (nat_le c.byte_index byte_index) (spaces n) [] StreamIsUtf8 (λ _. text-spaces n)
+      (λ _. text-none)
+
+  text-pointer_at : (labels hanging_labels : List LabelModel) (c : Metrics)
+      → StreamIsUtf8 (pointer_at context labels hanging_labels c)
+  unfolding pointer_at
+  text-pointer_at labels hanging_labels c =
+      let here : Stream =
+      label_glyph context.severity (pointer_style hanging_labels c) context.chars.pointer_left
+      ++ spaces_up_to (max_label_start labels) c (c.unicode_width - 1) in
+      cond_both (list_any (starts_in c) hanging_labels) here
+      (spaces_up_to (max_label_start labels) c c.unicode_width) StreamIsUtf8
+      (λ _. text-both
+      (label_glyph context.severity (pointer_style hanging_labels c) context.chars.pointer_left)
+      (spaces_up_to (max_label_start labels) c (c.unicode_width - 1))
+      (text-label_glyph context.severity (pointer_style hanging_labels c) context.chars.pointer_left
+      ok.pointer_left)
+      (text-spaces_up_to (max_label_start labels) c (c.unicode_width - 1)))
+      (λ _. text-spaces_up_to (max_label_start labels) c c.unicode_width)
+
+  text-pointers : (labels : List LabelModel) (cs : List Metrics)
+      → StreamIsUtf8 (pointers context labels cs)
+  unfolding pointers
+  text-pointers labels cs =
+      text-each (pointer_at context labels (hanging_labels labels)) cs
+      (each_all (λ c. StreamIsUtf8 (pointer_at context labels (hanging_labels labels) c)) cs
+      (text-pointer_at labels (hanging_labels labels)))
+
+  -- the underlines
+  text-underline_message : (message : Stream) → StreamIsUtf8 message
+      → StreamIsUtf8 (underline_message message)
+  unfolding underline_message
+  text-underline_message [] t = text-none
+  text-underline_message (p ∷ ps) t = text-both space (p ∷ ps) text-space t
+
+  text-underline : (style : LabelStyle) (cs : List Metrics) (multi_label : MultiLabel)
+      → MultiLabelIsUtf8 multi_label → StreamIsUtf8 (underline context.chars style cs multi_label)
+  unfolding underline
+  text-underline style cs (Top start) t =
+      followed
+      (text-repeated (width_of (metrics_up_to start cs)) context.chars.multi_top ok.multi_top)
+      (text-glyph (start_caret context.chars style) (scalar-start_caret context.chars ok style))
+  text-underline style cs Left t = text-none
+  text-underline style cs (Bottom end message) t =
+      followed
+      (followed
+      (text-repeated (width_of (metrics_before end cs)) context.chars.multi_bottom
+      ok.multi_bottom)
+      (text-glyph (end_caret context.chars style) (scalar-end_caret context.chars ok style)))
+      (text-underline_message message t)
+
+  text-row_start : (line : Line) → StreamIsUtf8 (row_start context line)
+  unfolding row_start
+  text-row_start line =
+      followed
+      (followed (followed (text-outer_gutter context.padding) (text-border_left context.chars ok))
+      (text-inner_gutter (leading_of line) SingleLabels line.lanes))
+      text-space
+
+  -- the stream of a row is a text where what it is rendered from are texts
+  pub text-row : (row : Row) → RowIsUtf8 row → StreamIsUtf8 (stream_of context row)
+  unfolding header_row snippet_start_row empty_row break_row source_row caret_row pointer_row
+      hanging_row underline_row first_note_row later_note_row
+  text-row (HeaderRow at header_text) h =
+      followed
+      (followed
+      (followed
+      (followed
+      (followed
+      (followed
+      (followed (text-header_locus at h.0) (text-style_mark (Header context.severity)))
+      (text-severity context.severity))
+      (text-bracketed header_text.code h.1))
+      (text-style_mark HeaderMessage))
+      text-colon_space)
+      (text-byte_stream header_text.message h.2))
+      (text-style_mark Reset)
+  text-row (SnippetStartRow at) h =
+      followed
+      (followed
+      (followed
+      (followed (followed (text-outer_gutter context.padding) (text-style_mark SourceBorder))
+      (text-byte_stream (start_text context.chars.snippet_start) ok.snippet_start))
+      (text-style_mark Reset))
+      text-space)
+      (text-locus at h)
+  text-row (EmptyRow lanes) h =
+      followed (followed (text-outer_gutter context.padding) (text-border_left context.chars ok))
+      (text-inner_gutter 0 EmptyOrBreak lanes)
+  text-row (BreakRow lanes) h =
+      followed
+      (followed (text-outer_gutter context.padding) (text-border_left_break context.chars ok))
+      (text-inner_gutter 0 EmptyOrBreak lanes)
+  text-row (SourceRow line) h =
+      followed
+      (followed
+      (followed
+      (followed (text-outer_gutter_number context.padding line.number)
+      (text-border_left context.chars ok))
+      (text-inner_gutter (leading_of line) Source line.lanes))
+      text-space)
+      (text-colored line h)
+  text-row (CaretRow line) h =
+      followed
+      (followed (text-row_start line)
+      (text-carets line.labels (line_metrics_to_end context line)))
+      (text-trailing_label context.severity line.labels h)
+  text-row (PointerRow line) h =
+      followed (text-row_start line) (text-pointers line.labels (line_metrics context line))
+  text-row (HangingRow line x) h =
+      followed
+      (followed (text-row_start line)
+      (text-pointers line.labels (metrics_before x.start (line_metrics context line))))
+      (text-label_message context.severity x.style x.message h)
+  text-row (UnderlineRow line m) h =
+      followed
+      (followed
+      (followed
+      (followed
+      (followed (text-outer_gutter context.padding) (text-border_left context.chars ok))
+      (text-inner_gutter (leading_of line) (Underline m) line.lanes))
+      (text-style_mark (Label context.severity m.style)))
+      (text-underline m.style (line_metrics context line) m.multi_label h))
+      (text-style_mark Reset)
+  text-row (FirstNoteRow note_line) h =
+      followed
+      (followed
+      (followed
+      (followed (followed (text-outer_gutter context.padding) (text-style_mark NoteBullet))
+      (text-glyph context.chars.note_bullet ok.note_bullet))
+      (text-style_mark Reset))
+      text-space)
+      (text-byte_stream note_line h)
+  text-row (LaterNoteRow note_line) h =
+      followed (followed (followed (text-outer_gutter context.padding) text-space) text-space)
+      (text-byte_stream note_line h)
+  text-row FinalRow h = text-none
+
+  -- and so are those of many rows
+  pub text-rows : (rows : List Row) → AllByRecursion RowIsUtf8 rows
+      → StreamIsUtf8 (stream_of_rows context rows)
+  text-rows rows h =
+      text-each (λ row. stream_of context row ++ newline) rows
+      (all-weaker RowIsUtf8 (λ row. StreamIsUtf8 (stream_of context row ++ newline))
+      (λ row r. text-both (stream_of context row) newline (text-row row r) text-newline) rows h)

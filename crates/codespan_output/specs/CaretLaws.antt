@@ -1,0 +1,60 @@
+-- The laws of carets and pointers: carets are under the characters that labels cover, and pointers
+-- under those in which labels start.
+use Rattle.std.specs.Prelude.{◌≡◌, ℕ, ◌<◌, Bool, ◌&&◌, ◌==◌, List, ◌++◌, map, if◌then◌else◌}
+use Rattle.std.specs.Prelude.{Contains, IsTrue, encode_utf8_all}
+use Rattle.std.specs.List.{list_any, range_with_len}
+use Rattle.codespan_output.specs.Types.{Chars}
+use Rattle.codespan_core.specs.Labels.{LabelModel}
+use Rattle.codespan_core.specs.Streams.{text_of}
+use Rattle.codespan_output.specs.declared.char_metrics.Metrics.{Metrics}
+use Rattle.codespan_output.specs.CharMetrics.{width_of}
+use Rattle.codespan_output.specs.Carets.{caret_cells}
+use Rattle.codespan_output.specs.Rows.{RowContext, Line, trailing_label, hanging_labels}
+use Rattle.codespan_output.specs.RowParts.{line_metrics, line_metrics_to_end, trailing_message}
+use Rattle.codespan_output.specs.RowParts.{starts_in, max_label_start, metrics_before}
+use Rattle.codespan_output.specs.RowParts.{metrics_up_to, label_message}
+use Rattle.codespan_output.specs.RowStreams.{caret_row, pointer_row, hanging_row, row_start}
+
+-- between the lanes and the trailing message of a caret row are its caret cells
+abbrev pub CaretsAreCells : RowContext → Type 0
+CaretsAreCells context = (line : Line)
+    → text_of (caret_row context line)
+    ≡ text_of (row_start context line)
+    ++ encode_utf8_all (caret_cells context.chars line.labels (line_metrics_to_end context line))
+    ++ text_of (trailing_message context.severity (trailing_label line.labels))
+
+-- ---- pointers
+
+-- a hanging label starts in a character whose first cell this is
+abbrev pub points_at : List LabelModel → List Metrics → ℕ → Bool
+points_at labels cs k =
+    list_any (λ (c : Metrics). (c.column == k) && list_any (starts_in c) (hanging_labels labels)) cs
+
+-- the first `n` cells of a pointer row
+abbrev pub pointer_cells : Chars → List LabelModel → List Metrics → ℕ → List ℕ
+pointer_cells chars labels cs n =
+    map (λ k. if points_at labels cs k then chars.pointer_left else 32) (range_with_len 0 n)
+
+-- no hanging label starts in a character of width 0
+abbrev pub StartsHaveCells : List LabelModel → List Metrics → Type 0
+StartsHaveCells labels cs = (c : Metrics) (x : LabelModel)
+    → Contains cs c → Contains (hanging_labels labels) x → IsTrue (starts_in c x)
+    → 0 < c.unicode_width
+
+-- pointers are in the first cells of the characters in which hanging labels start; a message that
+-- hangs from a character begins in that character's first cell
+pub record PointersAreCells (context : RowContext) (line : Line) : Type 0 where
+  pub in_pointer_row : text_of (pointer_row context line)
+      ≡ text_of (row_start context line)
+      ++ encode_utf8_all (pointer_cells context.chars line.labels (line_metrics context line)
+      (width_of (metrics_up_to (max_label_start line.labels) (line_metrics context line))))
+  pub in_hanging_row : (x : LabelModel) → Contains (hanging_labels line.labels) x
+      → text_of (hanging_row context line x)
+      ≡ text_of (row_start context line)
+      ++ encode_utf8_all (pointer_cells context.chars line.labels (line_metrics context line)
+      (width_of (metrics_before x.start (line_metrics context line))))
+      ++ text_of (label_message context.severity x.style x.message)
+  pub message_begins : (x : LabelModel) (c : Metrics)
+      → Contains (hanging_labels line.labels) x → Contains (line_metrics context line) c
+      → x.start ≡ c.byte_index
+      → width_of (metrics_before x.start (line_metrics context line)) ≡ c.column

@@ -1,5 +1,0 @@
-use Rattle.codespan_picture.proofs.RowEquations.{gutter_spaces}
-use Rattle.codespan_picture.proofs.rows.parts.outer_gutter.Goals as goal
-
-pub returns : goal.returns
-returns g c = rw (gutter_spaces c.args.padding) c.write_spaces.ensures
