@@ -1,7 +1,7 @@
 //! The views and the emit calls, each over each worked output.
 
-ghost use Rattle.std.specs.Prelude.{◌≡◌, ◌++◌, ℕ, List, IfOk, IsOk, IsErrAnd, IsErrOf, IsTrue};
-ghost use Rattle.std.specs.Prelude.{codes, string_bytes, false, true};
+ghost use Rattle.std.specs.Prelude.{◌≡◌, ◌++◌, ℕ, List, IfOk, IsOk, IsErrAnd, IsErrOf};
+ghost use Rattle.std.specs.Prelude.{IsTrue, codes, string_bytes, false, true};
 ghost use Rattle.codespan_base.specs.Errors.{IsIo};
 
 use crate::copying::Copying;
@@ -279,7 +279,8 @@ fn is_prefix(bytes: &[u8], text: &str) -> bool
 /// Judges a call that writes to a vector: it holds the output; or the call failed, and it holds a
 /// prefix: with `Io` if an allocation for the vector failed, and otherwise with `OutOfMemory`.
 fn judge_recording(returned: &Result<(), Error>, recording: &Recording, output: &str) -> Outcome
-    ensures done { result ≡ Outcome.Done → (IsOk returned.now) × (recording.now.has_failed ≡ false)
+    ensures done { result ≡ Outcome.Done
+        → (IsOk returned.now) × (recording.now.has_failed ≡ false)
         × (recording.now.bytes.items ≡ output.now) }
     ensures failed { result ≡ Outcome.Failed → recording.now.has_failed ≡ false
         → IsErrOf returned.now Error.OutOfMemory }

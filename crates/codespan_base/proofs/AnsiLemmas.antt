@@ -1,6 +1,6 @@
 -- For the clauses of `write_color`: the bytes of a color, as they are written.
-use Rattle.codespan_core.proofs.Std.{◌≡◌, ℕ, ◌+◌, ◌-◌, ◌<◌, ◌≤◌, Bool, true, false, List, [], ◌∷◌}
-use Rattle.codespan_core.proofs.Std.{None, Some, refl, arith}
+use Rattle.codespan_core.proofs.Std.{◌≡◌, ℕ, ◌+◌, ◌-◌, ◌<◌, ◌≤◌, Bool}
+use Rattle.codespan_core.proofs.Std.{true, false, List, [], ◌∷◌, None, Some, refl, arith}
 use Rattle.std.specs.Fmt.{digits}
 use Rattle.codespan_base.specs.declared.term.config.color.Color.{Color}
 use Rattle.codespan_base.specs.declared.term.config.color.Color.TheVariants.{Black, Red, Green}
@@ -15,7 +15,8 @@ ansi_color-none plane b = refl
 
 -- a color that is not intense
 pub ansi_color-plain : (plane : ℕ) (c : Color)
-    → ansi_color (plane ∷ []) false (Some c) ≡ 0x1b ∷ 91 ∷ plane ∷ (48 + color_number c) ∷ 109 ∷ []
+    → ansi_color (plane ∷ []) false (Some c)
+    ≡ 0x1b ∷ 91 ∷ plane ∷ (48 + color_number c) ∷ 109 ∷ []
 unfolding ansi_color escape digits
 ansi_color-plain plane Black = refl
 ansi_color-plain plane Red = refl
@@ -29,7 +30,8 @@ ansi_color-plain plane White = refl
 -- an intense color whose number plus 8 has one digit
 pub ansi_color-intense : (plane : ℕ) (c : Color) → color_number c < 2
     → ansi_color (plane ∷ []) true
-    (Some c) ≡ 0x1b ∷ 91 ∷ plane ∷ 56 ∷ 59 ∷ 53 ∷ 59 ∷ (56 + color_number c) ∷ 109 ∷ []
+    (Some c) ≡ 0x1b ∷ 91 ∷ plane ∷ 56 ∷ 59 ∷ 53 ∷ 59 ∷ (56 + color_number c) ∷ 109
+    ∷ []
 unfolding ansi_color escape digits
 ansi_color-intense plane Black h = refl
 ansi_color-intense plane Red h = refl
@@ -43,7 +45,8 @@ ansi_color-intense plane White h = absurd (omega arith)
 -- an intense color whose number plus 8 has two digits
 pub ansi_color-intense_two : (plane : ℕ) (c : Color) → 2 ≤ color_number c
     → ansi_color (plane ∷ []) true
-    (Some c) ≡ 0x1b ∷ 91 ∷ plane ∷ 56 ∷ 59 ∷ 53 ∷ 59 ∷ 49 ∷ (48 + (color_number c - 2)) ∷ 109 ∷ []
+    (Some c) ≡ 0x1b ∷ 91 ∷ plane ∷ 56 ∷ 59 ∷ 53 ∷ 59 ∷ 49 ∷
+    (48 + (color_number c - 2)) ∷ 109 ∷ []
 unfolding ansi_color escape digits
 ansi_color-intense_two plane Black h = absurd (omega arith)
 ansi_color-intense_two plane Red h = absurd (omega arith)

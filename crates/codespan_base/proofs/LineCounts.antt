@@ -1,8 +1,9 @@
 -- For the law `line_counts_newlines`: a byte's line is the number of newlines before it.
-use Rattle.codespan_core.proofs.Std.{◌≡◌, ℕ, suc, ◌+◌, ◌-◌, ◌<◌, ◌≤◌, Bool, true, false, cond, List}
-use Rattle.codespan_core.proofs.Std.{[], ◌∷◌, length, get_or, take, Option, refl, ap, sym, ◌∙◌}
-use Rattle.codespan_core.proofs.Std.{arith, eqb, inl, inr, count_by, nat_le, ◌==◌, if◌then◌else◌}
-use Rattle.codespan_core.proofs.Std.{cases_lt, le-leb, lt-leb, sum_by-cons}
+use Rattle.codespan_core.proofs.Std.{◌≡◌, ℕ, suc, ◌+◌, ◌-◌, ◌<◌, ◌≤◌}
+use Rattle.codespan_core.proofs.Std.{Bool, true, false, cond, List, [], ◌∷◌, length, get_or}
+use Rattle.codespan_core.proofs.Std.{take, Option, refl, ap, sym, ◌∙◌, arith, eqb, inl, inr}
+use Rattle.codespan_core.proofs.Std.{count_by, nat_le, ◌==◌, if◌then◌else◌, cases_lt}
+use Rattle.codespan_core.proofs.Std.{le-leb, lt-leb, sum_by-cons}
 use Rattle.std.proofs.Math.Seq.{take-nil}
 use Rattle.codespan_core.specs.FileModel.{line_of}
 use Rattle.codespan_core.specs.SimpleModel.{simple_file}
@@ -16,7 +17,8 @@ newlines_more : (b : ℕ) (bs : List ℕ) (n : ℕ)
 newlines_more b bs n = sum_by-cons (λ b. cond (b == 10) 1 0) b (take n bs)
 
 -- numbers above `byte` are not counted
-none_counted : (byte : ℕ) (xs : List ℕ) → ((k : ℕ) → k < length xs → byte < get_or xs k 0)
+none_counted : (byte : ℕ) (xs : List ℕ)
+    → ((k : ℕ) → k < length xs → byte < get_or xs k 0)
     → count_by (λ s. nat_le s byte) xs ≡ 0
 none_counted byte xs above =
     count_split byte xs 0 (omega arith) (λ k p. absurd (omega arith)) (λ k p q. above k q)
@@ -65,7 +67,8 @@ counted byte from (b ∷ bs) =
     ]
 
 -- the line of a byte is the number of newlines before it
-line_before : (text : List ℕ) (byte : ℕ) → line_of (line_starts_of text) byte ≡ newlines text byte
+line_before : (text : List ℕ) (byte : ℕ)
+    → line_of (line_starts_of text) byte ≡ newlines text byte
 unfolding line_of
 line_before text byte =
     let n : count_by (λ s. nat_le s byte) (line_starts_of text) ≡ 1
@@ -86,8 +89,10 @@ line_past_text text byte h =
     let n : count_by (λ s. nat_le s byte) starts ≡ length starts =
     count_split byte starts (length starts) (omega arith)
     (λ k p. omega (arith, (cuts 0 text).within k p)) (λ k p q. absurd (omega arith)) in
-    let m : count_by (λ s. nat_le s byte) (0 ∷ starts) ≡ 1 + count_by (λ s. nat_le s byte) starts =
-    sum_by-cons (λ s. cond (nat_le s byte) 1 0) 0 starts ∙ rw (le-leb 0 byte (omega arith)) refl in
+    let m : count_by (λ s. nat_le s byte) (0 ∷ starts)
+    ≡ 1 + count_by (λ s. nat_le s byte) starts =
+    sum_by-cons (λ s. cond (nat_le s byte) 1 0) 0 starts
+    ∙ rw (le-leb 0 byte (omega arith)) refl in
     omega (arith, n, m)
 
 -- this holds for the file of any text

@@ -1,10 +1,10 @@
 -- For the laws `lines_join_to_source` and `columns_never_decrease`: the lines of a text join to it,
 -- and columns never decrease along a line.
-use Rattle.codespan_core.proofs.Std.{◌≡◌, ℕ, zero, suc, ◌+◌, ◌-◌, ◌≤◌, min, Bool, cond, List, ◌++◌}
-use Rattle.codespan_core.proofs.Std.{drop, flat_map, length, get_or, Option, refl, sym, ap, ◌∙◌}
-use Rattle.codespan_core.proofs.Std.{arith, count_by, slice_range, range_with_len, IsUtf8}
-use Rattle.codespan_core.proofs.Std.{take-append-drop, drop-drop, take_all, append-nil, length-drop}
-use Rattle.codespan_core.proofs.Std.{sum_by-cons}
+use Rattle.codespan_core.proofs.Std.{◌≡◌, ℕ, zero, suc, ◌+◌, ◌-◌, ◌≤◌, min}
+use Rattle.codespan_core.proofs.Std.{Bool, cond, List, ◌++◌, drop, flat_map, length, get_or}
+use Rattle.codespan_core.proofs.Std.{Option, refl, sym, ap, ◌∙◌, arith, count_by, slice_range}
+use Rattle.codespan_core.proofs.Std.{range_with_len, IsUtf8, take-append-drop, drop-drop, take_all}
+use Rattle.codespan_core.proofs.Std.{append-nil, length-drop, sum_by-cons}
 use Rattle.codespan_core.specs.Lines.{line_starts_of, starts_after, is_char_boundary}
 use Rattle.codespan_core.specs.FileModel.{line_text}
 use Rattle.codespan_core.specs.SimpleModel.{simple_file, line_ends}

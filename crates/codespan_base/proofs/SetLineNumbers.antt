@@ -1,9 +1,10 @@
 -- For the clauses of `search`, `nearest` and `set_line` of `MappedFile`: what a search finds among
 -- set numbers, and what an edit at that index does.
-use Rattle.codespan_core.proofs.Std.{◌≡◌, ℕ, zero, suc, ◌+◌, ◌-◌, ◌<◌, ◌≤◌, Bool, true, false}
-use Rattle.codespan_core.proofs.Std.{if◌then◌else◌, List, [], ◌∷◌, length, get_or, set, Some, None}
-use Rattle.codespan_core.proofs.Std.{Result, Ok, Err, IfOk, IfErr, refl, sym, ap, subst, arith}
-use Rattle.codespan_core.proofs.Std.{nat_cmp, nat_tests, length-map}
+use Rattle.codespan_core.proofs.Std.{◌≡◌, ℕ, zero, suc, ◌+◌, ◌-◌, ◌<◌}
+use Rattle.codespan_core.proofs.Std.{◌≤◌, Bool, true, false, if◌then◌else◌, List, []}
+use Rattle.codespan_core.proofs.Std.{◌∷◌, length, get_or, set, Some, None, Result, Ok, Err}
+use Rattle.codespan_core.proofs.Std.{IfOk, IfErr, refl, sym, ap, subst, arith, nat_cmp, nat_tests}
+use Rattle.codespan_core.proofs.Std.{length-map}
 use Rattle.std.proofs.Common.{length-set}
 use Rattle.std.specs.List.{insert}
 use Rattle.std.specs.List.Sorted.{IsSearchInRange, IsBinarySearchResult, IsNonDecreasingBy}
@@ -36,8 +37,10 @@ module _ (l : List SetNumber) (sorted : IsStrictlySorted (set_number_views l)) (
       IsNonDecreasingBy-from_default (λ s. ordering_index (nat_cmp s.line_index k)) l none_there
       (λ i j le in_range.
       let count = length-map l set_number_view in
-      let keys_rise : line_index_at (set_number_views l) i ≤ line_index_at (set_number_views l) j =
-      grind (arith, sorted i j, λ (same : i ≡ j). ap (line_index_at (set_number_views l)) same) in
+      let keys_rise : line_index_at (set_number_views l) i ≤ line_index_at (set_number_views l)
+      j =
+      grind (arith, sorted i j, λ (same : i ≡ j). ap (line_index_at (set_number_views l)) same)
+      in
       let first = index_at l i in
       let second = index_at l j in
       grind (arith, nat_tests))
@@ -86,7 +89,8 @@ replaced (x ∷ l) k v (suc at) low below here =
     grind (arith, nat_tests)
 
 -- which changes no line index
-kept : (l : List (ℕ × ℕ)) (at k v : ℕ) → at < length l → line_index_at l at ≡ k → (q : ℕ)
+kept : (l : List (ℕ × ℕ)) (at k v : ℕ) → at < length l → line_index_at l at ≡ k
+    → (q : ℕ)
     → line_index_at (set l at (k, v)) q ≡ line_index_at l q
 kept [] at k v low here q = absurd (omega arith)
 kept (x ∷ l) zero k v low here zero = sym here
@@ -96,7 +100,8 @@ kept (x ∷ l) (suc at) k v low here (suc q) = kept l at k v (omega arith) here 
 
 -- inserting a set number of a new line index
 inserted : (l : List (ℕ × ℕ)) (k v at : ℕ) → at ≤ length l
-    → ((j : ℕ) → j < at → line_index_at l j < k) → (at < length l → k < line_index_at l at)
+    → ((j : ℕ) → j < at → line_index_at l j < k)
+    → (at < length l → k < line_index_at l at)
     → insert l at (k, v) ≡ with_set_number k v l
 inserted [] k v zero low below above = refl
 inserted [] k v (suc at) low below above = absurd (omega arith)
@@ -111,7 +116,8 @@ inserted (x ∷ l) k v (suc at) low below above =
     grind (arith, nat_tests)
 
 -- where all line indices are greater, the line counts from no set number
-none_set : (l : List (ℕ × ℕ)) (k : ℕ) → ((j : ℕ) → j < length l → k < line_index_at l j)
+none_set : (l : List (ℕ × ℕ)) (k : ℕ)
+    → ((j : ℕ) → j < length l → k < line_index_at l j)
     → nearest_set l k ≡ None
 none_set [] k above = refl
 none_set (x ∷ l) k above =
@@ -133,24 +139,25 @@ last_set (x ∷ l) k (suc at) low here above =
     last_set l k at (omega arith) here (λ j g h. above (suc j) (omega arith) (omega arith)) in
     grind (arith, nat_tests)
 
-module _ (l : List (ℕ × ℕ)) (sorted : IsStrictlySorted l) (k at : ℕ) (is_at : IsSetAt l k at) where
-  -- writing over the set number is setting the number
-  pub set_replaces : (v : ℕ) → set l at (k, v) ≡ with_set_number k v l
-  set_replaces v =
-      replaced l k v at is_at.in_range
-      (λ j h. omega (arith, sorted j at h is_at.in_range, is_at.has_index)) is_at.has_index
+module _ (l : List (ℕ × ℕ)) (sorted : IsStrictlySorted l) (k at : ℕ) (is_at : IsSetAt l k at)
+  where
+    -- writing over the set number is setting the number
+    pub set_replaces : (v : ℕ) → set l at (k, v) ≡ with_set_number k v l
+    set_replaces v =
+        replaced l k v at is_at.in_range
+        (λ j h. omega (arith, sorted j at h is_at.in_range, is_at.has_index)) is_at.has_index
 
-  -- which keeps the order
-  pub sorted_set : (v : ℕ) → IsStrictlySorted (set l at (k, v))
-  sorted_set v i j lt in_range =
-      let same = kept l at k v is_at.in_range is_at.has_index in
-      omega (arith, same i, same j, sorted i j lt (omega (arith, length-set l at (k, v))))
+    -- which keeps the order
+    pub sorted_set : (v : ℕ) → IsStrictlySorted (set l at (k, v))
+    sorted_set v i j lt in_range =
+        let same = kept l at k v is_at.in_range is_at.has_index in
+        omega (arith, same i, same j, sorted i j lt (omega (arith, length-set l at (k, v))))
 
-  -- a line that is set counts from itself
-  pub nearest_set_at : nearest_set l k ≡ Some (get_or l at (0, 0))
-  nearest_set_at =
-      last_set l k at is_at.in_range (omega (arith, is_at.has_index))
-      (λ j g h. omega (arith, sorted at j g h, is_at.has_index))
+    -- a line that is set counts from itself
+    pub nearest_set_at : nearest_set l k ≡ Some (get_or l at (0, 0))
+    nearest_set_at =
+        last_set l k at is_at.in_range (omega (arith, is_at.has_index))
+        (λ j g h. omega (arith, sorted at j g h, is_at.has_index))
 
 module _ (l : List (ℕ × ℕ)) (k at : ℕ) (point : IsInsertionPoint l k at) where
   -- inserting at the point is setting the number
@@ -210,7 +217,8 @@ pairs-insert (x ∷ l) (suc at) s = ap (λ (ps : List (ℕ × ℕ)). set_number_
 
 -- whether the insert succeeds or fails, the order is kept
 pub sorted_either : (l : List SetNumber) (at : ℕ) (s : SetNumber)
-    → IsInsertionPoint (set_number_views l) s.line_index at → IsStrictlySorted (set_number_views l)
+    → IsInsertionPoint (set_number_views l) s.line_index at
+    → IsStrictlySorted (set_number_views l)
     → (b : Bool)
     (xs : List SetNumber) → xs ≡ (if b then insert l at s else l)
     → IsStrictlySorted (set_number_views xs)

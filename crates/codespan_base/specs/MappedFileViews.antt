@@ -27,7 +27,8 @@ module _ {Name Source : Type 0} {texts : Ghosts Source} where
   set_numbers_of file = set_number_views file.numbers.items
 
   -- the file that the lookups of a `MappedFile` describe, where `displayed` is what names display
-  abbrev pub mapped_file_of : (Name → Option (List ℕ)) → MappedFile Name Source texts → FileModel
+  abbrev pub mapped_file_of : (Name → Option (List ℕ)) → MappedFile Name Source texts
+      → FileModel
   mapped_file_of displayed file =
       mapped_file (displayed (mapped_name_of file)) (mapped_text_of file) (set_numbers_of file)
 

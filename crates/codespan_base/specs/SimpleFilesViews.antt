@@ -13,7 +13,8 @@ module _ {Name Source : Type 0} {texts : Ghosts Source} where
   entries database = map (λ file. (name_of file, source_of file)) database.files.items
 
   -- the file of an id, where `displayed` is what names display
-  abbrev pub database_file_of : (Name → Option (List ℕ)) → SimpleFiles Name Source texts → ℕ
+  abbrev pub database_file_of : (Name → Option (List ℕ)) → SimpleFiles Name Source texts
+      → ℕ
       → FileModel
   database_file_of displayed database id =
       database_file displayed texts.text (entries database) id

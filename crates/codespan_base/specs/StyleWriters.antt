@@ -25,7 +25,8 @@ no_color_inner p = p.inner
 
 -- a writer of styles spells each style mark as the bytes of its style
 abbrev pub styles_sink : {W : Type 0}
-    → (W → Option (List ℕ)) → (ColorSpec → List ℕ) → List ℕ → StylesWriter W → Sink
+    → (W → Option (List ℕ)) → (ColorSpec → List ℕ) → List ℕ → StylesWriter W
+    → Sink
 styles_sink contents style_bytes reset_bytes p = record {
   frame = record {
     spelling = spelling_by p.styles.now style_bytes reset_bytes;

@@ -36,7 +36,8 @@ pub fn line_counts_newlines()
 /// [`MappedFile`](codespan_reporting::files::MappedFile), that line and the lines after it count
 /// from there, up to the next line whose number is set; the lines above count as before.
 pub fn set_numbers_count_on()
-    ensures { (set_numbers : List (ℕ × ℕ)) (line number i : ℕ) → IsStrictlySorted set_numbers →
+    ensures { (set_numbers : List (ℕ × ℕ)) (line number i : ℕ)
+        → IsStrictlySorted set_numbers →
         nearest_set (with_set_number line number set_numbers) i
         ≡ nearest_set_after line number i (nearest_set set_numbers i) }
 {}

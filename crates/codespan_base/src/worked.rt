@@ -2,8 +2,8 @@
 //! definitions compute to.
 #![tactic(auto, unfolding(crate::specs::FileDefinitions::file_definitions))]
 
-ghost use Rattle.std.specs.Prelude.{◌≡◌, ◌^◌, ◌-◌, [], ◌∷◌, map, codes, encode_utf8_all, Some};
-ghost use Rattle.std.specs.Prelude.{None};
+ghost use Rattle.std.specs.Prelude.{◌≡◌, ◌^◌, ◌-◌, [], ◌∷◌, map, codes};
+ghost use Rattle.std.specs.Prelude.{encode_utf8_all, Some, None};
 ghost use Rattle.codespan_core.specs.FileModel.{line_of, line_text};
 ghost use Rattle.codespan_core.specs.FileModel.Lookup.{Source, LineNumber, LineRange};
 ghost use Rattle.codespan_core.specs.Lines.{line_starts_of, column_index_of};

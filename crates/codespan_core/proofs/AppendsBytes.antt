@@ -1,7 +1,8 @@
 -- For the clauses of `write_all`, and of `set_color` of `Ansi` of `codespan_base`: bytes that a
 -- writer takes, call after call.
-use Rattle.codespan_core.proofs.Std.{◌≡◌, ℕ, true, List, [], ◌∷◌, ◌++◌, Option, Result, Ok, Err}
-use Rattle.codespan_core.proofs.Std.{sym, ap, subst, ◌∙◌, err_from_is_err_and}
+use Rattle.codespan_core.proofs.Std.{◌≡◌, ℕ, true, List, [], ◌∷◌, ◌++◌, Option}
+use Rattle.codespan_core.proofs.Std.{Result, Ok, Err, sym, ap, subst, ◌∙◌}
+use Rattle.codespan_core.proofs.Std.{err_from_is_err_and}
 use Rattle.std.specs.Borrow.{GName}
 use Rattle.std.specs.Result.{IsErrAnd}
 use Rattle.codespan_core.specs.declared.term.config.plain_ref.PlainWriterRef.{PlainWriterRef}
@@ -35,7 +36,8 @@ BytesAppended o bs m = are_known o ≡ true → m ≡ extended o bs
 abbrev pub BytesPrefixAppended : Option (List ℕ) → List ℕ → Option (List ℕ) → Type 0
 BytesPrefixAppended o bs m = are_known o ≡ true → PrefixAppended o bs m
 
-are_known-after : (o m : Option (List ℕ)) (a : List ℕ) → are_known o ≡ true → m ≡ extended o a
+are_known-after : (o m : Option (List ℕ)) (a : List ℕ) → are_known o ≡ true
+    → m ≡ extended o a
     → are_known m ≡ true
 are_known-after o m a known e = ap are_known e ∙ are_known-extended o a ∙ known
 
@@ -48,7 +50,8 @@ appended-then o a b m k p q = λ known.
     ∙ sym (extended-append o a b)
 
 -- a prefix of the bytes after them was written
-pub prefix-then : (o : Option (List ℕ)) (a b : List ℕ) (m k : Option (List ℕ)) → BytesAppended o a m
+pub prefix-then : (o : Option (List ℕ)) (a b : List ℕ) (m k : Option (List ℕ))
+    → BytesAppended o a m
     → BytesPrefixAppended m b k → BytesPrefixAppended o (a ++ b) k
 prefix-then o a b m k p q = λ known.
     let e = p known in
@@ -83,7 +86,8 @@ keeps_reference : {W E : Type 0} (contents_of : W → Option (List ℕ))
     → plain_ref_sink contents_of before ≡ fresh_plain_ref_sink name contents
     → KeepsFrame (plain_ref_sink contents_of before).frame r
     (plain_ref_sink contents_of after).frame
-    → (name ≡ plain_reference after → x ≡ borrowed_writer after) → x ≡ borrowed_writer after
+    → (name ≡ plain_reference after → x ≡ borrowed_writer after)
+    → x ≡ borrowed_writer after
 keeps_reference contents_of before after name contents x (Ok done) begins keeps back =
     let kept : (plain_reference after ∷ []) ≡ (name ∷ []) =
     ap (λ (f : Frame). f.borrows) keeps ∙ ap (λ (s : Sink). s.frame.borrows) begins in

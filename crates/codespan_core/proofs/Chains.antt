@@ -1,7 +1,7 @@
 -- For the clause of `put_pair`, and of each function that writes a row: calls that write one after
 -- another, each where the one before it succeeded.
-use Rattle.codespan_core.proofs.Std.{◌≡◌, true, ◌++◌, ap, sym, subst, ◌∙◌, Result, Ok, Err}
-use Rattle.codespan_core.proofs.Std.{err_from_is_err_and}
+use Rattle.codespan_core.proofs.Std.{◌≡◌, true, ◌++◌, ap, sym, subst, ◌∙◌, Result}
+use Rattle.codespan_core.proofs.Std.{Ok, Err, err_from_is_err_and}
 use Rattle.std.specs.Result.{IsErrAnd}
 use Rattle.codespan_core.specs.{Stream, Sink, with_written, is_known, PrefixWritten, Writes}
 use Rattle.codespan_core.specs.{failed_frame}
@@ -10,7 +10,8 @@ use Rattle.codespan_core.proofs.Writes.{PrefixWritten-first, PrefixWritten-last}
 
 -- the stream was written
 abbrev pub WroteStream : Sink → Stream → Sink → Type 0
-WroteStream s items t = (t.frame ≡ s.frame) × (is_known s ≡ true → t ≡ with_written s items)
+WroteStream s items t = (t.frame ≡ s.frame)
+    × (is_known s ≡ true → t ≡ with_written s items)
 
 -- a prefix of the stream was written, and the writer failed
 abbrev pub WrotePrefix : Sink → Stream → Sink → Type 0
@@ -23,7 +24,8 @@ pub known-after : (s t : Sink) (a : Stream) → is_known s ≡ true → t ≡ wi
 known-after s t a known e = ap is_known e ∙ is_known-with_written s a ∙ known
 
 -- another stream was written after it
-pub written-then : (s : Sink) (a b : Stream) {t u : Sink} → WroteStream s a t → WroteStream t b u
+pub written-then : (s : Sink) (a b : Stream) {t u : Sink} → WroteStream s a t
+    → WroteStream t b u
     → WroteStream s (a ++ b) u
 written-then s a b {t} {u} p q = (
   q.0 ∙ p.0,
@@ -33,7 +35,8 @@ written-then s a b {t} {u} p q = (
 )
 
 -- the call that writes the stream after it failed
-pub failed-then : (a : Stream) {s t u : Sink} {b : Stream} → WroteStream s a t → WrotePrefix t b u
+pub failed-then : (a : Stream) {s t u : Sink} {b : Stream} → WroteStream s a t
+    → WrotePrefix t b u
     → WrotePrefix s (a ++ b) u
 failed-then a {s} {t} {u} {b} p q = (
   q.0 ∙ ap failed_frame p.0,

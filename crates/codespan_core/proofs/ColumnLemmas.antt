@@ -1,8 +1,8 @@
 -- For the clause `value` of `column_index`, and of `column_number`, `location` and their defaults.
-use Rattle.codespan_core.proofs.Std.{nat_tests, lt-ltb, map-id, drop_more, sum_by-cons, ◌≡◌, ℕ}
-use Rattle.codespan_core.proofs.Std.{zero, suc, ◌+◌, ◌-◌, ◌<◌, ◌≤◌, Bool, true, false, cond, List}
-use Rattle.codespan_core.proofs.Std.{length, get_or, take, drop, refl, ap, arith, count_by}
-use Rattle.codespan_core.proofs.Std.{range_with_len, IsCharBoundary}
+use Rattle.codespan_core.proofs.Std.{nat_tests, lt-ltb, map-id, drop_more, sum_by-cons, ◌≡◌}
+use Rattle.codespan_core.proofs.Std.{ℕ, zero, suc, ◌+◌, ◌-◌, ◌<◌, ◌≤◌, Bool}
+use Rattle.codespan_core.proofs.Std.{true, false, cond, List, length, get_or, take, drop, refl, ap}
+use Rattle.codespan_core.proofs.Std.{arith, count_by, range_with_len, IsCharBoundary}
 use Rattle.std.proofs.lemmas.Bool.{false_from_ne_true}
 use Rattle.std.proofs.lemmas.List.FromFn.{sum_by-map-range_with_len_more}
 use Rattle.std.specs.declared.ops.Range.{Range}
@@ -30,7 +30,8 @@ is_char_boundary_no text i b =
 
 -- a count over one more index
 count_range_more : (p : ℕ → Bool) (a n : ℕ)
-    → count_by p (range_with_len a (n + 1)) ≡ count_by p (range_with_len a n) + cond (p (a + n)) 1 0
+    → count_by p (range_with_len a (n + 1))
+    ≡ count_by p (range_with_len a n) + cond (p (a + n)) 1 0
 count_range_more p a n =
     simp (map-id {A = ℕ}) at
     (sum_by-map-range_with_len_more (λ x. cond (p x) 1 0) (λ x. x) a n (a + n) refl)
@@ -89,7 +90,8 @@ count_begins text a (suc n) h =
     )
 
 -- the step of such a count over a block of 16 bytes
-pub count_block_step : (text : List ℕ) (start i : ℕ) → start ≤ i → i + 1 + 16 ≤ length text
+pub count_block_step : (text : List ℕ) (start i : ℕ) → start ≤ i
+    → i + 1 + 16 ≤ length text
     → count_by (is_char_boundary text) (range_with_len (start + 1) (i + 16 - start)) ≡ count_by
     (is_char_boundary text) (range_with_len (start + 1) (i - start)) + count_by begins_char
     (take 16 (drop (i + 1) text))
@@ -116,5 +118,6 @@ column_in_line f i byte text r n counted same line =
 -- the numbers of the byte's line and of its column there are the location of the byte
 pub location_in_file : (f : FileModel) (byte i n m : ℕ) → i ≡ line_of f.starts byte
     → n ≡ f.line_number i → m ≡ f.column_number i byte
-    → ◌≡◌ {A = Location} (record { line_number = n; column_number = m }) (location_of f byte)
+    → ◌≡◌ {A = Location} (record { line_number = n; column_number = m })
+    (location_of f byte)
 location_in_file f byte i n m line number column = rw (number, column, line) refl

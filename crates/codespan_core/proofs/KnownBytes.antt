@@ -1,7 +1,7 @@
 -- For `AppendsBytes`, `Writes` and `Put`: known bytes of a writer, and more that are appended to
 -- them.
-use Rattle.codespan_core.proofs.Std.{◌≡◌, ℕ, List, [], ◌++◌, Option, None, Some, is_some}
-use Rattle.codespan_core.proofs.Std.{append-nil, append_assoc, refl, sym, ap, ◌∙◌}
+use Rattle.codespan_core.proofs.Std.{◌≡◌, ℕ, List, [], ◌++◌, Option, None, Some}
+use Rattle.codespan_core.proofs.Std.{is_some, append-nil, append_assoc, refl, sym, ap, ◌∙◌}
 use Rattle.std.specs.Io.KnownBytes.{append_known}
 use Rattle.codespan_core.specs.{are_known, extended, PrefixAppended}
 
@@ -16,7 +16,8 @@ pub append_known-nil : (o : Option (List ℕ)) → append_known o [] ≡ o
 append_known-nil None = refl
 append_known-nil (Some xs) = ap (λ (l : List ℕ). Some l) (append-nil xs)
 
-pub is_some-append : (o : Option (List ℕ)) (bs : List ℕ) → is_some (append_known o bs) ≡ is_some o
+pub is_some-append : (o : Option (List ℕ)) (bs : List ℕ)
+    → is_some (append_known o bs) ≡ is_some o
 is_some-append None bs = refl
 is_some-append (Some xs) bs = refl
 
@@ -32,12 +33,14 @@ unfolding extended
 extended-nil o = append_known-nil o
 
 -- known bytes stay known
-pub are_known-extended : (o : Option (List ℕ)) (a : List ℕ) → are_known (extended o a) ≡ are_known o
+pub are_known-extended : (o : Option (List ℕ)) (a : List ℕ)
+    → are_known (extended o a) ≡ are_known o
 unfolding are_known extended
 are_known-extended o a = is_some-append o a
 
 -- a prefix of the first part is one of the whole
-pub PrefixAppended-first : (o : Option (List ℕ)) (a : List ℕ) (m : Option (List ℕ)) (b : List ℕ)
+pub PrefixAppended-first : (o : Option (List ℕ)) (a : List ℕ) (m : Option (List ℕ))
+    (b : List ℕ)
     → PrefixAppended o a m → PrefixAppended o (a ++ b) m
 PrefixAppended-first o a m b p =
     record {

@@ -1,7 +1,7 @@
 -- For the clauses of `put_all`, `put_spaces` and `put_runs`: a loop that writes a stream piece by
 -- piece.
-use Rattle.codespan_core.proofs.Std.{◌≡◌, true, [], ◌++◌, refl, sym, ap, subst, ◌∙◌, append_assoc}
-use Rattle.codespan_core.proofs.Std.{append-nil, Result, Ok, Err}
+use Rattle.codespan_core.proofs.Std.{◌≡◌, true, [], ◌++◌, refl, sym, ap, subst, ◌∙◌}
+use Rattle.codespan_core.proofs.Std.{append_assoc, append-nil, Result, Ok, Err}
 use Rattle.codespan_core.specs.{Stream, Sink, with_written, is_known, PrefixWritten, Writes}
 use Rattle.codespan_core.specs.{failed_frame}
 use Rattle.codespan_core.proofs.Writes.{is_known-with_written, with_written-append}
@@ -36,7 +36,8 @@ known_then s whole rest t h p =
 -- the next piece was written
 pub StillToWrite-more : (s : Sink) (whole rest : Stream) (t u : Sink) (piece next : Stream)
     → StillToWrite s whole rest t
-    → (u.frame ≡ t.frame) × (is_known t ≡ true → u ≡ with_written t piece) → rest ≡ piece ++ next
+    → (u.frame ≡ t.frame) × (is_known t ≡ true → u ≡ with_written t piece)
+    → rest ≡ piece ++ next
     → StillToWrite s whole next u
 StillToWrite-more s whole rest t u piece next p e r = record {
   frame = e.0 ∙ p.frame;
@@ -74,7 +75,8 @@ StillToWrite-same s whole rest other t e p = subst (λ (l : Stream). StillToWrit
 
 -- nothing is left
 pub StillToWrite-end : (s : Sink) (whole rest : Stream) (t : Sink) → StillToWrite s whole rest t
-    → rest ≡ [] → (t.frame ≡ s.frame) × (is_known s ≡ true → t ≡ with_written s whole)
+    → rest ≡ [] → (t.frame ≡ s.frame)
+    × (is_known s ≡ true → t ≡ with_written s whole)
 StillToWrite-end s whole rest t p e = (
   p.frame,
   λ h. let q : WrittenSoFar s whole rest t = p.known h in q.is

@@ -1,9 +1,10 @@
 -- For the clauses `kept` and `ended` of `search`, and `first` of `take_newline`, by which `next` of
 -- `LineStarts` meets its law: the mask of the newlines in a block of a text.
-use Rattle.codespan_core.proofs.Std.{◌≡◌, ℕ, zero, suc, ◌+◌, ◌-◌, ◌*◌, ◌/◌, ◌^◌, ◌<◌, ◌≤◌, Bool}
-use Rattle.codespan_core.proofs.Std.{true, false, cond, List, [], ◌∷◌, length, map, take, drop}
-use Rattle.codespan_core.proofs.Std.{get_or, refl, sym, ap, ◌∙◌, arith, ◌≢◌, not, prefix_len}
-use Rattle.codespan_core.proofs.Std.{eqb-true, eq-eqb, false≢true, length-map, drop-map, drop-drop}
+use Rattle.codespan_core.proofs.Std.{◌≡◌, ℕ, zero, suc, ◌+◌, ◌-◌, ◌*◌, ◌/◌}
+use Rattle.codespan_core.proofs.Std.{◌^◌, ◌<◌, ◌≤◌, Bool, true, false, cond, List, []}
+use Rattle.codespan_core.proofs.Std.{◌∷◌, length, map, take, drop, get_or, refl, sym, ap}
+use Rattle.codespan_core.proofs.Std.{◌∙◌, arith, ◌≢◌, not, prefix_len, eqb-true, eq-eqb}
+use Rattle.codespan_core.proofs.Std.{false≢true, length-map, drop-map, drop-drop}
 use Rattle.std.proofs.Common.{pow_mono, shr-shr}
 use Rattle.std.specs.Prelude.{slice_index}
 use Rattle.std.specs.Simd.Lanes.{chunk, mask_l}
@@ -16,7 +17,8 @@ use Rattle.codespan_core.specs.Lemmas.Lines.{starts_after_run, starts_after_newl
 use lib.Count.{count_trailing_zeros}
 
 -- the mask of at most n bytes has at most n bits
-pub newline_mask_lt : (bs : List ℕ) (n : ℕ) → length bs ≤ n → mask_l (map is_newline bs) < 2 ^ n
+pub newline_mask_lt : (bs : List ℕ) (n : ℕ) → length bs ≤ n
+    → mask_l (map is_newline bs) < 2 ^ n
 newline_mask_lt bs n h =
     omega (
       arith,
@@ -73,7 +75,8 @@ no_start_in_block bs at end ordered within empty =
 -- where all bytes come before a newline, no bit of the mask is set
 none_set_by : (bs : List ℕ) (head : Bool)
     → cond (not head) (1 + prefix_len (λ b. not (is_newline b)) bs) 0 ≡ suc (length bs)
-    → (prefix_len (λ b. not (is_newline b)) bs ≡ length bs → mask_l (map is_newline bs) ≡ 0)
+    → (prefix_len (λ b. not (is_newline b)) bs ≡ length bs
+    → mask_l (map is_newline bs) ≡ 0)
     → cond head 1 0 + 2 * mask_l (map is_newline bs) ≡ 0
 none_set_by bs true e rest = absurd (omega (arith, e))
 none_set_by bs false e rest = omega (arith, rest (omega (arith, e)))

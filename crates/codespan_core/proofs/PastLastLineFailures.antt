@@ -1,7 +1,8 @@
 -- For the clauses `failed` of the file databases: a line past the last fails, and the line of a
 -- byte is never past the last.
-use Rattle.codespan_core.proofs.Std.{◌≡◌, ◌≢◌, ℕ, suc, ◌-◌, ◌^◌, ◌<◌, ◌≤◌, List, length, refl, ap}
-use Rattle.codespan_core.proofs.Std.{arith, Option, Some, None, lt-leb, le-leb, ne_eqb}
+use Rattle.codespan_core.proofs.Std.{◌≡◌, ◌≢◌, ℕ, suc, ◌-◌, ◌^◌, ◌<◌}
+use Rattle.codespan_core.proofs.Std.{◌≤◌, List, length, refl, ap, arith, Option, Some, None}
+use Rattle.codespan_core.proofs.Std.{lt-leb, le-leb, ne_eqb}
 use Rattle.codespan_core.specs.declared.files.error.Error.{Error}
 use Rattle.codespan_core.specs.declared.files.error.Error.TheVariants.{LineTooLarge, OutOfMemory}
 use Rattle.codespan_core.specs.{line_of, line_number_failure, line_starts_of}
@@ -9,7 +10,8 @@ use Rattle.codespan_core.specs.{past_last_line_failure}
 use Rattle.codespan_core.specs.Lemmas.Lines.{line_of_below}
 
 -- a line that is not below the number of lines fails, with the index of the last line
-pub past_last_line_failure_late : (text : List ℕ) (i n : ℕ) → n ≡ length (line_starts_of text)
+pub past_last_line_failure_late : (text : List ℕ) (i n : ℕ)
+    → n ≡ length (line_starts_of text)
     → n ≤ i → past_last_line_failure text i ≡ Some (LineTooLarge i (n - 1))
 past_last_line_failure_late text i n count late =
     rw count (rw (lt-leb (suc i) (length (line_starts_of text)) (omega arith)) refl)

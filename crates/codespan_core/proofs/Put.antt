@@ -1,7 +1,8 @@
 -- For the clauses of `put_all` and `forward_put`: a loop of `put`.
-use Rattle.codespan_core.proofs.Std.{◌≡◌, ℕ, ◌<◌, true, ltb, List, [], ◌∷◌, ◌++◌, length, take}
-use Rattle.codespan_core.proofs.Std.{drop, refl, sym, ap, ◌∙◌, arith, Option, None, Some, is_some}
-use Rattle.codespan_core.proofs.Std.{suc, zero, ne_eqb, false≢true, nat_tests, take-append-drop}
+use Rattle.codespan_core.proofs.Std.{◌≡◌, ℕ, ◌<◌, true, ltb, List, [], ◌∷◌}
+use Rattle.codespan_core.proofs.Std.{◌++◌, length, take, drop, refl, sym, ap, ◌∙◌, arith}
+use Rattle.codespan_core.proofs.Std.{Option, None, Some, is_some, suc, zero, ne_eqb, false≢true}
+use Rattle.codespan_core.proofs.Std.{nat_tests, take-append-drop}
 use Rattle.std.specs.Io.KnownBytes.{append_known, Appends, Keeps}
 use Rattle.codespan_core.specs.{byte_stream, Frame, Sink, failed_frame, after_put, with_written}
 use Rattle.codespan_core.specs.{is_known, are_known, extended, PrefixWritten}
@@ -26,13 +27,15 @@ after_put-some f bs (suc n) h = rw (ne_eqb (suc n) 0 (λ e. omega (arith, e))) r
 pub put-with_written : (s : Sink) (bs : List ℕ) (n : ℕ) (t : Sink) → (n ≡ 0 → ⊥)
     → (t.frame ≡ after_put s.frame bs n)
     × (is_known s ≡ true → t.contents ≡ append_known s.contents (take n bs))
-    → (t.frame ≡ s.frame) × (is_known s ≡ true → t ≡ with_written s (byte_stream (take n bs)))
+    → (t.frame ≡ s.frame)
+    × (is_known s ≡ true → t ≡ with_written s (byte_stream (take n bs)))
 unfolding with_written extended
 put-with_written s bs n t h p =
     let f : t.frame ≡ s.frame = p.0 ∙ after_put-some s.frame bs n (λ e. absurd (h e)) in (
       f,
       λ known. sink-by s t _ _ f (p.1 known
-          ∙ ap (append_known s.contents) (sym (spelled-byte_stream s.frame.spelling (take n bs)))),
+          ∙ ap (append_known s.contents)
+          (sym (spelled-byte_stream s.frame.spelling (take n bs)))),
     )
 
 -- none of the bytes were written
@@ -50,7 +53,8 @@ none_written s bs t same = record {
 pub put-none : (s : Sink) (bs : List ℕ) (n : ℕ) (t : Sink) → n ≡ 0 → 0 < length bs
     → (t.frame ≡ after_put s.frame bs n)
     × (is_known s ≡ true → t.contents ≡ append_known s.contents (take n bs))
-    → (t.frame ≡ failed_frame s.frame) × (is_known s ≡ true → PrefixWritten s (byte_stream bs) t)
+    → (t.frame ≡ failed_frame s.frame)
+    × (is_known s ≡ true → PrefixWritten s (byte_stream bs) t)
 put-none s bs n t e h p =
     let f : t.frame ≡ failed_frame s.frame = p.0 ∙ after_put-none s.frame bs n e h in (
       f,
@@ -61,7 +65,8 @@ put-none s bs n t e h p =
 -- a `put` that failed, as a failed stream
 pub put-failed : (s : Sink) (bs : List ℕ) (t : Sink)
     → (t.frame ≡ failed_frame s.frame) × (is_known s ≡ true → t.contents ≡ s.contents)
-    → (t.frame ≡ failed_frame s.frame) × (is_known s ≡ true → PrefixWritten s (byte_stream bs) t)
+    → (t.frame ≡ failed_frame s.frame)
+    × (is_known s ≡ true → PrefixWritten s (byte_stream bs) t)
 put-failed s bs t p = (
   p.0,
   λ known. none_written s bs t (p.1 known ∙ sym (append_known-nil s.contents)),

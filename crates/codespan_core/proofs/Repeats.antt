@@ -1,8 +1,9 @@
 -- For the clauses of `put_spaces`, `put_repeated`, `put_runs`, `fill` and `write_digits`: spaces,
 -- repeated characters and numbers, part by part.
-use Rattle.codespan_core.proofs.Std.{◌≡◌, ℕ, zero, suc, get_or, ◌+◌, ◌-◌, ◌*◌, ◌/◌, ◌%◌, ◌^◌, ◌<◌}
-use Rattle.codespan_core.proofs.Std.{◌≤◌, List, [], ◌∷◌, ◌++◌, length, take, drop, replicate, refl}
-use Rattle.codespan_core.proofs.Std.{sym, ap, ◌∙◌, append_assoc, append-nil, arith, repeat}
+use Rattle.codespan_core.proofs.Std.{◌≡◌, ℕ, zero, suc, get_or, ◌+◌, ◌-◌, ◌*◌}
+use Rattle.codespan_core.proofs.Std.{◌/◌, ◌%◌, ◌^◌, ◌<◌, ◌≤◌, List, []}
+use Rattle.codespan_core.proofs.Std.{◌∷◌, ◌++◌, length, take, drop, replicate, refl, sym}
+use Rattle.codespan_core.proofs.Std.{ap, ◌∙◌, append_assoc, append-nil, arith, repeat}
 use Rattle.codespan_core.proofs.Std.{encode_utf8, common_steps, take-append_seam, length-append}
 use Rattle.codespan_core.proofs.Std.{length-drop}
 use Rattle.std.proofs.Common.{mul-le-mul_right}
@@ -16,12 +17,14 @@ use Rattle.codespan_core.proofs.Writes.{byte_stream-append}
 -- ---- spaces
 
 -- the first k of them
-pub spaces-next : (k n : ℕ) → k ≤ n → spaces n ≡ byte_stream (replicate k 32) ++ spaces (n - k)
+pub spaces-next : (k n : ℕ) → k ≤ n
+    → spaces n ≡ byte_stream (replicate k 32) ++ spaces (n - k)
 unfolding spaces
 spaces-next k n h =
     let e : n ≡ k + (n - k) = omega arith in
     let f : replicate {A = ℕ} n 32 ≡ replicate k 32 ++ replicate (n - k) 32 =
-    ap (λ (m : ℕ). replicate {A = ℕ} m 32) e ∙ sym (replicate-append-replicate k (n - k) 32) in
+    ap (λ (m : ℕ). replicate {A = ℕ} m 32) e
+    ∙ sym (replicate-append-replicate k (n - k) 32) in
     ap byte_stream f ∙ byte_stream-append (replicate k 32) (replicate (n - k) 32)
 
 -- the first n of k spaces
@@ -62,7 +65,8 @@ length-repeat (suc k) bs = let e : length (repeat k bs) ≡ k * length bs = leng
     omega (arith, length-append bs (repeat k bs))
 
 -- the first k copies
-pub take-repeat : (k n : ℕ) (bs : List ℕ) → k ≤ n → take (k * length bs) (repeat n bs) ≡ repeat k bs
+pub take-repeat : (k n : ℕ) (bs : List ℕ) → k ≤ n
+    → take (k * length bs) (repeat n bs) ≡ repeat k bs
 take-repeat k n bs h =
     let e : n ≡ k + (n - k) = omega arith in
     let f : repeat n bs ≡ repeat k bs ++ repeat (n - k) bs =
@@ -84,12 +88,14 @@ repeated-two c = ap (λ (l : Stream). glyph c ++ l) (append-nil (glyph c))
 -- a character of three bytes twice
 pub repeated-pair : (c : ℕ) (xs : List ℕ) → length xs ≡ 3 → xs ≡ encode_utf8 c
     → byte_stream
-    (get_or xs 0 0 ∷ get_or xs 1 0 ∷ get_or xs 2 0 ∷ get_or xs 0 0 ∷ get_or xs 1 0 ∷ get_or xs 2 0
+    (get_or xs 0 0 ∷ get_or xs 1 0 ∷ get_or xs 2 0 ∷ get_or xs 0 0 ∷ get_or xs 1 0 ∷
+    get_or xs 2 0
     ∷ [])
     ≡ repeated 2 c
 unfolding repeated
 repeated-pair c (x ∷ y ∷ z ∷ []) e is =
-    byte_stream-repeat 2 (x ∷ y ∷ z ∷ []) ∙ ap (λ (l : List ℕ). repeat 2 (byte_stream l)) is
+    byte_stream-repeat 2 (x ∷ y ∷ z ∷ [])
+    ∙ ap (λ (l : List ℕ). repeat 2 (byte_stream l)) is
 repeated-pair c [] e is = absurd (omega (arith, e))
 repeated-pair c (x ∷ []) e is = absurd (omega (arith, e))
 repeated-pair c (x ∷ y ∷ []) e is = absurd (omega (arith, e))
@@ -103,20 +109,23 @@ unfolding repeated
 repeated-next k n c g run e h r =
     let all : n ≡ k + (n - k) = omega arith in
     let front : byte_stream (take (k * length g) run) ≡ repeat k (glyph c) =
-    ap byte_stream r ∙ byte_stream-repeat k g ∙ ap (λ (l : List ℕ). repeat k (byte_stream l)) e in
+    ap byte_stream r ∙ byte_stream-repeat k g
+    ∙ ap (λ (l : List ℕ). repeat k (byte_stream l)) e in
     ap (λ (m : ℕ). repeat m (glyph c)) all ∙ repeat-add k (n - k) (glyph c)
     ∙ ap (λ (l : Stream). l ++ repeat (n - k) (glyph c)) (sym front)
 
 -- and the first n copies, where there are no more than k
 pub repeated-front : (k n c : ℕ) (g run : List ℕ) → g ≡ encode_utf8 c → n ≤ k
-    → take (k * length g) run ≡ repeat k g → byte_stream (take (n * length g) run) ≡ repeated n c
+    → take (k * length g) run ≡ repeat k g
+    → byte_stream (take (n * length g) run) ≡ repeated n c
 unfolding repeated
 repeated-front k n c g run e h r =
     let f : n * length g ≤ k * length g = mul-le-mul_right (length g) h in
     let fewer : take (n * length g) run ≡ repeat n g =
     sym (take-take (n * length g) (k * length g) run f) ∙ ap (take (n * length g)) r
     ∙ take-repeat n k g h in
-    ap byte_stream fewer ∙ byte_stream-repeat n g ∙ ap (λ (l : List ℕ). repeat n (byte_stream l)) e
+    ap byte_stream fewer ∙ byte_stream-repeat n g
+    ∙ ap (λ (l : List ℕ). repeat n (byte_stream l)) e
 
 -- the number of bytes of one more copy
 pub add-one_mul : (n m : ℕ) → (n + 1) * m ≡ n * m + m
@@ -129,7 +138,8 @@ repeat-push n bs = repeat-add n 1 bs ∙ ap (λ (l : List ℕ). repeat n bs ++ l
 -- ---- numbers
 
 -- the digits that are still to be written fit before those that are
-digits_fit : (n rest start : ℕ) (ds : List ℕ) → n < 2 ^ 64 → length ds ≡ 20 → start ≤ 20
+digits_fit : (n rest start : ℕ) (ds : List ℕ) → n < 2 ^ 64 → length ds ≡ 20
+    → start ≤ 20
     → decimal n ≡ decimal rest ++ drop start ds → length (decimal rest) ≤ start
 digits_fit n rest start ds h l s e =
     let all : length (decimal n) ≤ 20 = length-decimal-le 20 n (omega arith) (omega arith) h in
@@ -138,13 +148,15 @@ digits_fit n rest start ds h l s e =
     omega (arith, length-drop start ds)
 
 -- so one more digit fits
-pub digits_room : (n rest start : ℕ) (ds : List ℕ) → n < 2 ^ 64 → rest < 2 ^ 64 → length ds ≡ 20
+pub digits_room : (n rest start : ℕ) (ds : List ℕ) → n < 2 ^ 64 → rest < 2 ^ 64
+    → length ds ≡ 20
     → start ≤ 20 → decimal n ≡ decimal rest ++ drop start ds → 0 < start
 digits_room n rest start ds h k l s e =
     omega (arith, digits_fit n rest start ds h l s e, decimal_nonempty rest k)
 
 -- one more digit was written
-pub digits-more : (n rest start : ℕ) (ds : List ℕ) → n < 2 ^ 64 → rest < 2 ^ 64 → length ds ≡ 20
+pub digits-more : (n rest start : ℕ) (ds : List ℕ) → n < 2 ^ 64 → rest < 2 ^ 64
+    → length ds ≡ 20
     → start ≤ 20 → 10 ≤ rest → decimal n ≡ decimal rest ++ drop start ds
     → decimal n ≡ decimal (rest / 10) ++ drop (start - 1)
     (slice_set ds (start - 1) (48 + rest % 10))
@@ -162,7 +174,8 @@ digits-more n rest start ds h k l s t e =
     (sym (set ∙ ap (λ (i : ℕ). (48 + rest % 10) ∷ drop i ds) same))
 
 -- the first digit, which is written last
-pub digits-last : (n rest start : ℕ) (ds : List ℕ) → n < 2 ^ 64 → length ds ≡ 20 → start ≤ 20
+pub digits-last : (n rest start : ℕ) (ds : List ℕ) → n < 2 ^ 64 → length ds ≡ 20
+    → start ≤ 20
     → rest < 10 → decimal n ≡ decimal rest ++ drop start ds
     → drop (start - 1) (slice_set ds (start - 1) (48 + rest)) ≡ decimal n
 digits-last n rest start ds h l s t e =

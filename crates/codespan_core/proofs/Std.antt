@@ -6,11 +6,12 @@ pub use Rattle.std.proofs.Common.{encode_utf8_all, eqb, false, filter, filter_ma
 pub use Rattle.std.proofs.Common.{get_or, inl, inr, is_some, leb, length, length-append}
 pub use Rattle.std.proofs.Common.{length-drop, lit<, lt-ltb, ltb, map, max, min, nat_le, nat_lt}
 pub use Rattle.std.proofs.Common.{not, refl, replicate, reverse, rules, set, slice_get, subst, suc}
-pub use Rattle.std.proofs.Common.{sym, take, tests, true, true≢false, zero, zero-add, ℕ, ⊎_elim}
-pub use Rattle.std.proofs.Common.{◌%◌, ◌&&◌, ◌*◌, ◌++◌, ◌+◌, ◌-◌, ◌/◌, ◌<◌, ◌==◌, ◌^◌, ◌||◌, ◌∙◌}
+pub use Rattle.std.proofs.Common.{sym, take, tests, true, true≢false, zero, zero-add, ℕ}
+pub use Rattle.std.proofs.Common.{⊎_elim, ◌%◌, ◌&&◌, ◌*◌, ◌++◌, ◌+◌, ◌-◌}
+pub use Rattle.std.proofs.Common.{◌/◌, ◌<◌, ◌==◌, ◌^◌, ◌||◌, ◌∙◌}
 pub use Rattle.std.proofs.Common.{◌∷◌, ◌≡◌, ◌≢◌, ◌≤◌, ◌⊎◌}
-pub use Rattle.std.specs.Prelude.{All, Contains, IfErr, IfSome, IsTrue, count_by, if◌then◌else◌}
-pub use Rattle.std.specs.Prelude.{slice_range, string_bytes, sum_by, unwrap_or}
+pub use Rattle.std.specs.Prelude.{All, Contains, IfErr, IfSome, IsTrue, count_by}
+pub use Rattle.std.specs.Prelude.{if◌then◌else◌, slice_range, string_bytes, sum_by, unwrap_or}
 pub use Rattle.std.specs.List.{AllByRecursion, AllZip, cons_option, enumerate_from, list_any}
 pub use Rattle.std.specs.List.{position_or_len, prefix_len, range_with_len, remove, repeat}
 pub use Rattle.std.specs.List.{slice_split}

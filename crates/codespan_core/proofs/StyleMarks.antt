@@ -1,7 +1,7 @@
 -- For the clauses of the style marks of each `WriteStyle`: a style mark as the bytes that spell it,
 -- and bytes that a writer of colors writes.
-use Rattle.codespan_core.proofs.Std.{◌≡◌, ℕ, Bool, true, List, [], Option, append-nil, Result, Ok}
-use Rattle.codespan_core.proofs.Std.{Err, refl, sym, ap, ◌∙◌}
+use Rattle.codespan_core.proofs.Std.{◌≡◌, ℕ, Bool, true, List, [], Option, append-nil}
+use Rattle.codespan_core.proofs.Std.{Result, Ok, Err, refl, sym, ap, ◌∙◌}
 use Rattle.std.proofs.Common.{MatchResult}
 use Rattle.codespan_core.specs.{style_mark, byte_stream, Frame, Sink, is_known, are_known, extended}
 use Rattle.codespan_core.specs.{PrefixAppended, AppendsBytes, with_written, with_failed}
@@ -50,7 +50,8 @@ Writes-style_mark s m (Err e) t p = (p.0, λ known. prefix_style_mark s m t (p.1
 
 -- ---- bytes that a writer of colors wrote
 
-pub sink-by : (s t : Sink) (f : Frame) (o : Option (List ℕ)) → t.frame ≡ f → t.contents ≡ o
+pub sink-by : (s t : Sink) (f : Frame) (o : Option (List ℕ)) → t.frame ≡ f
+    → t.contents ≡ o
     → t ≡ record { frame = f; contents = o }
 sink-by s t f o e h = rw (sym e, sym h) refl
 
@@ -64,7 +65,8 @@ pub appended_written : (s t : Sink) (bs : List ℕ) → t.frame ≡ s.frame
     → t.contents ≡ extended s.contents bs → t ≡ with_written s (byte_stream bs)
 unfolding with_written
 appended_written s t bs f e =
-    sink-by s t _ _ f (e ∙ ap (extended s.contents) (sym (spelled-byte_stream s.frame.spelling bs)))
+    sink-by s t _ _ f
+    (e ∙ ap (extended s.contents) (sym (spelled-byte_stream s.frame.spelling bs)))
 
 -- a prefix of the bytes was written
 pub prefix_written : (s t : Sink) (bs : List ℕ) → PrefixAppended s.contents bs t.contents

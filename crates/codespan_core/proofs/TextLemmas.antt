@@ -1,8 +1,9 @@
 -- For `display_text` and `with_note`: texts that a value was written to. For `clone_labels` and
 -- `clone_notes`: the views of a list with one more item.
-use Rattle.codespan_core.proofs.Std.{◌≡◌, ℕ, ◌+◌, ◌<◌, List, [], ◌∷◌, ◌++◌, length, get_or, take}
-use Rattle.codespan_core.proofs.Std.{map, Option, Some, None, IfSome, string_bytes, refl, sym, ap}
-use Rattle.codespan_core.proofs.Std.{◌∙◌, map-append, take_more}
+use Rattle.codespan_core.proofs.Std.{◌≡◌, ℕ, ◌+◌, ◌<◌, List, [], ◌∷◌}
+use Rattle.codespan_core.proofs.Std.{◌++◌, length, get_or, take, map, Option, Some, None}
+use Rattle.codespan_core.proofs.Std.{IfSome, string_bytes, refl, sym, ap, ◌∙◌, map-append}
+use Rattle.codespan_core.proofs.Std.{take_more}
 use Rattle.std.specs.Prelude.{String}
 use Rattle.std.specs.Global.{Global}
 use Rattle.std.specs.Fmt.{WritesText}
@@ -32,7 +33,8 @@ noted (Some bytes) text old new wrote added =
 pub viewed_more : {X Y : Type 0} (view : X → Y) (items slice copies new : List X) (i : ℕ)
     (item copy : X)
     → slice ≡ items → i < length slice → item ≡ get_or slice i item
-    → map view copies ≡ map view (take i items) → new ≡ copies ++ copy ∷ [] → view copy ≡ view item
+    → map view copies ≡ map view (take i items) → new ≡ copies ++ copy ∷ []
+    → view copy ≡ view item
     → map view new ≡ map view (take (i + 1) items)
 viewed_more view items slice copies new i item copy same inside read before added equal =
     let next : take (i + 1) items ≡ take i items ++ item ∷ [] =

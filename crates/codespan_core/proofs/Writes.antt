@@ -1,12 +1,13 @@
 -- For `Loops`, `Put`, `Chains` and each clause `Writes`: calls that write, one after another.
-use Rattle.codespan_core.proofs.Std.{◌≡◌, ℕ, List, [], ◌∷◌, ◌++◌, refl, sym, ap, ◌∙◌, append_assoc}
-use Rattle.codespan_core.proofs.Std.{Option}
+use Rattle.codespan_core.proofs.Std.{◌≡◌, ℕ, List, [], ◌∷◌, ◌++◌, refl, sym, ap}
+use Rattle.codespan_core.proofs.Std.{◌∙◌, append_assoc, Option}
 use Rattle.codespan_core.specs.{Stream, Byte, Mark, Slot, Spelling, spelled, byte_stream, Sink}
 use Rattle.codespan_core.specs.{with_written, is_known, extended, PrefixWritten}
 use Rattle.codespan_core.proofs.KnownBytes.{extended-append, extended-nil, are_known-extended}
 
 -- what two streams spell, one after the other
-pub spelled-append : (f : Spelling) (a b : Stream) → spelled f (a ++ b) ≡ spelled f a ++ spelled f b
+pub spelled-append : (f : Spelling) (a b : Stream)
+    → spelled f (a ++ b) ≡ spelled f a ++ spelled f b
 spelled-append f [] b = refl
 spelled-append f (Slot k ∷ a) b = spelled-append f a b
 spelled-append f (Byte x ∷ a) b = ap (λ (l : List ℕ). x ∷ l) (spelled-append f a b)
@@ -21,7 +22,8 @@ spelled-byte_stream f [] = refl
 spelled-byte_stream f (b ∷ bs) = ap (λ (l : List ℕ). b ∷ l) (spelled-byte_stream f bs)
 
 -- two texts as one stream
-pub byte_stream-append : (a b : List ℕ) → byte_stream (a ++ b) ≡ byte_stream a ++ byte_stream b
+pub byte_stream-append : (a b : List ℕ)
+    → byte_stream (a ++ b) ≡ byte_stream a ++ byte_stream b
 unfolding byte_stream
 byte_stream-append [] b = refl
 byte_stream-append (x ∷ a) b = ap (λ (l : Stream). Byte x ∷ l) (byte_stream-append a b)
@@ -49,7 +51,8 @@ PrefixWritten-first s a t b p = record {
 }
 
 -- a prefix of the last part, after the first part was written
-pub PrefixWritten-last : (s : Sink) (a b : Stream) (u : Sink) → PrefixWritten (with_written s a) b u
+pub PrefixWritten-last : (s : Sink) (a b : Stream) (u : Sink)
+    → PrefixWritten (with_written s a) b u
     → PrefixWritten s (a ++ b) u
 unfolding with_written
 PrefixWritten-last s a b u q = record {
@@ -108,7 +111,8 @@ PrefixWritten_first_7 s a t b1 b2 b3 b4 b5 b6 b7 p =
     (PrefixWritten_first_6 s a t b1 b2 b3 b4 b5 b6 p)
 
 pub PrefixWritten_first_8 : (s : Sink) (a : Stream) (t : Sink) (b1 b2 b3 b4 b5 b6 b7 b8 : Stream)
-    → PrefixWritten s a t → PrefixWritten s (a ++ b1 ++ b2 ++ b3 ++ b4 ++ b5 ++ b6 ++ b7 ++ b8) t
+    → PrefixWritten s a t → PrefixWritten s (a ++ b1 ++ b2 ++ b3 ++ b4 ++ b5 ++ b6 ++ b7 ++ b8)
+    t
 PrefixWritten_first_8 s a t b1 b2 b3 b4 b5 b6 b7 b8 p =
     PrefixWritten-first s (a ++ b1 ++ b2 ++ b3 ++ b4 ++ b5 ++ b6 ++ b7) t b8
     (PrefixWritten_first_7 s a t b1 b2 b3 b4 b5 b6 b7 p)

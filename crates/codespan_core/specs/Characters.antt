@@ -3,7 +3,8 @@ use Rattle.std.specs.Prelude.{codes, encode_utf8_all}
 use Rattle.codespan_core.specs.declared.term.config.chars.SnippetStart.TheVariants.{Fixed}
 use Rattle.codespan_core.specs.declared.term.config.chars.Chars.{Chars}
 
--- the characters of box drawing: `│` (0x2502), `·` (0xb7), `=` (0x3d), `^` (0x5e), `-` (0x2d), `'`
+-- the characters of box drawing: `│` (0x2502), `·` (0xb7), `=` (0x3d), `^` (0x5e), `-` (0x2d),
+-- `'`
 -- (0x27), `╭` (0x256d), `─` (0x2500) and `╰` (0x2570)
 abbrev pub box_drawing : Chars
 box_drawing = record {

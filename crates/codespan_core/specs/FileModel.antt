@@ -1,6 +1,6 @@
 -- A file as its lookups show it: a name, a text, and the text cut into lines.
-use Rattle.std.specs.Prelude.{ℕ, ◌-◌, Bool, List, [], length, slice_index, slice_range, count_by}
-use Rattle.std.specs.Prelude.{nat_le, Option, Some, None, unwrap_or}
+use Rattle.std.specs.Prelude.{ℕ, ◌-◌, Bool, List, [], length, slice_index, slice_range}
+use Rattle.std.specs.Prelude.{count_by, nat_le, Option, Some, None, unwrap_or}
 use Rattle.codespan_core.specs.declared.files.error.Error.{Error}
 use Rattle.codespan_core.specs.declared.files.Location.{Location}
 

@@ -1,7 +1,7 @@
 -- Labels, as rendering sees them.
-use Rattle.std.specs.Prelude.{ℕ, ◌+◌, ◌-◌, ◌^◌, min, max, Bool, true, false, not, ◌&&◌, ◌||◌, ◌==◌}
-use Rattle.std.specs.Prelude.{nat_lt, List, [], ◌∷◌, map, filter, reverse, Option, Some, None}
-use Rattle.std.specs.Prelude.{if◌then◌else◌}
+use Rattle.std.specs.Prelude.{ℕ, ◌+◌, ◌-◌, ◌^◌, min, max, Bool, true, false, not}
+use Rattle.std.specs.Prelude.{◌&&◌, ◌||◌, ◌==◌, nat_lt, List, [], ◌∷◌, map}
+use Rattle.std.specs.Prelude.{filter, reverse, Option, Some, None, if◌then◌else◌}
 use Rattle.std.specs.List.{enumerate_from, filter_map}
 use Rattle.codespan_core.specs.declared.diagnostic.LabelStyle.{LabelStyle}
 use Rattle.codespan_core.specs.declared.diagnostic.LabelStyle.TheVariants.{Primary, Secondary}

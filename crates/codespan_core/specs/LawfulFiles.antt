@@ -1,8 +1,8 @@
 -- What the lookups of a file return, when a file is lawful, and what the default columns and
 -- locations are.
-use Rattle.std.specs.Prelude.{◌≡◌, ◌≢◌, ℕ, ◌+◌, ◌-◌, ◌<◌, ◌≤◌, ◌↔◌, true, false, [], length}
-use Rattle.std.specs.Prelude.{slice_index, Option, Some, None, Result, MatchResult, IfErr, ◌^◌}
-use Rattle.std.specs.Prelude.{◌==◌, if◌then◌else◌}
+use Rattle.std.specs.Prelude.{◌≡◌, ◌≢◌, ℕ, ◌+◌, ◌-◌, ◌<◌, ◌≤◌}
+use Rattle.std.specs.Prelude.{◌↔◌, true, false, [], length, slice_index, Option, Some, None}
+use Rattle.std.specs.Prelude.{Result, MatchResult, IfErr, ◌^◌, ◌==◌, if◌then◌else◌}
 use Rattle.std.specs.Str.{IsCharBoundary, IsUtf8}
 use Rattle.std.specs.declared.ops.Range.{Range}
 use Rattle.codespan_core.specs.declared.files.error.Error.{Error}

@@ -1,7 +1,7 @@
 -- A text as a file, and a database of such files: a line starts after each newline, and ends where
 -- the next one starts.
-use Rattle.std.specs.Prelude.{ℕ, ◌+◌, ◌-◌, nat_lt, true, false, if◌then◌else◌, List, [], ◌∷◌, ◌++◌}
-use Rattle.std.specs.Prelude.{length, drop, slice_get, Option, Some, None}
+use Rattle.std.specs.Prelude.{ℕ, ◌+◌, ◌-◌, nat_lt, true, false, if◌then◌else◌, List}
+use Rattle.std.specs.Prelude.{[], ◌∷◌, ◌++◌, length, drop, slice_get, Option, Some, None}
 use Rattle.std.specs.Option.{option_map_or}
 use Rattle.codespan_core.specs.declared.files.error.Error.{Error}
 use Rattle.codespan_core.specs.declared.files.error.Error.TheVariants.{LineTooLarge, FileMissing}
@@ -71,14 +71,16 @@ missing_failure (LineNumber i) = line_number_failure i
 missing_failure _ = Some FileMissing
 
 -- the file of an id, in a database of names and sources, where `displayed` is what names display
-abbrev pub database_file : {Name Source : Type 0} → (Name → Option (List ℕ)) → (Source → List ℕ)
+abbrev pub database_file : {Name Source : Type 0} → (Name → Option (List ℕ))
+    → (Source → List ℕ)
     → List (Name × Source) → ℕ → FileModel
 database_file displayed text entries id =
     option_map_or (λ entry. simple_file (displayed entry.0) (text entry.1))
     (slice_get entries id) missing_file
 
 -- what a lookup of an id fails with, in a database of names and sources
-abbrev pub database_failure : {Name Source : Type 0} → (Source → List ℕ) → List (Name × Source) → ℕ
+abbrev pub database_failure : {Name Source : Type 0} → (Source → List ℕ)
+    → List (Name × Source) → ℕ
     → Lookup → Option Error
 database_failure text entries id lookup =
     option_map_or (λ entry. simple_failure (text entry.1) lookup) (slice_get entries id)

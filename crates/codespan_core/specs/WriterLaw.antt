@@ -1,6 +1,7 @@
 -- The law of writers: what a contract sees of a writer, and what each call does to it.
-use Rattle.std.specs.Prelude.{◌≡◌, ℕ, Bool, true, List, ◌++◌, length, take, Option, Result}
-use Rattle.std.specs.Prelude.{MatchResult, if◌then◌else◌, ◌==◌, ◌&&◌, nat_lt, is_some}
+use Rattle.std.specs.Prelude.{◌≡◌, ℕ, Bool, true, List, ◌++◌, length, take, Option}
+use Rattle.std.specs.Prelude.{Result, MatchResult, if◌then◌else◌, ◌==◌, ◌&&◌, nat_lt}
+use Rattle.std.specs.Prelude.{is_some}
 use Rattle.std.specs.Io.KnownBytes.{append_known}
 use Rattle.std.specs.Borrow.{GName}
 use Rattle.codespan_core.specs.Streams.{Stream, Spelling, spelled}
@@ -70,7 +71,8 @@ abbrev pub KeepsFrame : {T E : Type 0} → Frame → Result T E → Frame → Ty
 KeepsFrame old r new = MatchResult r (λ _. new ≡ old) (λ _. new ≡ failed_frame old)
 
 -- where the writer's bytes are known, the stream is appended, or, where the call fails, a prefix
-abbrev pub WritesOrPrefix : {E : Type 0} → Sink → Stream → Result (Unit {0}) E → Sink → Type 0
+abbrev pub WritesOrPrefix : {E : Type 0} → Sink → Stream → Result (Unit {0}) E → Sink
+    → Type 0
 WritesOrPrefix old items r new =
     is_known old ≡ true
     → MatchResult r (λ _. new ≡ with_written old items) (λ _. PrefixWritten old items new)
@@ -89,7 +91,8 @@ Puts old bs r new =
     MatchResult r (λ n. new.frame ≡ after_put old.frame bs n)
     (λ _. new.frame ≡ failed_frame old.frame)
     × (is_known old ≡ true → MatchResult r
-    (λ n. new.contents ≡ append_known old.contents (take n bs)) (λ _. new.contents ≡ old.contents))
+    (λ n. new.contents ≡ append_known old.contents (take n bs))
+    (λ _. new.contents ≡ old.contents))
 
 -- a writer of this frame, but for whether it has failed, and with these bytes
 abbrev pub with_failed : Frame → Bool → Option (List ℕ) → Sink

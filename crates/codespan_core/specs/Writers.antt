@@ -48,7 +48,11 @@ plain_reference p = p.writer.ghost_name
 -- a plain writer that writes through the reference
 abbrev pub plain_ref_sink : {W : Type 0} → (W → Option (List ℕ)) → PlainWriterRef W → Sink
 plain_ref_sink contents p = record {
-  frame = record { spelling = plain_spelling; failed = p.failed; borrows = plain_reference p ∷ [] };
+  frame = record {
+    spelling = plain_spelling;
+    failed = p.failed;
+    borrows = plain_reference p ∷ [];
+  };
   contents = contents (borrowed_writer p);
 }
 

@@ -20,7 +20,8 @@ pub fn severities_agree()
         ⟦<Severity as Ord>⟧.cmp x y ≡ nat_cmp (severity_rank x) (severity_rank y) }
     ensures partial { (x y : Severity) →
         ⟦<Severity as PartialOrd>⟧.partial_cmp x y ≡ Some (⟦<Severity as Ord>⟧.cmp x y) }
-    ensures equal { (x y : Severity) → IsTrue (⟦<Severity as PartialEq>⟧.eq x y) ↔ (x ≡ y) }
+    ensures equal { (x y : Severity)
+        → IsTrue (⟦<Severity as PartialEq>⟧.eq x y) ↔ (x ≡ y) }
     ensures hash { (x y : Severity) → IsTrue (⟦<Severity as PartialEq>⟧.eq x y) →
         ⟦<Severity as Hash>⟧.hash_input x ≡ ⟦<Severity as Hash>⟧.hash_input y }
 {}
@@ -31,5 +32,6 @@ pub fn label_styles_agree()
     ensures order { (x y : LabelStyle) →
         ⟦<LabelStyle as PartialOrd>⟧.partial_cmp x y
         ≡ Some (nat_cmp (style_rank x) (style_rank y)) }
-    ensures equal { (x y : LabelStyle) → IsTrue (⟦<LabelStyle as PartialEq>⟧.eq x y) ↔ (x ≡ y) }
+    ensures equal { (x y : LabelStyle)
+        → IsTrue (⟦<LabelStyle as PartialEq>⟧.eq x y) ↔ (x ≡ y) }
 {}

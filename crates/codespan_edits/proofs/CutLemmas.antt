@@ -1,11 +1,12 @@
 -- The lines of a text are between its starts of lines, for the clause of `lines_of`.
-use Rattle.codespan_core.proofs.Std.{inl, inr, ◌≡◌, ◌≢◌, ℕ, zero, suc, ◌+◌, ◌-◌, ◌<◌, ◌≤◌, Bool}
-use Rattle.codespan_core.proofs.Std.{true, false, cond, List, [], ◌∷◌, ◌++◌, length, get_or, take}
-use Rattle.codespan_core.proofs.Std.{drop, refl, sym, ap, ◌∙◌, subst, arith, append_assoc}
-use Rattle.codespan_core.proofs.Std.{append-nil, length-drop, ◌==◌, slice_range, cases_lt}
-use Rattle.codespan_core.proofs.Std.{nat_tests, drop_more, drop_all, get_or-drop, drop-drop, nat_lt}
-use Rattle.codespan_core.proofs.Std.{if◌then◌else◌, lt-ltb, le-ltb, eq-eqb, ltb-true, ltb-false}
-use Rattle.codespan_core.proofs.Std.{eqb-true, true≢false, IsUtf8, IsCharBoundary}
+use Rattle.codespan_core.proofs.Std.{inl, inr, ◌≡◌, ◌≢◌, ℕ, zero, suc, ◌+◌}
+use Rattle.codespan_core.proofs.Std.{◌-◌, ◌<◌, ◌≤◌, Bool, true, false, cond, List, []}
+use Rattle.codespan_core.proofs.Std.{◌∷◌, ◌++◌, length, get_or, take, drop, refl, sym, ap}
+use Rattle.codespan_core.proofs.Std.{◌∙◌, subst, arith, append_assoc, append-nil, length-drop}
+use Rattle.codespan_core.proofs.Std.{◌==◌, slice_range, cases_lt, nat_tests, drop_more}
+use Rattle.codespan_core.proofs.Std.{drop_all, get_or-drop, drop-drop, nat_lt, if◌then◌else◌}
+use Rattle.codespan_core.proofs.Std.{lt-ltb, le-ltb, eq-eqb, ltb-true, ltb-false, eqb-true}
+use Rattle.codespan_core.proofs.Std.{true≢false, IsUtf8, IsCharBoundary}
 use Rattle.codespan_core.specs.Lines.{line_starts_of, starts_after}
 use Rattle.codespan_core.specs.Lemmas.Simple.{start_cut, ascending}
 use Rattle.codespan_edits.specs.Diffs.{byte_before, lines}
@@ -144,7 +145,8 @@ cut-more text starts i done new all part from inside pushed is was =
     ∙ (ap (λ xs. done ++ cut_at text s xs) (sym (drop_more starts i 0 inside)) ∙ was))
 
 -- what follows the last start, if there is something
-pub cut-end : (text starts : List ℕ) (i last : ℕ) (done new all : List (List ℕ)) (part : List ℕ)
+pub cut-end : (text starts : List ℕ) (i last : ℕ) (done new all : List (List ℕ))
+    (part : List ℕ)
     → i ≡ length starts → last ≡ get_or starts (length starts - 1) 0 → last < length text
     → new ≡ done ++ part ∷ [] → part ≡ drop last text
     → done ++ cut_at text (get_or starts (i - 1) 0) (drop i starts) ≡ all → new ≡ all
@@ -158,7 +160,8 @@ cut-end text starts i last done new all part end is inside pushed part_is was =
 
 -- or nothing
 pub cut-none : (text starts : List ℕ) (i last : ℕ) (done all : List (List ℕ))
-    → i ≡ length starts → last ≡ get_or starts (length starts - 1) 0 → length text ≤ last
+    → i ≡ length starts → last ≡ get_or starts (length starts - 1) 0
+    → length text ≤ last
     → done ++ cut_at text (get_or starts (i - 1) 0) (drop i starts) ≡ all → done ≡ all
 cut-none text starts i last done all end is past was =
     sym (append-nil done)
@@ -169,7 +172,8 @@ cut-none text starts i last done all end is past was =
     (sym (drop_all i starts (omega (arith, end)))) ∙ was)))
 
 -- a start is a boundary of characters
-pub start-boundary : (text starts : List ℕ) (i n : ℕ) → IsUtf8 text → starts ≡ line_starts_of text
+pub start-boundary : (text starts : List ℕ) (i n : ℕ) → IsUtf8 text
+    → starts ≡ line_starts_of text
     → i < length starts → n ≡ get_or starts i 0 → IsCharBoundary text n
 start-boundary text starts i n utf8 is inside n_is =
     subst (IsCharBoundary text) (sym (n_is ∙ ap (λ xs. get_or xs i 0) is))
@@ -177,7 +181,8 @@ start-boundary text starts i n utf8 is inside n_is =
 
 -- and at the next one or before it
 pub start-before : (text starts : List ℕ) (i n m : ℕ) → starts ≡ line_starts_of text
-    → 1 ≤ i → i < length starts → n ≡ get_or starts (i - 1) 0 → m ≡ get_or starts i 0 → n ≤ m
+    → 1 ≤ i → i < length starts → n ≡ get_or starts (i - 1) 0 → m ≡ get_or starts i 0
+    → n ≤ m
 start-before text starts i n m is from inside n_is m_is =
     let prior : i - 1 + 1 ≡ i = omega (arith, from) in
     let there : i < length (line_starts_of text) = subst (λ xs. i < length xs) is inside in

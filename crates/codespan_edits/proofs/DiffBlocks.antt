@@ -1,8 +1,9 @@
 -- The rows of a block, and of the pieces that are to come, for the clauses of `rows`.
-use Rattle.codespan_core.proofs.Std.{Bool, true, false, cond, arith, append-nil, ◌≡◌, ℕ, ◌+◌, ◌-◌}
-use Rattle.codespan_core.proofs.Std.{List, [], ◌∷◌, ◌++◌, length, take, drop, map, refl, sym, ap}
-use Rattle.codespan_core.proofs.Std.{◌∙◌, append_assoc, ◌==◌, ◌&&◌, if◌then◌else◌, flat_map}
-use Rattle.codespan_core.proofs.Std.{nat_tests, drop-map, take-map, take_rest, length-map}
+use Rattle.codespan_core.proofs.Std.{Bool, true, false, cond, arith, append-nil, ◌≡◌, ℕ}
+use Rattle.codespan_core.proofs.Std.{◌+◌, ◌-◌, List, [], ◌∷◌, ◌++◌, length, take}
+use Rattle.codespan_core.proofs.Std.{drop, map, refl, sym, ap, ◌∙◌, append_assoc, ◌==◌}
+use Rattle.codespan_core.proofs.Std.{◌&&◌, if◌then◌else◌, flat_map, nat_tests, drop-map}
+use Rattle.codespan_core.proofs.Std.{take-map, take_rest, length-map}
 use Rattle.std.specs.Borrow.{Bor}
 use Rattle.codespan_edits.specs.Diffs.{lines, is_whole, Change, Row, rows_with, common_start}
 use Rattle.codespan_edits.specs.Diffs.{common_end, rows_to_end, block_rows, no_change, followed_by}

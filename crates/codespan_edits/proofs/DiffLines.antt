@@ -1,11 +1,12 @@
 -- The rows of a diff have the lines of the old text and of the new one, for the clause of
 -- `laws::diff_has_all_lines`.
-use Rattle.codespan_core.proofs.Std.{◌≡◌, ℕ, ◌+◌, ◌-◌, ◌≤◌, Bool, true, false, cond, List, [], ◌∷◌}
-use Rattle.codespan_core.proofs.Std.{◌++◌, length, take, drop, map, reverse, refl, sym, ap, ◌∙◌}
-use Rattle.codespan_core.proofs.Std.{arith, append_assoc, append-nil, length-drop, ◌&&◌, ◌==◌}
-use Rattle.codespan_core.proofs.Std.{slice_range, if◌then◌else◌, flat_map, filter, bytes_eq}
-use Rattle.codespan_core.proofs.Std.{nat_tests, take-append_seam, take-append-drop, map-append}
-use Rattle.codespan_core.proofs.Std.{reverse-append, drop-drop, nil_from_length, filter-append}
+use Rattle.codespan_core.proofs.Std.{◌≡◌, ℕ, ◌+◌, ◌-◌, ◌≤◌, Bool, true, false}
+use Rattle.codespan_core.proofs.Std.{cond, List, [], ◌∷◌, ◌++◌, length, take, drop, map}
+use Rattle.codespan_core.proofs.Std.{reverse, refl, sym, ap, ◌∙◌, arith, append_assoc}
+use Rattle.codespan_core.proofs.Std.{append-nil, length-drop, ◌&&◌, ◌==◌, slice_range}
+use Rattle.codespan_core.proofs.Std.{if◌then◌else◌, flat_map, filter, bytes_eq, nat_tests}
+use Rattle.codespan_core.proofs.Std.{take-append_seam, take-append-drop, map-append, reverse-append}
+use Rattle.codespan_core.proofs.Std.{drop-drop, nil_from_length, filter-append}
 use Rattle.std.proofs.Math.Numerals.{one-add}
 use Rattle.std.proofs.lemmas.Slice.Eq.{bytes_eq-Decides}
 use Rattle.std.proofs.lemmas.List.{reverse-reverse, length-reverse}
@@ -124,13 +125,15 @@ with-append test rs ss =
     (filter (λ r. test r.sign) ss)
 
 -- rows of one sign pass
-pub with-sign : (test : RowSign → Bool) (sign : RowSign) (ls : List (List ℕ)) → test sign ≡ true
+pub with-sign : (test : RowSign → Bool) (sign : RowSign) (ls : List (List ℕ))
+    → test sign ≡ true
     → lines_with test (rows_with sign ls) ≡ ls
 with-sign test sign [] h = refl
 with-sign test sign (l ∷ ls) h = rw h (ap (λ ms. l ∷ ms) (with-sign test sign ls h))
 
 -- or none of them does
-pub without-sign : (test : RowSign → Bool) (sign : RowSign) (ls : List (List ℕ)) → test sign ≡
+pub without-sign : (test : RowSign → Bool) (sign : RowSign) (ls : List (List ℕ))
+    → test sign ≡
     false
     → lines_with test (rows_with sign ls) ≡ []
 without-sign test sign [] h = refl

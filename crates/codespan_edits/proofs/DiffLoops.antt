@@ -1,7 +1,8 @@
 -- Facts on the loops that make the rows of a diff, for the clauses of `rows`.
-use Rattle.codespan_core.proofs.Std.{◌≡◌, ℕ, zero, suc, ◌+◌, ◌-◌, ◌<◌, ◌≤◌, Bool, true, false, cond}
-use Rattle.codespan_core.proofs.Std.{List, [], ◌∷◌, length, get_or, drop, map, reverse, min, refl}
-use Rattle.codespan_core.proofs.Std.{sym, ap, ◌∙◌, arith, length-drop, ◌==◌, not, slice_get, Some}
+use Rattle.codespan_core.proofs.Std.{◌≡◌, ℕ, zero, suc, ◌+◌, ◌-◌, ◌<◌}
+use Rattle.codespan_core.proofs.Std.{◌≤◌, Bool, true, false, cond, List, [], ◌∷◌}
+use Rattle.codespan_core.proofs.Std.{length, get_or, drop, map, reverse, min, refl, sym, ap}
+use Rattle.codespan_core.proofs.Std.{◌∙◌, arith, length-drop, ◌==◌, not, slice_get, Some}
 use Rattle.codespan_core.proofs.Std.{bytes_eq, drop_more, get_or-map, length-map}
 use Rattle.std.specs.Borrow.{Bor}
 use Rattle.std.proofs.lemmas.List.{get_or-reverse}

@@ -1,7 +1,8 @@
 -- Facts on the loops that look for a fault, for the clauses of `order`.
-use Rattle.codespan_core.proofs.Std.{◌≡◌, ℕ, ◌+◌, ◌-◌, ◌<◌, ◌≤◌, List, [], ◌∷◌, length, get_or}
-use Rattle.codespan_core.proofs.Std.{drop, map, Some, None, refl, sym, ap, ◌∙◌, arith, length-drop}
-use Rattle.codespan_core.proofs.Std.{lt-ltb, le-ltb, drop_more, drop-map}
+use Rattle.codespan_core.proofs.Std.{◌≡◌, ℕ, ◌+◌, ◌-◌, ◌<◌, ◌≤◌, List, []}
+use Rattle.codespan_core.proofs.Std.{◌∷◌, length, get_or, drop, map, Some, None, refl, sym}
+use Rattle.codespan_core.proofs.Std.{ap, ◌∙◌, arith, length-drop, lt-ltb, le-ltb, drop_more}
+use Rattle.codespan_core.proofs.Std.{drop-map}
 use Rattle.std.specs.Option.{option_or}
 use Rattle.std.proofs.Math.ListN.{length-map}
 use Rattle.codespan_edits.specs.Edits.{TextEdit, ListedEdit, text_edit, text_edits, listed_from}

@@ -1,8 +1,8 @@
 -- Edits without a fault fit their text, for what `put_together` requires.
-use Rattle.codespan_core.proofs.Std.{◌≡◌, ℕ, zero, suc, ◌+◌, ◌<◌, ◌≤◌, Bool, true, false, List, []}
-use Rattle.codespan_core.proofs.Std.{◌∷◌, length, Option, Some, None, if◌then◌else◌, refl, sym}
-use Rattle.codespan_core.proofs.Std.{subst, arith, All, nat_lt, not, AllByRecursion, IsCharBoundary}
-use Rattle.codespan_core.proofs.Std.{nat_tests, ltb-false}
+use Rattle.codespan_core.proofs.Std.{◌≡◌, ℕ, zero, suc, ◌+◌, ◌<◌, ◌≤◌, Bool}
+use Rattle.codespan_core.proofs.Std.{true, false, List, [], ◌∷◌, length, Option, Some, None}
+use Rattle.codespan_core.proofs.Std.{if◌then◌else◌, refl, sym, subst, arith, All, nat_lt, not}
+use Rattle.codespan_core.proofs.Std.{AllByRecursion, IsCharBoundary, nat_tests, ltb-false}
 use Rattle.std.specs.Option.{option_or}
 use Rattle.codespan_core.specs.Lines.{is_char_boundary}
 use Rattle.codespan_edits.specs.Edits.{TextEdit, ListedEdit, in_order, listed, listed_from}

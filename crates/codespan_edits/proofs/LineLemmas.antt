@@ -1,6 +1,7 @@
 -- The lines of a text, for the clause of `laws::diff_has_all_lines`.
-use Rattle.codespan_core.proofs.Std.{◌≡◌, ℕ, ◌<◌, Bool, true, false, cond, List, [], ◌∷◌, ◌++◌}
-use Rattle.codespan_core.proofs.Std.{length, refl, ap, ◌∙◌, arith, ◌==◌, flat_map}
+use Rattle.codespan_core.proofs.Std.{◌≡◌, ℕ, ◌<◌, Bool, true, false, cond, List, []}
+use Rattle.codespan_core.proofs.Std.{◌∷◌, ◌++◌, length, refl, ap, ◌∙◌, arith}
+use Rattle.codespan_core.proofs.Std.{◌==◌, flat_map}
 use Rattle.codespan_edits.specs.Diffs.{byte_before, lines, is_whole}
 
 -- a text that is not empty has a line

@@ -1,7 +1,7 @@
 -- Edits that are of a list, for the clause of `laws::order_matters_to_insertions`.
-use Rattle.codespan_core.proofs.Std.{◌≡◌, ℕ, zero, suc, ◌<◌, Bool, true, false, cond, List, [], ◌∷◌}
-use Rattle.codespan_core.proofs.Std.{length, get_or, inl, inr, sym, ap, ◌∙◌, arith, ◌⊎◌, Contains}
-use Rattle.codespan_core.proofs.Std.{filter, IsPermutation}
+use Rattle.codespan_core.proofs.Std.{◌≡◌, ℕ, zero, suc, ◌<◌, Bool, true, false, cond}
+use Rattle.codespan_core.proofs.Std.{List, [], ◌∷◌, length, get_or, inl, inr, sym, ap}
+use Rattle.codespan_core.proofs.Std.{◌∙◌, arith, ◌⊎◌, Contains, filter, IsPermutation}
 use Rattle.std.proofs.lemmas.List.Sorted.{Contains-permutation}
 use Rattle.codespan_edits.specs.Edits.{TextEdit}
 
@@ -11,7 +11,8 @@ IsMember e [] = ⊥
 IsMember e (f ∷ fs) = (e ≡ f) ⊎ IsMember e fs
 
 -- the edit at an index is one of the list
-pub member-at : (es : List TextEdit) (e : TextEdit) (k : ℕ) → k < length es → get_or es k e ≡ e
+pub member-at : (es : List TextEdit) (e : TextEdit) (k : ℕ) → k < length es
+    → get_or es k e ≡ e
     → IsMember e es
 member-at [] e k h is = absurd (omega (arith, h))
 member-at (f ∷ fs) e zero h is = inl (sym is)
@@ -25,14 +26,16 @@ contains-member (f ∷ fs) e (inr m) =
     let c = contains-member fs e m in (suc c.0, omega (arith, c.1), c.2)
 
 -- an edit of a list is one of each permutation
-pub member-moved : (es fs : List TextEdit) → IsPermutation es fs → (e : TextEdit) → IsMember e es
+pub member-moved : (es fs : List TextEdit) → IsPermutation es fs → (e : TextEdit)
+    → IsMember e es
     → IsMember e fs
 member-moved es fs moved e m =
     let c = Contains-permutation es fs e moved (contains-member es e m) in member-at fs e c.0 c.1
     c.2
 
 -- an edit that passes a test is one of those that pass it
-pub member-filter : (test : TextEdit → Bool) (e : TextEdit) (es : List TextEdit) → test e ≡ true
+pub member-filter : (test : TextEdit → Bool) (e : TextEdit) (es : List TextEdit)
+    → test e ≡ true
     → IsMember e es → IsMember e (filter test es)
 member-filter test e [] passes m = m
 member-filter test e (f ∷ fs) passes (inl is) =

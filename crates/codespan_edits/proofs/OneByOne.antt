@@ -1,6 +1,7 @@
 -- Edits one after another make the same, for the clause of `laws::edits_are_one_by_one`.
-use Rattle.codespan_core.proofs.Std.{◌≡◌, ℕ, ◌-◌, ◌≤◌, List, [], ◌∷◌, ◌++◌, length, take, drop, sym}
-use Rattle.codespan_core.proofs.Std.{ap, ◌∙◌, arith, append_assoc, slice_range, take-append-drop}
+use Rattle.codespan_core.proofs.Std.{◌≡◌, ℕ, ◌-◌, ◌≤◌, List, [], ◌∷◌}
+use Rattle.codespan_core.proofs.Std.{◌++◌, length, take, drop, sym, ap, ◌∙◌, arith}
+use Rattle.codespan_core.proofs.Std.{append_assoc, slice_range, take-append-drop}
 use Rattle.std.proofs.Common.{length-take}
 use Rattle.std.proofs.lemmas.List.{take-append-le}
 use Rattle.std.proofs.Math.Seq.{drop-append_seam, take-add}

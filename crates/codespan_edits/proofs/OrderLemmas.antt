@@ -1,10 +1,11 @@
 -- A list in order is determined by its members, for the clause `sorted` of `sorted_places` and for
 -- the laws.
-use Rattle.codespan_core.proofs.Std.{◌≡◌, ℕ, ◌+◌, Bool, true, false, List, [], ◌∷◌, if◌then◌else◌}
-use Rattle.codespan_core.proofs.Std.{refl, sym, ap, ◌∙◌, arith, sum_by, AllByRecursion}
-use Rattle.codespan_core.proofs.Std.{IsStrictWeakOrder, IsPermutation, nat_cmp, ordering_then}
-use Rattle.codespan_core.proofs.Std.{is_lt, nat_tests, ranks_by, IsPermutation-refl}
-use Rattle.codespan_core.proofs.Std.{IsPermutation-trans, IsPermutation-cons, sum_by-cons}
+use Rattle.codespan_core.proofs.Std.{◌≡◌, ℕ, ◌+◌, Bool, true, false, List, []}
+use Rattle.codespan_core.proofs.Std.{◌∷◌, if◌then◌else◌, refl, sym, ap, ◌∙◌}
+use Rattle.codespan_core.proofs.Std.{arith, sum_by, AllByRecursion, IsStrictWeakOrder}
+use Rattle.codespan_core.proofs.Std.{IsPermutation, nat_cmp, ordering_then, is_lt, nat_tests}
+use Rattle.codespan_core.proofs.Std.{ranks_by, IsPermutation-refl, IsPermutation-trans}
+use Rattle.codespan_core.proofs.Std.{IsPermutation-cons, sum_by-cons}
 use Rattle.std.specs.Cmp.{IsTotalOrder, then_total, on_total, nat_cmp_total}
 use Rattle.std.proofs.lemmas.List.Sorted.{IsPermutation-middle}
 use Rattle.codespan_edits.specs.Edits.{TextEdit, ListedEdit, compare, is_before, insert_in_order}

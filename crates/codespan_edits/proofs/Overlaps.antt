@@ -1,7 +1,8 @@
 -- Overlaps are between neighbors if anywhere, for the clause of `laws::overlaps_are_found`.
-use Rattle.codespan_core.proofs.Std.{◌≡◌, ℕ, ◌+◌, ◌≤◌, Bool, true, false, List, [], ◌∷◌, None, refl}
-use Rattle.codespan_core.proofs.Std.{arith, nat_lt, ◌&&◌, AllByRecursion, nat_cmp, ordering_then}
-use Rattle.codespan_core.proofs.Std.{is_lt, nat_tests, le-ltb, IsPermutation-sym}
+use Rattle.codespan_core.proofs.Std.{◌≡◌, ℕ, ◌+◌, ◌≤◌, Bool, true, false, List}
+use Rattle.codespan_core.proofs.Std.{[], ◌∷◌, None, refl, arith, nat_lt, ◌&&◌}
+use Rattle.codespan_core.proofs.Std.{AllByRecursion, nat_cmp, ordering_then, is_lt, nat_tests}
+use Rattle.codespan_core.proofs.Std.{le-ltb, IsPermutation-sym}
 use Rattle.std.specs.List.{IsDistinct}
 use Rattle.std.proofs.lemmas.Map.Keys.{IsDistinct-IsPermutation}
 use Rattle.codespan_edits.specs.Edits.{TextEdit, ListedEdit, in_order, listed, listed_from}

@@ -1,8 +1,8 @@
 -- Facts on the loops that put the text together, for the clauses of `apply`.
-use Rattle.codespan_core.proofs.Std.{◌≡◌, ℕ, ◌+◌, ◌-◌, ◌<◌, ◌≤◌, List, [], ◌∷◌, ◌++◌, length}
-use Rattle.codespan_core.proofs.Std.{get_or, drop, refl, sym, ap, ◌∙◌, subst, arith, length-drop}
-use Rattle.codespan_core.proofs.Std.{length-append, append_assoc, slice_range, string_bytes}
-use Rattle.codespan_core.proofs.Std.{get_or-map}
+use Rattle.codespan_core.proofs.Std.{◌≡◌, ℕ, ◌+◌, ◌-◌, ◌<◌, ◌≤◌, List, []}
+use Rattle.codespan_core.proofs.Std.{◌∷◌, ◌++◌, length, get_or, drop, refl, sym, ap}
+use Rattle.codespan_core.proofs.Std.{◌∙◌, subst, arith, length-drop, length-append}
+use Rattle.codespan_core.proofs.Std.{append_assoc, slice_range, string_bytes, get_or-map}
 use Rattle.std.proofs.lemmas.List.{length-take}
 use Rattle.codespan_edits.specs.Edits.{TextEdit, text_edit, text_edits, edited_from}
 use Rattle.codespan_edits.specs.Private.Places.{edit_at, edits_at, replacement_at, FitFrom}

@@ -1,7 +1,8 @@
 -- The rows of a diff are a patch, for the clause of `laws::shown_rows_are_patch`.
-use Rattle.codespan_core.proofs.Std.{◌≡◌, ℕ, ◌+◌, ◌-◌, Bool, true, false, List, [], ◌∷◌, ◌++◌}
-use Rattle.codespan_core.proofs.Std.{length, Some, refl, sym, ap, ◌∙◌, arith, append_assoc}
-use Rattle.codespan_core.proofs.Std.{length-append, take-append_seam, if◌then◌else◌, eq-eqb}
+use Rattle.codespan_core.proofs.Std.{◌≡◌, ℕ, ◌+◌, ◌-◌, Bool, true, false, List, []}
+use Rattle.codespan_core.proofs.Std.{◌∷◌, ◌++◌, length, Some, refl, sym, ap, ◌∙◌}
+use Rattle.codespan_core.proofs.Std.{arith, append_assoc, length-append, take-append_seam}
+use Rattle.codespan_core.proofs.Std.{if◌then◌else◌, eq-eqb}
 use Rattle.std.specs.Prelude.{option_and_then}
 use Rattle.std.proofs.Math.Seq.{drop-append_seam}
 use Rattle.std.proofs.lemmas.Slice.Eq.{bytes_eq-Decides}
@@ -88,7 +89,8 @@ behind picks k rs w p i j rest old new =
     ∙ rest w [] p
 
 -- one more row
-one-more : (picks : ℕ → Bool) (k : ℕ) (sign : RowSign) (line : List ℕ) (rs : List Row) (t : Bool)
+one-more : (picks : ℕ → Bool) (k : ℕ) (sign : RowSign) (line : List ℕ) (rs : List Row)
+    (t : Bool)
     → picks k ≡ t → Patches picks (k + 1) rs
     → Patches picks k ((record { sign = sign; line = line }) ∷ rs)
 one-more picks k Kept line rs true h rest w sk p =

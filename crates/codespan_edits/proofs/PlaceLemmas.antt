@@ -1,9 +1,9 @@
 -- The edits at sorted places are the edits in order, for the clause `sorted` of `sorted_places`.
-use Rattle.codespan_core.proofs.Std.{◌≡◌, ℕ, suc, ◌<◌, ◌≤◌, Bool, false, List, [], ◌∷◌, ◌++◌}
-use Rattle.codespan_core.proofs.Std.{length, get_or, refl, sym, ap, ◌∙◌, subst, arith, append-nil}
-use Rattle.codespan_core.proofs.Std.{drop, sum_by, IsStrictWeakOrder, IsPermutation, IsSortedBy}
-use Rattle.codespan_core.proofs.Std.{drop_all, ranks_by, sorted_far, IsPermutation-map}
-use Rattle.codespan_core.proofs.Std.{sum_by-IsPermutation}
+use Rattle.codespan_core.proofs.Std.{◌≡◌, ℕ, suc, ◌<◌, ◌≤◌, Bool, false, List, []}
+use Rattle.codespan_core.proofs.Std.{◌∷◌, ◌++◌, length, get_or, refl, sym, ap, ◌∙◌}
+use Rattle.codespan_core.proofs.Std.{subst, arith, append-nil, drop, sum_by, IsStrictWeakOrder}
+use Rattle.codespan_core.proofs.Std.{IsPermutation, IsSortedBy, drop_all, ranks_by, sorted_far}
+use Rattle.codespan_core.proofs.Std.{IsPermutation-map, sum_by-IsPermutation}
 use Rattle.codespan_edits.specs.Edits.{TextEdit, is_before, in_order, listed, listed_from}
 use Rattle.codespan_edits.specs.Private.Places.{replacement_at, edit_at, edits_at}
 use Rattle.codespan_edits.specs.declared.order.Place.{Place}

@@ -1,10 +1,11 @@
 -- Lists with the same edits make the same, for the clauses of `laws::order_matters_to_insertions`
 -- and `laws::same_edits_have_same_diff`.
-use Rattle.codespan_core.proofs.Std.{◌≡◌, ℕ, ◌+◌, ◌<◌, ◌≤◌, Bool, true, false, cond, List, [], ◌∷◌}
-use Rattle.codespan_core.proofs.Std.{◌++◌, length, map, None, inl, inr, if◌then◌else◌, refl, sym}
-use Rattle.codespan_core.proofs.Std.{ap, ◌∙◌, subst, arith, nat_lt, ◌==◌, ◌&&◌, slice_range}
-use Rattle.codespan_core.proofs.Std.{AllByRecursion, filter, IsPermutation, nat_cmp, ordering_then}
-use Rattle.codespan_core.proofs.Std.{is_lt, true≢false, nat_tests, IsPermutation-sym}
+use Rattle.codespan_core.proofs.Std.{◌≡◌, ℕ, ◌+◌, ◌<◌, ◌≤◌, Bool, true, false}
+use Rattle.codespan_core.proofs.Std.{cond, List, [], ◌∷◌, ◌++◌, length, map, None, inl}
+use Rattle.codespan_core.proofs.Std.{inr, if◌then◌else◌, refl, sym, ap, ◌∙◌, subst}
+use Rattle.codespan_core.proofs.Std.{arith, nat_lt, ◌==◌, ◌&&◌, slice_range, AllByRecursion}
+use Rattle.codespan_core.proofs.Std.{filter, IsPermutation, nat_cmp, ordering_then, is_lt}
+use Rattle.codespan_core.proofs.Std.{true≢false, nat_tests, IsPermutation-sym}
 use Rattle.codespan_core.proofs.Std.{IsPermutation-trans, IsPermutation-map, flat_map}
 use Rattle.std.proofs.lemmas.Map.Keys.{IsDistinct-IsPermutation}
 use Rattle.codespan_core.specs.Lines.{is_char_boundary}

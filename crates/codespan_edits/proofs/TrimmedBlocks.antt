@@ -1,10 +1,11 @@
 -- Blocks are trimmed, for the clauses of `laws::blocks_are_trimmed` and
 -- `laws::unchanged_text_is_kept`.
-use Rattle.codespan_core.proofs.Std.{◌≡◌, ℕ, zero, suc, ◌+◌, ◌-◌, ◌≤◌, Bool, true, false, cond}
-use Rattle.codespan_core.proofs.Std.{List, [], ◌∷◌, ◌++◌, length, take, drop, map, reverse, refl}
-use Rattle.codespan_core.proofs.Std.{sym, ap, ◌∙◌, arith, append-nil, slice_range, if◌then◌else◌}
-use Rattle.codespan_core.proofs.Std.{flat_map, bytes_eq, take-append-drop, reverse-append}
-use Rattle.codespan_core.proofs.Std.{length-drop, subst, AllByRecursion, ◌==◌, true≢false, drop_all}
+use Rattle.codespan_core.proofs.Std.{◌≡◌, ℕ, zero, suc, ◌+◌, ◌-◌, ◌≤◌, Bool}
+use Rattle.codespan_core.proofs.Std.{true, false, cond, List, [], ◌∷◌, ◌++◌, length, take}
+use Rattle.codespan_core.proofs.Std.{drop, map, reverse, refl, sym, ap, ◌∙◌, arith}
+use Rattle.codespan_core.proofs.Std.{append-nil, slice_range, if◌then◌else◌, flat_map}
+use Rattle.codespan_core.proofs.Std.{bytes_eq, take-append-drop, reverse-append, length-drop, subst}
+use Rattle.codespan_core.proofs.Std.{AllByRecursion, ◌==◌, true≢false, drop_all}
 use Rattle.std.proofs.Math.Numerals.{one-add}
 use Rattle.std.proofs.Math.Seq.{drop-append_seam}
 use Rattle.std.proofs.lemmas.Slice.Eq.{bytes_eq-Decides}
@@ -124,7 +125,8 @@ common-same [] = refl
 common-same (x ∷ xs) = rw ((bytes_eq-Decides x x).1 refl) (omega (arith, common-same xs))
 
 -- so a block of the same text twice changes no line
-same-kept : (x : List ℕ) → lines_with is_changed (block_rows (record { old = x; new = x })) ≡ []
+same-kept : (x : List ℕ) → lines_with is_changed (block_rows (record { old = x; new = x }))
+    ≡ []
 same-kept x =
     block-with is_changed (record { old = x; new = x }) refl
     ∙ ap (λ ls. lines_with is_changed (rows_to_end ls ls))

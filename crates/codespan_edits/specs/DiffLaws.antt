@@ -1,6 +1,6 @@
 -- What the diff of edits is to the two texts.
-use Rattle.std.specs.Prelude.{◌≡◌, ◌≢◌, ℕ, Bool, true, false, List, [], ◌∷◌, map, reverse, None}
-use Rattle.std.specs.Prelude.{slice_range}
+use Rattle.std.specs.Prelude.{◌≡◌, ◌≢◌, ℕ, Bool, true, false, List, [], ◌∷◌}
+use Rattle.std.specs.Prelude.{map, reverse, None, slice_range}
 use Rattle.std.specs.List.{AllByRecursion, filter}
 use Rattle.codespan_edits.specs.Edits.{TextEdit, edited}
 use Rattle.codespan_edits.specs.Faults.{fault}
@@ -70,4 +70,5 @@ UnchangedTextIsKept = (text : List ℕ) (edits : List TextEdit)
 -- has no fault, the other has none, and they have the same diff
 abbrev pub SameEditsHaveSameDiff : Type 0
 SameEditsHaveSameDiff = (text : List ℕ) (es fs : List TextEdit) → HaveSameEdits es fs
-    → fault text es ≡ None → (fault text fs ≡ None) × (diff_rows text fs ≡ diff_rows text es)
+    → fault text es ≡ None
+    → (fault text fs ≡ None) × (diff_rows text fs ≡ diff_rows text es)

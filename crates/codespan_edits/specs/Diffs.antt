@@ -1,6 +1,7 @@
 -- The lines of a text, and the rows of the diff that edits make.
-use Rattle.std.specs.Prelude.{ℕ, ◌-◌, ◌+◌, Bool, ◌&&◌, ◌==◌, if◌then◌else◌, true, List, [], ◌∷◌}
-use Rattle.std.specs.Prelude.{◌++◌, map, take, drop, length, slice_range, reverse}
+use Rattle.std.specs.Prelude.{ℕ, ◌-◌, ◌+◌, Bool, ◌&&◌, ◌==◌, if◌then◌else◌}
+use Rattle.std.specs.Prelude.{true, List, [], ◌∷◌, ◌++◌, map, take, drop, length}
+use Rattle.std.specs.Prelude.{slice_range, reverse}
 use Rattle.std.specs.List.{flat_map, common_prefix_len}
 use Rattle.std.specs.Str.{bytes_eq}
 use Rattle.codespan_edits.specs.Edits.{TextEdit, ListedEdit, listed, in_order}

@@ -1,6 +1,6 @@
 -- What is wrong with a list of edits.
-use Rattle.std.specs.Prelude.{◌≡◌, ◌≢◌, ℕ, nat_lt, not, if◌then◌else◌, List, [], ◌∷◌, length}
-use Rattle.std.specs.Prelude.{Option, Some, None, Result, MatchResult}
+use Rattle.std.specs.Prelude.{◌≡◌, ◌≢◌, ℕ, nat_lt, not, if◌then◌else◌, List, []}
+use Rattle.std.specs.Prelude.{◌∷◌, length, Option, Some, None, Result, MatchResult}
 use Rattle.std.specs.Option.{option_or}
 use Rattle.codespan_core.specs.Lines.{is_char_boundary}
 use Rattle.codespan_edits.specs.Edits.{TextEdit, ListedEdit, listed, in_order}

@@ -1,7 +1,8 @@
 -- For `chars_change_no_row_length`: the length of rows does not depend on the characters that they
 -- are rendered with.
-use Rattle.std.proofs.Common.{◌≡◌, ℕ, ◌-◌, Bool, true, false, List, [], ◌∷◌, ◌++◌, flat_map, Option}
-use Rattle.std.proofs.Common.{Some, None, if◌then◌else◌, refl, sym, ap, ◌∙◌, arith}
+use Rattle.std.proofs.Common.{◌≡◌, ℕ, ◌-◌, Bool, true, false, List, [], ◌∷◌}
+use Rattle.std.proofs.Common.{◌++◌, flat_map, Option, Some, None, if◌then◌else◌, refl}
+use Rattle.std.proofs.Common.{sym, ap, ◌∙◌, arith}
 use Rattle.std.specs.List.{list_any}
 use Rattle.codespan_base.specs.declared.diagnostic.Severity.{Severity}
 use Rattle.codespan_base.specs.declared.diagnostic.LabelStyle.{LabelStyle}
@@ -26,9 +27,8 @@ use Rattle.codespan_output.specs.RowParts.{border_left_break, style_change, styl
 use Rattle.codespan_output.specs.RowParts.{snippet_locus, line_metrics, line_metrics_to_end}
 use Rattle.codespan_output.specs.RowParts.{inner_gutter, colored_text, caret_glyphs, carets}
 use Rattle.codespan_output.specs.RowParts.{trailing_message, label_message, starts_in}
-use Rattle.codespan_output.specs.RowParts.{max_label_start, spaces_up_to, pointer_style}
-use Rattle.codespan_output.specs.RowParts.{pointer_at, pointers, metrics_before, underline}
-use Rattle.codespan_output.specs.RowParts.{underline_message}
+use Rattle.codespan_output.specs.RowParts.{max_label_start, spaces_up_to, pointer_style, pointer_at}
+use Rattle.codespan_output.specs.RowParts.{pointers, metrics_before, underline, underline_message}
 use Rattle.codespan_output.specs.RowStreams.{stream_of, snippet_start_row, empty_row, break_row}
 use Rattle.codespan_output.specs.RowStreams.{source_row, row_start, caret_row, pointer_row}
 use Rattle.codespan_output.specs.RowStreams.{hanging_row, underline_row, first_note_row}
@@ -53,7 +53,8 @@ same_before s t after e = joined s t after after e (as_long after)
 same_after : (before s t : Stream) → AreAsLong s t → AreAsLong (before ++ s) (before ++ t)
 same_after before s t e = joined before before s t (as_long before) e
 
-flat_as_long : {A : Type 0} (f g : A → Stream) → ((x : A) → AreAsLong (f x) (g x)) → (xs : List A)
+flat_as_long : {A : Type 0} (f g : A → Stream) → ((x : A) → AreAsLong (f x) (g x))
+    → (xs : List A)
     → AreAsLong (flat_map f xs) (flat_map g xs)
 flat_as_long f g e [] = as_long []
 flat_as_long f g e (x ∷ xs) =
@@ -98,7 +99,8 @@ module _ (context : RowContext) (chars : Chars) where
   abbrev other : RowContext
   other = record context { chars = chars }
 
-  lanes_as_long : (crossing crossing' : ℕ → Option LaneMark) (shape shape' : ℕ → MultiLabel → _)
+  lanes_as_long : (crossing crossing' : ℕ → Option LaneMark)
+      (shape shape' : ℕ → MultiLabel → _)
       (lanes : Lanes)
       → AreAsLong (lanes_in other crossing shape lanes) (lanes_in context crossing' shape' lanes)
   lanes_as_long crossing crossing' shape shape' lanes =

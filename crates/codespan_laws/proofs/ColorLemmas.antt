@@ -1,5 +1,6 @@
 -- For `colors_change_no_text`: bytes of text among bytes of style marks.
-use Rattle.std.proofs.Common.{◌≡◌, ℕ, false, List, [], ◌∷◌, ◌++◌, map, filter, refl, ap, ap₂, ◌∙◌}
+use Rattle.std.proofs.Common.{◌≡◌, ℕ, false, List, [], ◌∷◌, ◌++◌, map, filter}
+use Rattle.std.proofs.Common.{refl, ap, ap₂, ◌∙◌}
 use Rattle.std.proofs.lemmas.List.{map-append}
 use Rattle.codespan_base.specs.declared.term.config.styles.Styles.{Styles}
 use Rattle.codespan_base.specs.Streams.{Stream, Spelling, Byte, Mark, Slot, spelled, text_of}
@@ -44,7 +45,8 @@ all_written spelling (Mark m ∷ s) =
 all_written spelling (Slot k ∷ s) = all_written spelling s
 
 text_written : (spelling : Spelling) (s : Stream)
-    → map byte_of (filter (λ (x : WrittenByte). x.is_text) (written_bytes spelling s)) ≡ text_of s
+    → map byte_of (filter (λ (x : WrittenByte). x.is_text) (written_bytes spelling s))
+    ≡ text_of s
 text_written spelling [] = refl
 text_written spelling (Byte b ∷ s) = ap (λ (l : List ℕ). b ∷ l) (text_written spelling s)
 text_written spelling (Mark m ∷ s) =
@@ -67,7 +69,8 @@ nothing styles Reset = refl
 
 pub no_color_is_plain : (styles : Styles) (s : Stream) → NoColorIsPlain styles s
 no_color_is_plain styles [] = refl
-no_color_is_plain styles (Byte b ∷ s) = ap (λ (l : List ℕ). b ∷ l) (no_color_is_plain styles s)
+no_color_is_plain styles (Byte b ∷ s) = ap (λ (l : List ℕ). b ∷ l)
+    (no_color_is_plain styles s)
 no_color_is_plain styles (Mark m ∷ s) =
     ap (λ (l : List ℕ). l ++ spelled (spelling_by styles (λ spec. []) []) s) (nothing styles m)
     ∙ no_color_is_plain styles s

@@ -1,6 +1,6 @@
 -- For `lanes_take_two_characters`: each lane takes two characters.
-use Rattle.std.proofs.Common.{◌≡◌, ℕ, zero, suc, ◌+◌, ◌*◌, ◌++◌, flat_map, Option, Some, None, refl}
-use Rattle.std.proofs.Common.{◌∙◌, arith}
+use Rattle.std.proofs.Common.{◌≡◌, ℕ, zero, suc, ◌+◌, ◌*◌, ◌++◌, flat_map}
+use Rattle.std.proofs.Common.{Option, Some, None, refl, ◌∙◌, arith}
 use Rattle.std.specs.List.{range_with_len}
 use Rattle.codespan_base.specs.declared.diagnostic.Severity.{Severity}
 use Rattle.codespan_base.specs.declared.diagnostic.LabelStyle.{LabelStyle}
@@ -18,9 +18,8 @@ use Rattle.codespan_output.specs.Lanes.{underline_char, crossing_characters, lab
 use Rattle.codespan_output.specs.Lanes.{lane_mark_in, lane_characters}
 use Rattle.codespan_output.specs.Rows.{RowContext, Lanes}
 use Rattle.codespan_output.specs.RowParts.{inner_gutter_column, lanes_in}
-use Rattle.codespan_output.proofs.Texts.{row_length-append, row_length-glyph}
-use Rattle.codespan_output.proofs.Texts.{row_length-style_mark, row_length-repeated}
-use Rattle.codespan_output.proofs.Texts.{row_length-spaces}
+use Rattle.codespan_output.proofs.Texts.{row_length-append, row_length-glyph, row_length-style_mark}
+use Rattle.codespan_output.proofs.Texts.{row_length-repeated, row_length-spaces}
 
 -- a stream between two style marks is as long as it is alone
 row_length-between_style_marks : (m : StyleMark) (s : Stream)

@@ -1,8 +1,8 @@
 -- For `reordering_changes_nothing`: two orders of a file's labels that its snippet shows alike have
 -- the same labels.
-use Rattle.std.proofs.Common.{◌≡◌, ℕ, min, Bool, true, false, not, ◌==◌, ◌&&◌, ◌||◌, nat_le, cond}
-use Rattle.std.proofs.Common.{List, [], ◌∷◌, map, filter, fold, reverse, ⊎_elim, refl, sym, ap, ◌∙◌}
-use Rattle.std.proofs.Common.{arith}
+use Rattle.std.proofs.Common.{◌≡◌, ℕ, min, Bool, true, false, not, ◌==◌, ◌&&◌}
+use Rattle.std.proofs.Common.{◌||◌, nat_le, cond, List, [], ◌∷◌, map, filter, fold}
+use Rattle.std.proofs.Common.{reverse, ⊎_elim, refl, sym, ap, ◌∙◌, arith}
 use Rattle.std.specs.List.{list_any}
 use Rattle.std.proofs.Math.Bool.{or-false, or_assoc}
 use Rattle.std.proofs.lemmas.Bool.{cases_Bool, eq-eqb, or_right}
@@ -39,7 +39,8 @@ record Witness (p : LabelModel → Bool) (xs : List LabelModel) : Type 0 where
   stays : (q : LabelModel → Bool) → q label ≡ true → list_any p (filter q xs) ≡ true
 
 -- there is such a label where some label passes
-some_passes : (p : LabelModel → Bool) (xs : List LabelModel) → list_any p xs ≡ true → Witness p xs
+some_passes : (p : LabelModel → Bool) (xs : List LabelModel) → list_any p xs ≡ true
+    → Witness p xs
 some_passes p [] h = cc
 some_passes p (x ∷ xs) h = by_test (some_passes p xs) (p x) refl h
   where
@@ -105,7 +106,8 @@ same-tests f xs ys equal p =
     by_tests (list_any p xs) (list_any p ys) (passes-equal f xs ys equal p)
     (passes-equal f ys xs (equal-sym f xs ys equal) p)
   where
-    by_tests : (b c : Bool) → (b ≡ true → c ≡ true) → (c ≡ true → b ≡ true) → b ≡ c
+    by_tests : (b c : Bool) → (b ≡ true → c ≡ true) → (c ≡ true → b ≡ true)
+        → b ≡ c
     by_tests true c there back = sym (there refl)
     by_tests false true there back = back refl
     by_tests false false there back = refl
@@ -147,7 +149,8 @@ same-number a b h =
 
 -- the least start of the same labels
 least-same : (xs ys : List LabelModel) → SameTests xs ys
-    → least (map (λ (x : LabelModel). x.start) xs) ≡ least (map (λ (x : LabelModel). x.start) ys)
+    → least (map (λ (x : LabelModel). x.start) xs)
+    ≡ least (map (λ (x : LabelModel). x.start) ys)
 least-same [] [] same = refl
 least-same [] (y ∷ ys) same = let e = same (λ _. true) in cc
 least-same (x ∷ xs) [] same = let e = same (λ _. true) in cc
@@ -159,7 +162,8 @@ least-same (x ∷ xs) (y ∷ ys) same =
     starts = map (λ (z : LabelModel). z.start)
 
     at_most : (k : ℕ) (z : LabelModel) (zs : List LabelModel)
-        → nat_le (least (starts (z ∷ zs))) k ≡ list_any (λ (w : LabelModel). nat_le w.start k)
+        → nat_le (least (starts (z ∷ zs))) k
+        ≡ list_any (λ (w : LabelModel). nat_le w.start k)
         (z ∷ zs)
     at_most k z zs =
         least-test k z.start (starts zs)
@@ -167,7 +171,8 @@ least-same (x ∷ xs) (y ∷ ys) same =
         (any-map (λ n. nat_le n k) (λ (w : LabelModel). w.start) zs)
 
 -- the byte of a file's locus depends only on which labels there are
-pub locus-same : (xs ys : List LabelModel) → SameTests xs ys → locus_byte_of xs ≡ locus_byte_of ys
+pub locus-same : (xs ys : List LabelModel) → SameTests xs ys
+    → locus_byte_of xs ≡ locus_byte_of ys
 locus-same xs ys same =
     least-same (if_any (filter is_primary xs) xs) (if_any (filter is_primary ys) ys)
     (if_any-tests (filter is_primary xs) (filter is_primary ys) xs ys

@@ -1,8 +1,8 @@
 -- For `reordering_changes_nothing`: a reordering of labels that keeps the orders that a rich output
 -- shows changes nothing in it.
-use Rattle.std.proofs.Common.{◌≡◌, ℕ, ◌+◌, ◌-◌, max, Bool, true, ◌&&◌, ◌||◌, nat_lt, List, [], ◌∷◌}
-use Rattle.std.proofs.Common.{◌++◌, map, filter, fold, flat_map, length, None, refl, sym, ap, ap₂}
-use Rattle.std.proofs.Common.{◌∙◌, false}
+use Rattle.std.proofs.Common.{◌≡◌, ℕ, ◌+◌, ◌-◌, max, Bool, true, ◌&&◌, ◌||◌}
+use Rattle.std.proofs.Common.{nat_lt, List, [], ◌∷◌, ◌++◌, map, filter, fold, flat_map}
+use Rattle.std.proofs.Common.{length, None, refl, sym, ap, ap₂, ◌∙◌, false}
 use Rattle.std.specs.Cmp.{IsEquivalence, first_so, second_so}
 use Rattle.std.specs.Cmp.Lexicographic.{pointwise}
 use Rattle.std.specs.List.{range_with_len, enumerate_from, filter_map}
@@ -87,12 +87,14 @@ module _ (f : FileModel) (xs ys : List LabelModel) (equal : AreEqual f xs ys) wh
       ap (λ b. nat_lt l (line_count f) && b)
       (tests (λ x. shows view_config (first_line f x) (last_line f x) l))
 
-  shown_lines-same : (view_config : Config) → shown_lines view_config s ≡ shown_lines view_config t
+  shown_lines-same : (view_config : Config)
+      → shown_lines view_config s ≡ shown_lines view_config t
   shown_lines-same view_config =
       ap (λ (shown : ℕ → Bool). filter shown (range_with_len 0 (line_count f)))
       (fun_ext (shown-same view_config))
 
-  drawn-same : (view_config : Config) → drawn_lines view_config f xs ≡ drawn_lines view_config f ys
+  drawn-same : (view_config : Config)
+      → drawn_lines view_config f xs ≡ drawn_lines view_config f ys
   drawn-same view_config =
       ap (λ (shown : ℕ → Bool). filter
       (λ l. shown l || (nat_lt 0 l && shown (l - 1) && shown (l + 1)))
@@ -114,7 +116,8 @@ module _ (f : FileModel) (xs ys : List LabelModel) (equal : AreEqual f xs ys) wh
   snippet-same : (view_config : Config) (locus : Locus)
       → snippet view_config locus s ≡ snippet view_config locus t
   snippet-same view_config locus =
-      ap₂ (λ a b. a ++ b) (ap (λ lanes. SnippetStartRow locus ∷ EmptyRow lanes ∷ []) bare-same)
+      ap₂ (λ a b. a ++ b)
+      (ap (λ lanes. SnippetStartRow locus ∷ EmptyRow lanes ∷ []) bare-same)
       (after-same view_config)
 
   spanned-same : spanned_lines s ≡ spanned_lines t
@@ -173,8 +176,10 @@ module _ {Id : Type 0} (view_config : Config) (g h : Id → LabeledFileModel)
       (snippets-same has_notes ps ids)
 
   digits-same : (ids : List Id)
-      → flat_map (λ (s : LabeledFileModel). digits_of s (numbered_lines view_config s)) (map g ids)
-      ≡ flat_map (λ (s : LabeledFileModel). digits_of s (numbered_lines view_config s)) (map h ids)
+      → flat_map (λ (s : LabeledFileModel). digits_of s (numbered_lines view_config s))
+      (map g ids)
+      ≡ flat_map (λ (s : LabeledFileModel). digits_of s (numbered_lines view_config s))
+      (map h ids)
   digits-same [] = refl
   digits-same (i ∷ ids) = ap₂ (λ a b. a ++ b) (have_same_rows i).digits (digits-same ids)
 
@@ -189,24 +194,26 @@ module _ {Id : Type 0} (view_config : Config) (g h : Id → LabeledFileModel)
 
 -- ---- equal ids
 
-module _ {Id : Type 0} (same : Id → Id → Bool) (file : Id → FileModel) (o : IsEquivalence same)
-    (one_file : (i j : Id) → same i j ≡ true → file i ≡ file j) (xs : List (LabelInFile Id)) where
-  -- equal ids have one file with one list of labels
-  file-equal : (i j : Id) → same i j ≡ true
-      → labeled_file_model same file xs i ≡ labeled_file_model same file xs j
-  file-equal i j t = ap₂ {C = LabeledFileModel} (λ f (named : LabelInFile Id → Bool).
-      record { file = f; labels = map (λ (x : LabelInFile Id). x.label) (filter named xs) })
-      (one_file i j t) (fun_ext (λ (x : LabelInFile Id). o.congr i j x.file_id t))
+module _ {Id : Type 0} (same : Id → Id → Bool) (file : Id → FileModel)
+    (o : IsEquivalence same)
+    (one_file : (i j : Id) → same i j ≡ true → file i ≡ file j) (xs : List (LabelInFile Id))
+  where
+    -- equal ids have one file with one list of labels
+    file-equal : (i j : Id) → same i j ≡ true
+        → labeled_file_model same file xs i ≡ labeled_file_model same file xs j
+    file-equal i j t = ap₂ {C = LabeledFileModel} (λ f (named : LabelInFile Id → Bool).
+        record { file = f; labels = map (λ (x : LabelInFile Id). x.label) (filter named xs) })
+        (one_file i j t) (fun_ext (λ (x : LabelInFile Id). o.congr i j x.file_id t))
 
-  -- ids that are equal one by one have the same files
-  files-equal : (is js : List Id) → pointwise same is js ≡ true
-      → map (labeled_file_model same file xs) is ≡ map (labeled_file_model same file xs) js
-  files-equal [] [] h = refl
-  files-equal [] (j ∷ js) h = cc
-  files-equal (i ∷ is) [] h = cc
-  files-equal (i ∷ is) (j ∷ js) h =
-      ap₂ (λ s ss. s ∷ ss) (file-equal i j (first_so (same i j) (pointwise same is js) h))
-      (files-equal is js (second_so (same i j) (pointwise same is js) h))
+    -- ids that are equal one by one have the same files
+    files-equal : (is js : List Id) → pointwise same is js ≡ true
+        → map (labeled_file_model same file xs) is ≡ map (labeled_file_model same file xs) js
+    files-equal [] [] h = refl
+    files-equal [] (j ∷ js) h = cc
+    files-equal (i ∷ is) [] h = cc
+    files-equal (i ∷ is) (j ∷ js) h =
+        ap₂ (λ s ss. s ∷ ss) (file-equal i j (first_so (same i j) (pointwise same is js) h))
+        (files-equal is js (second_so (same i j) (pointwise same is js) h))
 
 -- a reordering that keeps these orders changes nothing in a rich output, where equal ids have one
 -- file

@@ -1,6 +1,7 @@
 -- For `rows_end_reset`: the last style mark of a row is a reset.
-use Rattle.std.proofs.Common.{◌≡◌, ℕ, zero, suc, ◌+◌, ◌-◌, Bool, true, false, List, [], ◌∷◌, ◌++◌}
-use Rattle.std.proofs.Common.{flat_map, Option, Some, None, refl, ap, ◌∙◌}
+use Rattle.std.proofs.Common.{◌≡◌, ℕ, zero, suc, ◌+◌, ◌-◌, Bool, true, false, List}
+use Rattle.std.proofs.Common.{[], ◌∷◌, ◌++◌, flat_map, Option, Some, None, refl, ap}
+use Rattle.std.proofs.Common.{◌∙◌}
 use Rattle.std.specs.List.{repeat, range_with_len}
 use Rattle.codespan_base.specs.declared.diagnostic.Severity.{Severity}
 use Rattle.codespan_base.specs.declared.diagnostic.LabelStyle.{LabelStyle}
@@ -35,7 +36,10 @@ pub record Closes (s : Stream) : Type 0 where
 
 pub closes-append : (s t : Stream) → Closes s → Closes t → Closes (s ++ t)
 closes-append s t h k =
-    record { closed = ends_reset-append true s t ∙ ap (λ c. ends_reset c t) h.closed ∙ k.closed }
+    record {
+      closed = ends_reset-append true s t ∙ ap (λ c. ends_reset c t) h.closed
+          ∙ k.closed;
+    }
 
 -- a stream that ends with a reset closes
 pub closes-reset : (s : Stream) → Closes (s ++ style_mark Reset)
@@ -53,7 +57,8 @@ pub ends_reset-spaces : (closed : Bool) (n : ℕ) → ends_reset closed (spaces 
 unfolding spaces
 ends_reset-spaces closed n = ends_reset-byte_stream closed _
 
-pub ends_reset-repeated : (closed : Bool) (n c : ℕ) → ends_reset closed (repeated n c) ≡ closed
+pub ends_reset-repeated : (closed : Bool) (n c : ℕ)
+    → ends_reset closed (repeated n c) ≡ closed
 unfolding repeated
 ends_reset-repeated closed zero c = refl
 ends_reset-repeated closed (suc n) c =
@@ -62,7 +67,8 @@ ends_reset-repeated closed (suc n) c =
     ∙ ends_reset-repeated closed n c
 
 -- a stream between a style mark and a reset closes
-pub closes-in_style : (m : StyleMark) (s : Stream) → Closes (style_mark m ++ s ++ style_mark Reset)
+pub closes-in_style : (m : StyleMark) (s : Stream)
+    → Closes (style_mark m ++ s ++ style_mark Reset)
 closes-in_style m s = closes-reset (style_mark m ++ s)
 
 -- ---- lanes
@@ -106,7 +112,8 @@ closes-inner_gutter_column context crossing shape (Some m) =
     closes-lane_characters context.severity context.chars crossing m.style (shape m.multi_label)
 
 -- a stream closes where each part does
-pub closes-flat_map : {X : Type 0} (f : X → Stream) → ((x : X) → Closes (f x)) → (xs : List X)
+pub closes-flat_map : {X : Type 0} (f : X → Stream) → ((x : X) → Closes (f x))
+    → (xs : List X)
     → Closes (flat_map f xs)
 closes-flat_map f each [] = record { closed = refl }
 closes-flat_map f each (x ∷ xs) =

@@ -1,6 +1,6 @@
 -- For `rows_end_reset`: the rows of an output.
-use Rattle.std.proofs.Common.{◌≡◌, ℕ, ◌+◌, ◌-◌, nat_le, nat_lt, Bool, true, false, List, [], ◌++◌}
-use Rattle.std.proofs.Common.{Option, Some, None, refl}
+use Rattle.std.proofs.Common.{◌≡◌, ℕ, ◌+◌, ◌-◌, nat_le, nat_lt, Bool, true, false}
+use Rattle.std.proofs.Common.{List, [], ◌++◌, Option, Some, None, refl}
 use Rattle.std.specs.Prelude.{◌==◌, if◌then◌else◌}
 use Rattle.std.specs.List.{list_any}
 use Rattle.codespan_base.specs.declared.diagnostic.Severity.{Severity}
@@ -96,7 +96,8 @@ closes-trailing_message severity None = record { closed = refl }
 closes-trailing_message severity (Some x) =
     closes-append space _ (closes-byte_stream _) (closes-label_message severity x.style x.message)
 
-closes-spaces_up_to : (byte_index : ℕ) (c : Metrics) (n : ℕ) → Closes (spaces_up_to byte_index c n)
+closes-spaces_up_to : (byte_index : ℕ) (c : Metrics) (n : ℕ)
+    → Closes (spaces_up_to byte_index c n)
 unfolding spaces_up_to
 closes-spaces_up_to byte_index c n = by_test (nat_le c.byte_index byte_index)
   where

@@ -1,5 +1,6 @@
 -- The laws of colors: they change no text.
-use Rattle.std.specs.Prelude.{◌≡◌, ℕ, Bool, true, false, List, [], ◌∷◌, ◌++◌, map, filter}
+use Rattle.std.specs.Prelude.{◌≡◌, ℕ, Bool, true, false, List, [], ◌∷◌, ◌++◌, map}
+use Rattle.std.specs.Prelude.{filter}
 use Rattle.codespan_base.specs.declared.term.config.styles.Styles.{Styles}
 use Rattle.codespan_base.specs.Streams.{Stream, Spelling, Byte, Mark, Slot, spelled, text_of}
 use Rattle.codespan_base.specs.StyleSpellings.{spelling_by}
@@ -12,7 +13,8 @@ pub record WrittenByte : Type 0 where
 -- what a writer of this spelling writes, byte by byte
 abbrev pub written_bytes : Spelling → Stream → List WrittenByte
 written_bytes spelling [] = []
-written_bytes spelling (Byte b ∷ s) = record { is_text = true; byte = b } ∷ written_bytes spelling s
+written_bytes spelling (Byte b ∷ s) = record { is_text = true; byte = b } ∷ written_bytes
+    spelling s
 written_bytes spelling (Mark m ∷ s) =
     map (λ b. record { is_text = false; byte = b }) (spelling m) ++ written_bytes spelling s
 written_bytes spelling (Slot k ∷ s) = written_bytes spelling s

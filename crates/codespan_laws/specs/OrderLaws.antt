@@ -18,13 +18,15 @@ has_drawn_range f start end x =
 
 -- the multi-line labels of a file, in the order of the list
 abbrev pub multi_line_labels_of : {Id : Type 0}
-    → (Id → Id → Bool) → (Id → FileModel) → List (LabelInFile Id) → Id → List LabelModel
+    → (Id → Id → Bool) → (Id → FileModel) → List (LabelInFile Id) → Id
+    → List LabelModel
 multi_line_labels_of same file xs id =
     multi_line_labels (file id) (labeled_file_model same file xs id).labels
 
 -- the single-line labels of a line that have this drawn range, in the order of the list
 abbrev pub labels_of_drawn_range : {Id : Type 0}
-    → (Id → Id → Bool) → (Id → FileModel) → List (LabelInFile Id) → Id → ℕ → ℕ → ℕ → List LabelModel
+    → (Id → Id → Bool) → (Id → FileModel) → List (LabelInFile Id) → Id → ℕ → ℕ
+    → ℕ → List LabelModel
 labels_of_drawn_range same file xs id l start end =
     filter (λ x. is_single (file id) x && (first_line (file id) x == l)
     && has_drawn_range (file id) start end x) (labeled_file_model same file xs id).labels
@@ -54,7 +56,8 @@ pub record RenderSame {Id : Type 0} (same : Id → Id → Bool) (file : Id → F
 
 -- where `same` is an equivalence, and equal ids have one file, a reordering that keeps these orders
 -- changes nothing in a rich output
-abbrev pub ReorderingChangesNothing : {Id : Type 0} → (Id → Id → Bool) → (Id → FileModel) → Type 0
+abbrev pub ReorderingChangesNothing : {Id : Type 0} → (Id → Id → Bool) → (Id → FileModel)
+    → Type 0
 ReorderingChangesNothing {Id} same file = (xs ys : List (LabelInFile Id))
     → IsEquivalence same → ((i j : Id) → same i j ≡ true → file i ≡ file j)
     → SameOrders same file xs ys → RenderSame same file xs ys

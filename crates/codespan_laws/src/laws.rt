@@ -89,7 +89,8 @@ pub fn carets_are_cells()
 /// these characters has a cell.
 pub fn pointers_are_cells()
     ensures { (context : RowContext) (line : Line)
-        → StartsHaveCells line.labels (line_metrics context line) → PointersAreCells context line }
+        → StartsHaveCells line.labels (line_metrics context line)
+        → PointersAreCells context line }
 {}
 
 // ---- lanes
@@ -147,7 +148,8 @@ pub fn each_message_trails_or_hangs()
 /// and equal ids have one file. The two orders may have different ids of a file, if these are
 /// equal.
 pub fn reordering_changes_nothing<Id>()
-    ensures { (same : Id → Id → Bool) (file : Id → FileModel) → ReorderingChangesNothing same file }
+    ensures { (same : Id → Id → Bool) (file : Id → FileModel)
+        → ReorderingChangesNothing same file }
 {}
 
 /// States that `sorted` returns the one stable sort of its argument by ranges. The labels of a line

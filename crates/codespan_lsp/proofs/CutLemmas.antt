@@ -1,7 +1,7 @@
 -- Facts on a line cut after a prefix, for the value of `position_to_byte_index` and for the laws.
-use Rattle.std.proofs.Common.{◌≡◌, ℕ, ◌+◌, ◌-◌, ◌<◌, ◌≤◌, List, ◌++◌, length, take, drop, Result}
-use Rattle.std.proofs.Common.{Ok, Err, ap, sym, ◌∙◌, refl, subst, arith, append_assoc}
-use Rattle.std.proofs.Common.{length-append, length-take}
+use Rattle.std.proofs.Common.{◌≡◌, ℕ, ◌+◌, ◌-◌, ◌<◌, ◌≤◌, List, ◌++◌}
+use Rattle.std.proofs.Common.{length, take, drop, Result, Ok, Err, ap, sym, ◌∙◌, refl, subst}
+use Rattle.std.proofs.Common.{arith, append_assoc, length-append, length-take}
 use Rattle.std.specs.Prelude.{encode_utf8_all, slice_range, IfOk}
 use Rattle.std.proofs.lemmas.List.{take_at, take-append-drop, drop-drop}
 use Rattle.std.proofs.lemmas.Str.{chars-encodes, encodes-append, encodes-chars, scalars-chars}
@@ -18,17 +18,18 @@ use Rattle.codespan_lsp.specs.declared.encoding.PositionEncoding.{PositionEncodi
 use Rattle.codespan_lsp.proofs.PrefixLemmas.{Cut, prefix-cut}
 
 -- what a line's prefix of whole characters is in the text
-pub record IsPrefixAt (encoding : PositionEncoding) (text : List ℕ) (start end n : ℕ) : Type 0 where
-  pub within : start + length
-      (encode_utf8_all (prefix_within encoding n (chars (slice_range text start end)))) ≤ end
-  pub boundary : IsCharBoundary text
-      (start
-      + length (encode_utf8_all (prefix_within encoding n (chars (slice_range text start end)))))
-  pub units : code_units encoding
-      (slice_range text start
-      (start
-      + length (encode_utf8_all (prefix_within encoding n (chars (slice_range text start end))))))
-      ≡ total_units encoding (prefix_within encoding n (chars (slice_range text start end)))
+pub record IsPrefixAt (encoding : PositionEncoding) (text : List ℕ) (start end n : ℕ) : Type 0
+  where
+    pub within : start + length
+        (encode_utf8_all (prefix_within encoding n (chars (slice_range text start end)))) ≤ end
+    pub boundary : IsCharBoundary text
+        (start
+        + length (encode_utf8_all (prefix_within encoding n (chars (slice_range text start end)))))
+    pub units : code_units encoding
+        (slice_range text start
+        (start
+        + length (encode_utf8_all (prefix_within encoding n (chars (slice_range text start end))))))
+        ≡ total_units encoding (prefix_within encoding n (chars (slice_range text start end)))
 
 -- what follows a byte is the line's rest and the text after it
 rest-is : (text : List ℕ) (start end : ℕ) → start ≤ end
@@ -120,13 +121,15 @@ module _ (encoding : PositionEncoding) (f : FileModel) (law : IsLawful f) (p : P
       (λ byte. byte ≡ start
       + length (encode_utf8_all (prefix_within encoding p.character (chars line))))
       → IfOk r
-      (λ byte. total_units encoding (prefix_within encoding p.character (chars line)) ≡ p.character)
+      (λ byte. total_units encoding (prefix_within encoding p.character (chars line))
+      ≡ p.character)
       → IfOk r (IsByteAt encoding f p)
   returned-is-at start line start_is line_is (Ok byte) at units =
       let here : byte ≡ line_start f p.line
       + length
       (encode_utf8_all (prefix_within encoding p.character (chars (line_text f p.line)))) =
-      at ∙ (ap (λ s. s + length (encode_utf8_all (prefix_within encoding p.character (chars line))))
+      at ∙
+      (ap (λ s. s + length (encode_utf8_all (prefix_within encoding p.character (chars line))))
       start_is
       ∙ ap (λ l. line_start f p.line
       + length (encode_utf8_all (prefix_within encoding p.character (chars l)))) line_is) in

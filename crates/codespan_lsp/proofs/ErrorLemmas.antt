@@ -1,6 +1,6 @@
 -- The error of a character of a line, case by case, for the clauses of `byte_of_character`.
-use Rattle.std.proofs.Common.{◌≡◌, ℕ, ◌+◌, ◌<◌, List, length, ap, sym, ◌∙◌, refl, arith, inl, inr}
-use Rattle.std.proofs.Common.{length-append}
+use Rattle.std.proofs.Common.{◌≡◌, ℕ, ◌+◌, ◌<◌, List, length, ap, sym, ◌∙◌}
+use Rattle.std.proofs.Common.{refl, arith, inl, inr, length-append}
 use Rattle.std.specs.Prelude.{encode_utf8_all, Some, None}
 use Rattle.std.proofs.lemmas.Bool.{cases_lt, lt-ltb, le-ltb, eq-eqb, ne_eqb}
 use Rattle.std.proofs.lemmas.List.Sums.{sum_by-append}

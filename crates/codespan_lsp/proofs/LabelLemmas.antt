@@ -1,8 +1,8 @@
 -- Facts on a loop that makes something of each label that passes a test, for the clauses of
 -- `diagnostics`.
-use Rattle.std.proofs.Common.{◌≡◌, ℕ, ◌+◌, ◌<◌, ◌≤◌, true, false, Bool, List, [], ◌∷◌, ◌++◌, length}
-use Rattle.std.proofs.Common.{get_or, drop, map, Option, Some, None, ap, sym, ◌∙◌, refl, subst}
-use Rattle.std.proofs.Common.{append_assoc, append-nil}
+use Rattle.std.proofs.Common.{◌≡◌, ℕ, ◌+◌, ◌<◌, ◌≤◌, true, false, Bool, List}
+use Rattle.std.proofs.Common.{[], ◌∷◌, ◌++◌, length, get_or, drop, map, Option, Some}
+use Rattle.std.proofs.Common.{None, ap, sym, ◌∙◌, refl, subst, append_assoc, append-nil}
 use Rattle.std.specs.Prelude.{filter, string_bytes}
 use Rattle.std.proofs.lemmas.List.{drop_all, drop_more, map_push}
 use Rattle.std.specs.Option.{option_map}
@@ -31,7 +31,8 @@ module _ {A : Type 0} (p : A → Bool) (items : List A) (i : ℕ) (x : A) {slice
       (drop_more slice i x inside ∙ ap (λ y. y ∷ drop (i + 1) slice) (sym is))
 
   -- it passes
-  pub passing-more : p x ≡ true → filter p (drop i items) ≡ x ∷ filter p (drop (i + 1) items)
+  pub passing-more : p x ≡ true
+      → filter p (drop i items) ≡ x ∷ filter p (drop (i + 1) items)
   passing-more pass = ap (filter p) next ∙ rw pass refl
 
   -- or it does not
@@ -40,7 +41,8 @@ module _ {A : Type 0} (p : A → Bool) (items : List A) (i : ℕ) (x : A) {slice
 
 -- what was made so far, and what is made of the items left, is still the whole
 pub views-push : {A B X : Type 0} (view : B → X) (made : A → X) (xs ys : List B) (y : B) (x : A)
-    (left rest : List A) (all : List X) → ys ≡ xs ++ y ∷ [] → view y ≡ made x → left ≡ x ∷ rest
+    (left rest : List A) (all : List X) → ys ≡ xs ++ y ∷ [] → view y ≡ made x
+    → left ≡ x ∷ rest
     → map view xs ++ map made left ≡ all → map view ys ++ map made rest ≡ all
 views-push view made xs ys y x left rest all ys_are same left_is was =
     ap (λ zs. map view zs ++ map made rest) ys_are
@@ -52,7 +54,8 @@ views-push view made xs ys y x left rest all ys_are same left_is was =
 -- no item is left
 pub views-end : {A B X : Type 0} (p : A → Bool) (view : B → X) (made : A → X) (xs : List B)
     (items : List A) (i : ℕ) (all : List X)
-    → length items ≤ i → map view xs ++ map made (filter p (drop i items)) ≡ all → map view xs ≡ all
+    → length items ≤ i → map view xs ++ map made (filter p (drop i items)) ≡ all
+    → map view xs ≡ all
 views-end p view made xs items i all past was =
     sym (append-nil (map view xs))
     ∙ (ap (λ l. map view xs ++ map made (filter p l)) (sym (drop_all i items past)) ∙ was)
@@ -69,14 +72,16 @@ failure-more failure x left rest o was left_is none =
 -- or it fails
 pub failure-here : {A : Type 0} (failure : A → Option Error) (x : A) (left rest : List A)
     (o : Option Error) (e : Error)
-    → o ≡ first_failure (map failure left) → left ≡ x ∷ rest → failure x ≡ Some e → o ≡ Some e
+    → o ≡ first_failure (map failure left) → left ≡ x ∷ rest → failure x ≡ Some e
+    → o ≡ Some e
 failure-here failure x left rest o e was left_is fails =
     was ∙ (ap (λ l. first_failure (map failure l)) left_is
     ∙ ap (λ a. or_failure a (first_failure (map failure rest))) fails)
 
 -- related information with the fields of a label
 pub related-same : {FileId : Type 0} (encoding : PositionEncoding) (database : FileDatabase FileId)
-    (label : Label FileId) (related : RelatedInformation FileId) → related.file_id ≡ label.file_id
+    (label : Label FileId) (related : RelatedInformation FileId)
+    → related.file_id ≡ label.file_id
     → related.range ≡ label_range encoding database label
     → string_bytes related.message ≡ string_bytes label.message
     → related_view related ≡ related_information_for encoding database label

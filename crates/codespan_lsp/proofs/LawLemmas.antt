@@ -1,7 +1,7 @@
 -- The laws of positions, for the clauses of `laws`.
-use Rattle.std.proofs.Common.{◌≡◌, ℕ, ◌+◌, ◌-◌, ◌<◌, ◌≤◌, List, ◌∷◌, ◌++◌, length, take, drop, ap}
-use Rattle.std.proofs.Common.{sym, ◌∙◌, refl, subst, arith, inl, inr, length-append, length-take}
-use Rattle.std.proofs.Common.{length-drop}
+use Rattle.std.proofs.Common.{◌≡◌, ℕ, ◌+◌, ◌-◌, ◌<◌, ◌≤◌, List, ◌∷◌}
+use Rattle.std.proofs.Common.{◌++◌, length, take, drop, ap, sym, ◌∙◌, refl, subst, arith}
+use Rattle.std.proofs.Common.{inl, inr, length-append, length-take, length-drop}
 use Rattle.std.specs.Prelude.{Some, None, slice_range, encode_utf8, encode_utf8_all}
 use Rattle.std.proofs.lemmas.Bool.{cases_order, cases_eq}
 use Rattle.std.proofs.lemmas.List.{take-append-drop, take-take, drop-take, drop-drop}
@@ -43,7 +43,8 @@ slice-parts text start a b low high =
     ∙ (ap (λ ys. ys ++ drop m (take (m + k) xs)) front ∙ ap (λ zs. take m xs ++ zs) back))
 
 -- and its length
-slice-length : (text : List ℕ) (a b : ℕ) → b ≤ length text → length (slice_range text a b) ≡ b - a
+slice-length : (text : List ℕ) (a b : ℕ) → b ≤ length text
+    → length (slice_range text a b) ≡ b - a
 slice-length text a b h = omega (arith, h, length-take (b - a) (drop a text), length-drop a text)
 
 module _ (encoding : PositionEncoding) (f : FileModel) (law : IsLawful f) where
@@ -69,7 +70,8 @@ module _ (encoding : PositionEncoding) (f : FileModel) (law : IsLawful f) where
       omega (arith, some, sum)
 
   -- only one byte is at a position
-  unique : (p : Position) (a b : ℕ) → IsByteAt encoding f p a → IsByteAt encoding f p b → a ≡ b
+  unique : (p : Position) (a b : ℕ) → IsByteAt encoding f p a → IsByteAt encoding f p b
+      → a ≡ b
   unique p a b at_a at_b =
       elim (cases_order a b) [
         | inl same ↦ same
@@ -92,7 +94,8 @@ module _ (encoding : PositionEncoding) (f : FileModel) (law : IsLawful f) where
       ]
 
   -- a byte of a line is at its position
-  at-own : (byte : ℕ) → IsOnLine f byte → IsByteAt encoding f (position_of encoding f byte) byte
+  at-own : (byte : ℕ) → IsOnLine f byte
+      → IsByteAt encoding f (position_of encoding f byte) byte
   at-own byte on = record {
     line_exists = line_of_below f.starts byte law.has_line;
     from_start = line_of-start f law byte;
@@ -126,7 +129,8 @@ module _ (encoding : PositionEncoding) (f : FileModel) (law : IsLawful f) where
       ]
 
   -- a line's characters are those before a byte and those after it
-  chars-parts : (i byte : ℕ) → i < line_count f → line_start f i ≤ byte → byte ≤ line_end f i
+  chars-parts : (i byte : ℕ) → i < line_count f → line_start f i ≤ byte
+      → byte ≤ line_end f i
       → IsCharBoundary f.text byte
       → chars (line_text f i) ≡ chars (slice_range f.text (line_start f i) byte) ++ chars
       (slice_range f.text byte (line_end f i))
@@ -174,7 +178,8 @@ module _ (encoding : PositionEncoding) (f : FileModel) (law : IsLawful f) where
           prefix-is-at encoding f law p exists same,
         )
         | inr apart ↦ elim (cases_eq (length (encode_utf8_all prefix)) (length line)) [
-          | inl whole ↦ let past = character_failure-past encoding line n utf8 start apart whole in
+          | inl whole ↦ let past = character_failure-past encoding line n utf8 start apart whole
+              in
               absurd (cc)
           | inr part ↦ let inside =
               character_failure-inside encoding line n utf8 start apart part in
@@ -205,7 +210,8 @@ module _ (encoding : PositionEncoding) (f : FileModel) (law : IsLawful f) where
       ap (prefix_within encoding n) parts
       ∙ prefix-inside encoding n (chars text) c (chars rest) (omega (arith, is.after))
       is.before in
-      let bytes : length (encode_utf8_all (prefix_within encoding n (chars line))) ≡ byte - start =
+      let bytes : length (encode_utf8_all (prefix_within encoding n (chars line)))
+      ≡ byte - start =
       ap (λ cs. length (encode_utf8_all cs)) prefix
       ∙ (ap length (encodes-chars text front_utf8)
       ∙ slice-length f.text start byte is.boundary.0) in

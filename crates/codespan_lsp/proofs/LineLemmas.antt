@@ -1,6 +1,6 @@
 -- Facts on the line of a byte, for the clauses of `positions`.
-use Rattle.std.proofs.Common.{◌≡◌, ℕ, zero, suc, ◌+◌, ◌<◌, ◌≤◌, List, [], ◌∷◌, length, get_or, cond}
-use Rattle.std.proofs.Common.{refl, ◌∙◌, arith, inl, inr}
+use Rattle.std.proofs.Common.{◌≡◌, ℕ, zero, suc, ◌+◌, ◌<◌, ◌≤◌, List, []}
+use Rattle.std.proofs.Common.{◌∷◌, length, get_or, cond, refl, ◌∙◌, arith, inl, inr}
 use Rattle.std.specs.Prelude.{count_by, nat_le}
 use Rattle.std.proofs.lemmas.Bool.{cases_lt, le-leb}
 use Rattle.std.proofs.lemmas.List.Sums.{sum_by-cons}
@@ -10,7 +10,8 @@ use Rattle.codespan_base.specs.Lemmas.Lines.{count_split}
 
 -- of ascending numbers each is at least the first
 first-le : (x : ℕ) (xs : List ℕ)
-    → ((i : ℕ) → i + 1 < length (x ∷ xs) → get_or (x ∷ xs) i 0 < get_or (x ∷ xs) (i + 1) 0)
+    → ((i : ℕ) → i + 1 < length (x ∷ xs)
+    → get_or (x ∷ xs) i 0 < get_or (x ∷ xs) (i + 1) 0)
     → (k : ℕ) → k < length (x ∷ xs) → x ≤ get_or (x ∷ xs) k 0
 first-le x xs up zero h = omega arith
 first-le x xs up (suc k) h =
@@ -20,7 +21,8 @@ first-le x xs up (suc k) h =
 
 -- those after the first ascend too
 rest-ascends : (x : ℕ) (xs : List ℕ)
-    → ((i : ℕ) → i + 1 < length (x ∷ xs) → get_or (x ∷ xs) i 0 < get_or (x ∷ xs) (i + 1) 0)
+    → ((i : ℕ) → i + 1 < length (x ∷ xs)
+    → get_or (x ∷ xs) i 0 < get_or (x ∷ xs) (i + 1) 0)
     → (i : ℕ) → i + 1 < length xs → get_or xs i 0 < get_or xs (i + 1) 0
 rest-ascends x xs up i h =
     let e : suc i + 1 ≡ suc (i + 1) = omega arith in
@@ -28,7 +30,8 @@ rest-ascends x xs up i h =
 
 -- a count that is not 0 starts with a number that is counted
 none-counted : (b x : ℕ) (xs : List ℕ)
-    → ((i : ℕ) → i + 1 < length (x ∷ xs) → get_or (x ∷ xs) i 0 < get_or (x ∷ xs) (i + 1) 0)
+    → ((i : ℕ) → i + 1 < length (x ∷ xs)
+    → get_or (x ∷ xs) i 0 < get_or (x ∷ xs) (i + 1) 0)
     → b < x → count_by (λ s. nat_le s b) (x ∷ xs) ≡ 0
 none-counted b x xs up h =
     count_split b (x ∷ xs) 0 (omega arith) (λ k p. absurd (omega arith))

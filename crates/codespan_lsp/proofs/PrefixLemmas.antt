@@ -1,6 +1,6 @@
 -- Facts on prefixes of whole characters, for the clauses of `byte_of_character` and for the laws.
-use Rattle.std.proofs.Common.{◌≡◌, ℕ, ◌+◌, ◌-◌, ◌<◌, ◌≤◌, true, List, [], ◌∷◌, ◌++◌, ap, refl}
-use Rattle.std.proofs.Common.{arith, inl, inr}
+use Rattle.std.proofs.Common.{◌≡◌, ℕ, ◌+◌, ◌-◌, ◌<◌, ◌≤◌, true, List, []}
+use Rattle.std.proofs.Common.{◌∷◌, ◌++◌, ap, refl, arith, inl, inr}
 use Rattle.std.proofs.lemmas.Bool.{cases_lt, le-leb, lt-leb, and_parts}
 use Rattle.std.proofs.lemmas.List.Sums.{sum_by-cons}
 use Rattle.std.specs.Str.{all_scalars}
@@ -38,7 +38,8 @@ module _ (encoding : PositionEncoding) where
       ]
 
   -- it has at most n code units
-  pub prefix-le : (n : ℕ) (cs : List ℕ) → total_units encoding (prefix_within encoding n cs) ≤ n
+  pub prefix-le : (n : ℕ) (cs : List ℕ)
+      → total_units encoding (prefix_within encoding n cs) ≤ n
   prefix-le n [] = omega arith
   prefix-le n (c ∷ cs) =
       elim (cases_lt n (char_units encoding c)) [
@@ -77,7 +78,8 @@ module _ (encoding : PositionEncoding) where
 
   -- and those before a character whose code units they end in
   pub prefix-inside : (n : ℕ) (front : List ℕ) (c : ℕ) (back : List ℕ)
-      → total_units encoding front ≤ n → n < total_units encoding front + char_units encoding c
+      → total_units encoding front ≤ n
+      → n < total_units encoding front + char_units encoding c
       → prefix_within encoding n (front ++ c ∷ back) ≡ front
   prefix-inside n [] c back low high =
       rw (lt-leb (char_units encoding c) n (omega (arith, high))) refl

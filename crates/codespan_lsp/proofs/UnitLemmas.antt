@@ -1,6 +1,6 @@
 -- Facts on code units, for the clauses of `encoding` and for the units of `IsByteAt`.
-use Rattle.std.proofs.Common.{◌≡◌, ℕ, ◌+◌, ◌-◌, ◌<◌, ◌≤◌, List, [], ◌∷◌, ◌++◌, length, ap, refl}
-use Rattle.std.proofs.Common.{arith, inl, inr, length-append}
+use Rattle.std.proofs.Common.{◌≡◌, ℕ, ◌+◌, ◌-◌, ◌<◌, ◌≤◌, List, []}
+use Rattle.std.proofs.Common.{◌∷◌, ◌++◌, length, ap, refl, arith, inl, inr, length-append}
 use Rattle.std.specs.Prelude.{encode_utf8, encode_utf8_all}
 use Rattle.std.proofs.lemmas.Bool.{cases_lt, lt-ltb, le-ltb, le-leb, lt-leb}
 use Rattle.std.proofs.lemmas.List.{nil_from_length}
@@ -49,7 +49,8 @@ module _ (encoding : PositionEncoding) where
   code_units-empty text h = rw (nil_from_length text h, chars-nil) refl
 
   -- those of a text that begins with a character
-  pub code_units-char : (text rest : List ℕ) (c : ℕ) → IsUtf8 text → text ≡ encode_utf8 c ++ rest
+  pub code_units-char : (text rest : List ℕ) (c : ℕ) → IsUtf8 text
+      → text ≡ encode_utf8 c ++ rest
       → code_units encoding text ≡ char_units encoding c + code_units encoding rest
   code_units-char text rest c utf8 step =
       rw (chars_past_char text rest c utf8 step) (sum_by-cons (char_units encoding) c (chars rest))
@@ -74,7 +75,8 @@ module _ (encoding : PositionEncoding) where
       )
 
   -- and as many as there are characters at least
-  total_units-some : (cs : List ℕ) → 0 < length (encode_utf8_all cs) → 0 < total_units encoding cs
+  total_units-some : (cs : List ℕ) → 0 < length (encode_utf8_all cs)
+      → 0 < total_units encoding cs
   total_units-some [] h = absurd (omega arith)
   total_units-some (c ∷ cs) h =
       omega (arith, sum_by-cons (char_units encoding) c cs, (char_units_bounds encoding c).0)

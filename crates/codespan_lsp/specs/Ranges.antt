@@ -22,7 +22,8 @@ range_of encoding f span = record {
 }
 
 -- the error of a span's range: that of its start, or of its end
-abbrev pub range_failure : PositionEncoding → FileModel → (Lookup → Option Error) → ops.Range ℕ
+abbrev pub range_failure : PositionEncoding → FileModel → (Lookup → Option Error)
+    → ops.Range ℕ
     → Option Error
 range_failure encoding f failure span =
     or_failure (position_failure encoding f failure span.start)

@@ -1,7 +1,7 @@
 //! Columns of a line in code units, from bytes of its text and back.
 
-ghost use Rattle.std.specs.Prelude.{◌≡◌, ◌+◌, ◌^◌, ◌<◌, ◌≤◌, length, slice_range, encode_utf8_all};
-ghost use Rattle.std.specs.Prelude.{IfOk};
+ghost use Rattle.std.specs.Prelude.{◌≡◌, ◌+◌, ◌^◌, ◌<◌, ◌≤◌, length};
+ghost use Rattle.std.specs.Prelude.{slice_range, encode_utf8_all, IfOk};
 ghost use Rattle.std.specs.Str.{chars, IsCharBoundary};
 ghost use Rattle.codespan_base.specs.LawfulFiles.{FailsBy};
 ghost use Rattle.codespan_lsp.specs.Units.{code_units, total_units, prefix_within};

@@ -1,7 +1,7 @@
 -- What the call does, for the clause of `emit`: where an argument is invalid, where the output is
 -- rendered, and where an allocation fails.
-use Rattle.std.proofs.Common.{◌≡◌, ◌≢◌, ◌≤◌, ◌⊎◌, ◌∙◌, ℕ, List, inl, inr, refl, sym, ap, subst}
-use Rattle.std.proofs.Common.{arith}
+use Rattle.std.proofs.Common.{◌≡◌, ◌≢◌, ◌≤◌, ◌⊎◌, ◌∙◌, ℕ, List, inl}
+use Rattle.std.proofs.Common.{inr, refl, sym, ap, subst, arith}
 use Rattle.std.proofs.lemmas.Bool.{cases_order}
 use Rattle.codespan_native.specs.declared.error.Argument.{Argument}
 use Rattle.codespan_native.specs.declared.error.Argument.TheVariants.{Abi, DisplayStyle, Layout}
@@ -30,7 +30,8 @@ record IsOther (a : Argument) : Type 0 where
   pub number : argument_number a ≢ argument_number LabelFile
   pub status : status_for a ≡ INVALID
 
-other : (a : Argument) → argument_number a ≢ argument_number LabelFile → status_for a ≡ INVALID
+other : (a : Argument) → argument_number a ≢ argument_number LabelFile
+    → status_for a ≡ INVALID
     → (a ≡ LabelFile) ⊎ IsOther a
 other a number status = inr (record { number = number; status = status })
 

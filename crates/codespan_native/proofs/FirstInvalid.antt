@@ -1,6 +1,7 @@
 -- Searches for what is invalid, for the clauses of `first_invalid`.
-use Rattle.std.proofs.Common.{◌≡◌, ℕ, zero, suc, ◌+◌, ◌<◌, ◌≤◌, Bool, List, [], ◌∷◌, get_or, length}
-use Rattle.std.proofs.Common.{Option, None, Some, inl, inr, arith, refl, subst}
+use Rattle.std.proofs.Common.{◌≡◌, ℕ, zero, suc, ◌+◌, ◌<◌, ◌≤◌, Bool, List}
+use Rattle.std.proofs.Common.{[], ◌∷◌, get_or, length, Option, None, Some, inl, inr, arith}
+use Rattle.std.proofs.Common.{refl, subst}
 use Rattle.std.specs.Prelude.{IsTrue, MatchOption}
 use Rattle.std.proofs.lemmas.Bool.{cases_lt}
 use Rattle.std.specs.List.{HoldsAt}
@@ -29,7 +30,8 @@ by_index P xs (Some i) found = record {
   before = λ j lower d below. found.2 j d (omega arith) lower;
 }
   where
-    refuted : (xs : List _) → i < length xs → HoldsAt (λ x. ¬ P x) xs i → ¬ HoldsIfAt P xs i
+    refuted : (xs : List _) → i < length xs → HoldsAt (λ x. ¬ P x) xs i
+        → ¬ HoldsIfAt P xs i
     refuted [] below wrong = λ holds. absurd (omega (arith, below))
     refuted (x ∷ xs) below wrong = λ holds. wrong x (holds x below)
 
@@ -43,7 +45,8 @@ where_chosen Chosen Valid (Some i) chosen found = record {
 }
 
 -- what a test that decides a fact found
-pub by_test : (test : Bool) (P : Type 0) (r : Option ℕ) → (IsTrue test → P) → (P → IsTrue test)
+pub by_test : (test : Bool) (P : Type 0) (r : Option ℕ) → (IsTrue test → P)
+    → (P → IsTrue test)
     → MatchOption r (IsTrue test) (λ index. (index ≡ 0) × ¬ IsTrue test)
     → FindsFirstInvalid (λ i. P) r
 by_test test P None sound complete valid = λ i. sound valid
@@ -90,7 +93,8 @@ abbrev AreNumbered : ℕ → List Argument → Type 0
 AreNumbered n [] = Unit {0}
 AreNumbered n (a ∷ more) = (argument_number a ≡ n) × AreNumbered (n + 1) more
 
-number_at : (n : ℕ) (arguments : List Argument) (i : ℕ) (d : Argument) → AreNumbered n arguments
+number_at : (n : ℕ) (arguments : List Argument) (i : ℕ) (d : Argument)
+    → AreNumbered n arguments
     → i < length arguments → argument_number (get_or arguments i d) ≡ n + i
 number_at n [] i d h below = absurd (omega (arith, below))
 number_at n (a ∷ more) zero d h below = omega (arith, h.0)
@@ -135,7 +139,8 @@ numbered = (
 
 module _ (files : List RawFile) (d : RawDiagnostic) (c : RawConfig) (i : ℕ) where
   -- one more argument is valid
-  pub next-valid : ((b : Argument) (j : ℕ) → argument_number b ≤ i → IsValidAt files d c b j)
+  pub next-valid : ((b : Argument) (j : ℕ) → argument_number b ≤ i
+      → IsValidAt files d c b j)
       → ((j : ℕ) → IsValidAt files d c (get_or in_order i Abi) j)
       → (b : Argument) (j : ℕ) → argument_number b ≤ i + 1 → IsValidAt files d c b j
   next-valid before here b j low = elim (cases_lt i (argument_number b)) [

@@ -1,6 +1,6 @@
 -- What `get` finds in a slice, as a view of its elements shows it.
-use Rattle.std.proofs.Common.{◌≡◌, ◌<◌, ◌≤◌, ◌∙◌, ℕ, zero, suc, List, [], ◌∷◌, length, map, get_or}
-use Rattle.std.proofs.Common.{None, Some, ap, refl, arith}
+use Rattle.std.proofs.Common.{◌≡◌, ◌<◌, ◌≤◌, ◌∙◌, ℕ, zero, suc, List, []}
+use Rattle.std.proofs.Common.{◌∷◌, length, map, get_or, None, Some, ap, refl, arith}
 use Rattle.std.specs.Prelude.{slice_get, slice_index}
 use Rattle.std.specs.Option.{option_map}
 use Rattle.std.proofs.lemmas.Option.{slice_get-map, slice_get_past, slice_get_read}
@@ -14,7 +14,8 @@ there view xs ys i x same below is =
     (slice_get_read xs (length xs) i x refl (rw same at below) (rw same at is))
 
 -- none at an index past the last
-pub missing : {X Y : Type 0} (view : X → Y) (xs ys : List X) (i : ℕ) → ys ≡ xs → length ys ≤ i
+pub missing : {X Y : Type 0} (view : X → Y) (xs ys : List X) (i : ℕ) → ys ≡ xs
+    → length ys ≤ i
     → slice_get (map view xs) i ≡ None
 missing view xs ys i same past =
     slice_get-map view xs i ∙ ap (option_map view) (slice_get_past xs i (rw same at past))

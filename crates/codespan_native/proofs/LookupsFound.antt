@@ -1,8 +1,9 @@
 -- No lookup of a known file fails, for the clause `found` of `emit`.
-use Rattle.std.proofs.Common.{◌≡◌, ℕ, zero, suc, ◌+◌, ◌<◌, Bool, true, false, cond, List, [], ◌∷◌}
-use Rattle.std.proofs.Common.{◌++◌, map, length, Option, None, Some, IsSome, All, refl, sym, ◌∙◌}
-use Rattle.std.proofs.Common.{ap, subst, arith}
-use Rattle.std.specs.Prelude.{◌&&◌, not, nat_le, filter, flat_map, slice_get, if◌then◌else◌}
+use Rattle.std.proofs.Common.{◌≡◌, ℕ, zero, suc, ◌+◌, ◌<◌, Bool, true, false, cond}
+use Rattle.std.proofs.Common.{List, [], ◌∷◌, ◌++◌, map, length, Option, None, Some}
+use Rattle.std.proofs.Common.{IsSome, All, refl, sym, ◌∙◌, ap, subst, arith}
+use Rattle.std.specs.Prelude.{◌&&◌, not, nat_le, filter, flat_map, slice_get}
+use Rattle.std.specs.Prelude.{if◌then◌else◌}
 use Rattle.std.specs.List.{range_with_len, slice_index_or}
 use Rattle.std.specs.Option.{option_map_or}
 use Rattle.std.proofs.lemmas.Bool.{le-leb, lt-leb}
@@ -53,13 +54,15 @@ each_map : {X Y : Type 0} (f : X → Y) (P : Y → Type 0) (Q : X → Type 0) (x
 each_map f P Q [] step all = tt
 each_map f P Q (x ∷ xs) step all = (step x all.0, each_map f P Q xs step all.1)
 
-each_flat_map : {X Y : Type 0} (f : X → List Y) (P : Y → Type 0) (Q : X → Type 0) (xs : List X)
+each_flat_map : {X Y : Type 0} (f : X → List Y) (P : Y → Type 0) (Q : X → Type 0)
+    (xs : List X)
     → ((x : X) → Q x → Each P (f x)) → Each Q xs → Each P (flat_map f xs)
 each_flat_map f P Q [] step all = tt
 each_flat_map f P Q (x ∷ xs) step all =
     each_append P (f x) (flat_map f xs) (step x all.0) (each_flat_map f P Q xs step all.1)
 
-each_filtered : {X : Type 0} (P : X → Type 0) (x : X) (xs : List X) (b : Bool) → P x → Each P xs
+each_filtered : {X : Type 0} (P : X → Type 0) (x : X) (xs : List X) (b : Bool) → P x
+    → Each P xs
     → Each P (cond b (x ∷ xs) xs)
 each_filtered P x xs true here rest = (here, rest)
 each_filtered P x xs false here rest = rest
@@ -76,7 +79,8 @@ each_of_range a (suc n) =
     let e : a + 1 + n ≡ a + suc n = omega arith in
     (omega arith, rw e at (each_of_range (a + 1) n))
 
-each_first_seen : {X : Type 0} (same : X → X → Bool) (P : X → Type 0) (xs : List X) → Each P xs
+each_first_seen : {X : Type 0} (same : X → X → Bool) (P : X → Type 0) (xs : List X)
+    → Each P xs
     → Each P (first_seen same xs)
 each_first_seen same P [] all = tt
 each_first_seen same P (x ∷ xs) all = (
@@ -85,7 +89,8 @@ each_first_seen same P (x ∷ xs) all = (
       (each_first_seen same P xs all.1),
 )
 
-at_index : {X : Type 0} (P : X → Type 0) (xs : List X) (k : ℕ) (d : X) → k < length xs → Each P xs
+at_index : {X : Type 0} (P : X → Type 0) (xs : List X) (k : ℕ) (d : X) → k < length xs
+    → Each P xs
     → P (slice_index_or xs k d)
 at_index P [] k d h all = absurd (omega (arith, h))
 at_index P (x ∷ xs) zero d h all = all.0
@@ -103,7 +108,8 @@ record LookupsSucceed (failure : Lookup → Option Error) (f : FileModel) : Type
   pub line_number : (i : ℕ) → failure (LineNumber i) ≡ None
   pub location : (byte : ℕ) → failure (LocationAt byte) ≡ None
 
-lookups_succeed_of : (s : NativeFileView) → LookupsSucceed (native_failure s) (native_file_model s)
+lookups_succeed_of : (s : NativeFileView)
+    → LookupsSucceed (native_failure s) (native_file_model s)
 lookups_succeed_of s = record {
   line_range = λ i h. rw (le-leb (suc i) (length s.text.starts) (omega (arith, h))) refl;
   past_end = rw (lt-leb (suc (length s.text.starts)) (length s.text.starts) (omega arith)) refl;
@@ -225,7 +231,8 @@ module _ (ss : List NativeFileView) where
     padding_found Classic id h = tt
     padding_found Unbroken id h =
         each_map LineNumber (λ l. fails id l ≡ None) (λ i. i < line_count (files.file id))
-        (filled_lines config (file_at files xs id)) (λ i _. (lookups_succeed_at id h).line_number i)
+        (filled_lines config (file_at files xs id))
+        (λ i _. (lookups_succeed_at id h).line_number i)
         (of_lines (fails id) (files.file id) (lookups_succeed_at id h) config _)
 
     snippets_found : (id : ℕ) → IsKnown id
@@ -291,7 +298,8 @@ pub none_fails : (files : List RawFile) (diagnostic : RawDiagnostic) (raw : RawC
     → AreValid files diagnostic raw → NoLookupFails files diagnostic
 none_fails files diagnostic raw valid d config viewed =
     let ss = map converted_file files in
-    let same : map label_of_view (map (converted_label files) diagnostic.labels.now) ≡ labels_of d =
+    let same : map label_of_view (map (converted_label files) diagnostic.labels.now)
+    ≡ labels_of d =
     ap (λ (v : DiagnosticView ℕ). map label_of_view v.labels) (sym viewed)
     ∙ sym (labels-of_view d.labels.items) in
     let count : length files ≡ length ss = sym (length-map files converted_file) in

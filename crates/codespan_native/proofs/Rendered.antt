@@ -1,6 +1,7 @@
 -- What is rendered, for the clauses of `render` and of `output_of`.
-use Rattle.std.proofs.Common.{◌≡◌, ℕ, true, List, [], ◌++◌, map, IsSome, None, Some, Result, Ok}
-use Rattle.std.proofs.Common.{Err, OnOk, IfOk, Vec, Global, refl, sym, subst, ◌∙◌, ap}
+use Rattle.std.proofs.Common.{◌≡◌, ℕ, true, List, [], ◌++◌, map, IsSome, None, Some}
+use Rattle.std.proofs.Common.{Result, Ok, Err, OnOk, IfOk, Vec, Global, refl, sym, subst, ◌∙◌}
+use Rattle.std.proofs.Common.{ap}
 use Rattle.std.specs.List.{slice_get}
 use Rattle.std.specs.Option.{option_map_or}
 use Rattle.codespan_base.specs.declared.diagnostic.Diagnostic.{Diagnostic}
@@ -30,7 +31,8 @@ use Rattle.codespan_native.specs.SourceTexts.{NativeFileView, native_database, n
 use Rattle.codespan_native.specs.RenderedStreams.{IsSpelledOutput, StreamIsOutput, stream_of_output}
 
 -- the names of the files are stated
-pub stated : (ss : List NativeFileView) (d : Diagnostic ℕ) → NamesAreStated (native_database ss) d
+pub stated : (ss : List NativeFileView) (d : Diagnostic ℕ)
+    → NamesAreStated (native_database ss) d
 stated ss d x contains = named x.file_id
   where
     named : (id : ℕ) → IsSome ((native_database ss).file id).name
@@ -85,8 +87,10 @@ fresh_known spelling old first fresh = ap (λ (s : Sink). is_known s) fresh
 
 -- the output of a configuration, of files and of a diagnostic is that of what they stand for
 pub output_is : (expected config : Config) (ss ts : List NativeFileView) (d : Diagnostic ℕ)
-    (v : DiagnosticView ℕ) → IsEqualConfig expected config → ss ≡ ts → diagnostic_view d ≡ v
-    → stream_of_output config ss d ≡ picture_of_diagnostic_view expected (native_database ts).same
+    (v : DiagnosticView ℕ) → IsEqualConfig expected config → ss ≡ ts
+    → diagnostic_view d ≡ v
+    → stream_of_output config ss d
+    ≡ picture_of_diagnostic_view expected (native_database ts).same
     (native_database ts).file v
 output_is expected config ss ts d v alike same viewed =
     picture-of_view expected config (native_database ss) d alike

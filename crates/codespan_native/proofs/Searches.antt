@@ -1,8 +1,9 @@
 -- What the binary searches of lines and locations find, for `StatedText::line_index` and
 -- `NativeFile::stated_location`, and the locations of which `locations_ascend` looks at one.
-use Rattle.std.proofs.Common.{◌≡◌, ◌≢◌, ℕ, zero, suc, ◌+◌, ◌-◌, ◌<◌, ◌≤◌, Bool, true, false, List}
-use Rattle.std.proofs.Common.{[], ◌∷◌, length, Some, None, Result, Ok, Err, drop, get_or, refl, sym}
-use Rattle.std.proofs.Common.{ap, ◌∙◌, arith, inl, inr, lt-ltb, le-leb, eq-eqb}
+use Rattle.std.proofs.Common.{◌≡◌, ◌≢◌, ℕ, zero, suc, ◌+◌, ◌-◌, ◌<◌}
+use Rattle.std.proofs.Common.{◌≤◌, Bool, true, false, List, [], ◌∷◌, length, Some, None}
+use Rattle.std.proofs.Common.{Result, Ok, Err, drop, get_or, refl, sym, ap, ◌∙◌, arith, inl}
+use Rattle.std.proofs.Common.{inr, lt-ltb, le-leb, eq-eqb}
 use Rattle.std.specs.Prelude.{◌&&◌, ◌==◌, nat_lt, nat_le, slice_index, MatchResult}
 use Rattle.std.specs.Ordering.{nat_cmp, ordering_index}
 use Rattle.std.proofs.lemmas.Cmp.{ranked}
@@ -54,7 +55,8 @@ module _ (first : ℕ) where
         let e : i + (j - i) ≡ j = omega (arith, le) in
         let up = rw e at
         (climb i (j - i)
-        (rw (length-map lines (λ (l : RawLine). l.start - first)) (omega (arith, le, in_range)))) in
+        (rw (length-map lines (λ (l : RawLine). l.start - first)) (omega (arith, le, in_range))))
+        in
         let a = start_at lines i no_line (omega (arith, le, in_range)) in
         let b = start_at lines j no_line in_range in
         omega (arith, up, a, b))
@@ -158,14 +160,16 @@ module _ (first : ℕ) where
 
   -- there is none where no location is of the byte
   found_none : (ls : List RawLocation) (byte : ℕ)
-      → ((k : ℕ) → k < length ls → byte_at ls k ≢ byte) → location_at first ls byte ≡ None
+      → ((k : ℕ) → k < length ls → byte_at ls k ≢ byte)
+      → location_at first ls byte ≡ None
   found_none [] byte others = refl
   found_none (l ∷ ls) byte others =
       rw (ne-eqb (l.byte - first) byte (others 0 (omega arith)))
       (found_none ls byte (λ k h. others (suc k) (omega (arith, h))))
 
   -- what a search by the bytes finds
-  pub location_found : (ls : List RawLocation) → locations_ascend first ls ≡ true → (byte : ℕ)
+  pub location_found : (ls : List RawLocation) → locations_ascend first ls ≡ true
+      → (byte : ℕ)
       → (r : Result ℕ ℕ) → IsSearchInRange r (length ls)
       → IsBinarySearchResult (λ l. nat_cmp (l.byte - first) byte) ls r
       → MatchResult r
@@ -196,9 +200,11 @@ locations_ascend-more first locations i d byte next whole inside is later before
     ∙ before
 
 -- a line that follows the last one, so that the others decide
-pub are_next_lines-more : (text : List ℕ) (first : ℕ) (lines : List RawLine) (i : ℕ) (d : RawLine)
+pub are_next_lines-more : (text : List ℕ) (first : ℕ) (lines : List RawLine) (i : ℕ)
+    (d : RawLine)
     (start end next_start next_end : ℕ) (whole : Bool) → i < length lines
-    → next_start ≡ (get_or lines i d).start - first → next_end ≡ (get_or lines i d).end - first
+    → next_start ≡ (get_or lines i d).start - first
+    → next_end ≡ (get_or lines i d).end - first
     → start < next_start → end ≤ next_start → next_start ≤ next_end
     → true ≡ is_char_boundary text next_start → true ≡ is_char_boundary text next_end
     → are_next_lines text first start end (drop i lines) ≡ whole

@@ -1,6 +1,6 @@
 -- What the structs of C are converted to: a diagnostic, a configuration and its styles, and files.
-use Rattle.std.specs.Prelude.{ℕ, ◌-◌, ◌==◌, if◌then◌else◌, not, min, List, [], ◌∷◌, map, slice_get}
-use Rattle.std.specs.Prelude.{Option, Some, None}
+use Rattle.std.specs.Prelude.{ℕ, ◌-◌, ◌==◌, if◌then◌else◌, not, min, List, []}
+use Rattle.std.specs.Prelude.{◌∷◌, map, slice_get, Option, Some, None}
 use Rattle.std.specs.Option.{option_map_or}
 use Rattle.codespan_base.specs.Characters.{ascii, box_drawing}
 use Rattle.codespan_base.specs.Diagnostics.{DiagnosticView, LabelView}
@@ -184,7 +184,8 @@ spelling_of c =
 -- ---- the files
 
 -- a text cut into the lines that the caller states, or at newlines where there are none
-abbrev pub converted_text : List ℕ → List ℕ → ℕ → ℕ → List RawLine → SourceTextView
+abbrev pub converted_text : List ℕ → List ℕ → ℕ → ℕ → List RawLine
+    → SourceTextView
 converted_text name source first_byte first_line [] = newline_text name source first_line
 converted_text name source first_byte first_line (l ∷ ls) =
     stated_text name source first_byte (l ∷ ls)

@@ -20,7 +20,8 @@ pub record EmitsToBuffer (files : List RawFile) (diagnostic : RawDiagnostic) (co
   pub valid : (status ≤ OUT_OF_MEMORY) ↔ AreValid files diagnostic config
   pub missing : (status ≡ FILE_MISSING)
       ↔ FirstInvalidIs files diagnostic config (λ a. a ≡ LabelFile)
-  pub invalid : (status ≡ INVALID) ↔ FirstInvalidIs files diagnostic config (λ a. a ≢ LabelFile)
+  pub invalid : (status ≡ INVALID) ↔ FirstInvalidIs files diagnostic config
+      (λ a. a ≢ LabelFile)
   pub named : FILE_MISSING ≤ status → NamesFirstInvalid files diagnostic config detail
   pub none_named : status ≤ OUT_OF_MEMORY → detail ≡ no_detail
   pub found : status ≤ OUT_OF_MEMORY → NoLookupFails files diagnostic

@@ -42,6 +42,7 @@ pub record Means (files : List RawFile) (diagnostic : RawDiagnostic) (config : R
 -- Rust that the struct stands for
 abbrev pub NoLookupFails : List RawFile → RawDiagnostic → Type 0
 NoLookupFails files diagnostic =
-    (d : Diagnostic ℕ) (config : Config) → diagnostic_view d ≡ converted_diagnostic files diagnostic
+    (d : Diagnostic ℕ) (config : Config)
+    → diagnostic_view d ≡ converted_diagnostic files diagnostic
     → AllSucceed (converted_files files).failure
     (lookups_in config.display_style config (converted_files files) d)

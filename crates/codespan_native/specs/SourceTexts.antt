@@ -1,7 +1,8 @@
 -- Texts cut into lines: at newlines, or into the lines that a caller states. A text is a window of
 -- a file from a byte on; an index before the window counts as its start.
-use Rattle.std.specs.Prelude.{◌≡◌, ℕ, ◌+◌, ◌-◌, ◌^◌, ◌<◌, true, nat_lt, if◌then◌else◌, List, length}
-use Rattle.std.specs.Prelude.{slice_get, slice_index, min, nat_eq, Option, Some, None, unwrap_or}
+use Rattle.std.specs.Prelude.{◌≡◌, ℕ, ◌+◌, ◌-◌, ◌^◌, ◌<◌, true, nat_lt}
+use Rattle.std.specs.Prelude.{if◌then◌else◌, List, length, slice_get, slice_index, min}
+use Rattle.std.specs.Prelude.{nat_eq, Option, Some, None, unwrap_or}
 use Rattle.std.specs.Option.{option_map_or}
 use Rattle.std.specs.declared.ops.Range.{Range}
 use Rattle.codespan_base.specs.declared.files.Error.{Error}

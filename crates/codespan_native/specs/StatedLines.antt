@@ -1,7 +1,7 @@
 -- Lines and locations that a caller states, in a window of a file from the byte `first_byte` on; an
 -- index before the window counts as its start.
-use Rattle.std.specs.Prelude.{ℕ, ◌-◌, Bool, true, false, ◌&&◌, ◌==◌, nat_lt, nat_le, if◌then◌else◌}
-use Rattle.std.specs.Prelude.{List, [], ◌∷◌, map, Option, Some, None}
+use Rattle.std.specs.Prelude.{ℕ, ◌-◌, Bool, true, false, ◌&&◌, ◌==◌, nat_lt, nat_le}
+use Rattle.std.specs.Prelude.{if◌then◌else◌, List, [], ◌∷◌, map, Option, Some, None}
 use Rattle.codespan_base.specs.declared.files.Location.{Location}
 use Rattle.codespan_base.specs.Lines.{is_char_boundary}
 use Rattle.codespan_native.specs.declared.raw.RawLine.{RawLine}

@@ -16,5 +16,6 @@ abbrev pub style_mark_inner : {W : Type 0} → StyleMarkWriter W → W
 style_mark_inner w = w.inner
 
 -- what the law sees of the Rust value
-abbrev pub style_mark_writer_sink : {W : Type 0} → (W → Option (List ℕ)) → StyleMarkWriter W → Sink
+abbrev pub style_mark_writer_sink : {W : Type 0} → (W → Option (List ℕ)) → StyleMarkWriter W
+    → Sink
 style_mark_writer_sink contents w = style_mark_sink w.failed (contents w.inner)

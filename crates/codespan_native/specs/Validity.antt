@@ -1,5 +1,6 @@
 -- Which arguments are valid, and which invalid one is the first.
-use Rattle.std.specs.Prelude.{◌≡◌, ◌<◌, ◌≤◌, ℕ, true, List, [], ◌∷◌, length, Option, MatchOption}
+use Rattle.std.specs.Prelude.{◌≡◌, ◌<◌, ◌≤◌, ℕ, true, List, [], ◌∷◌, length}
+use Rattle.std.specs.Prelude.{Option, MatchOption}
 use Rattle.std.specs.List.{slice_index_or, HoldsAt, AllWithin}
 use Rattle.std.specs.Char.{InScalarRange}
 use Rattle.std.specs.Str.{IsUtf8}
@@ -33,14 +34,16 @@ abbrev pub code_points_of : RawChars → List ℕ
 code_points_of c =
     c.source_border_left ∷ c.source_border_left_break ∷ c.note_bullet ∷ c.single_primary_caret
     ∷ c.single_secondary_caret ∷ c.multi_primary_caret_start ∷ c.multi_primary_caret_end
-    ∷ c.multi_secondary_caret_start ∷ c.multi_secondary_caret_end ∷ c.multi_top_left ∷ c.multi_top
+    ∷ c.multi_secondary_caret_start ∷ c.multi_secondary_caret_end ∷ c.multi_top_left ∷
+    c.multi_top
     ∷ c.multi_bottom_left ∷ c.multi_bottom ∷ c.multi_left ∷ c.pointer_left ∷ []
 
 -- the caller's styles
 abbrev pub color_specs_of : RawStyles → List RawColorSpec
 color_specs_of s =
     s.header_bug ∷ s.header_error ∷ s.header_warning ∷ s.header_note ∷ s.header_help
-    ∷ s.header_message ∷ s.primary_label_bug ∷ s.primary_label_error ∷ s.primary_label_warning
+    ∷ s.header_message ∷ s.primary_label_bug ∷ s.primary_label_error ∷
+    s.primary_label_warning
     ∷ s.primary_label_note ∷ s.primary_label_help ∷ s.secondary_label ∷ s.line_number
     ∷ s.source_border ∷ s.note_bullet ∷ []
 

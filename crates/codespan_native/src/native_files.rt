@@ -1,7 +1,7 @@
 //! The files that a caller of C passes, as a file database.
 
-ghost use Rattle.std.specs.Prelude.{◌≡◌, [], ◌∷◌, ◌++◌, OnOk, IfOk, IfErr, refl, slice_get, Some};
-ghost use Rattle.std.specs.Prelude.{None, length};
+ghost use Rattle.std.specs.Prelude.{◌≡◌, [], ◌∷◌, ◌++◌, OnOk, IfOk, IfErr, refl};
+ghost use Rattle.std.specs.Prelude.{slice_get, Some, None, length};
 ghost use Rattle.codespan_base.specs.declared.files.Error.TheVariants.{FileMissing};
 
 use crate::error::OutOfMemory;

@@ -90,7 +90,8 @@ pub fn status_for(argument: Argument) -> u32
 /// [`Argument`], and is read for this status alone. The text is ASCII, and at most
 /// `STATUS_TEXT_MAX` bytes long, which is 128.
 pub fn write_status(status: u32, argument: u32, out: &mut [u8], written: &mut usize) -> u32
-    ensures ok { result ≡ OK → IsWritten (text_for status argument) out.old out.new written.new }
+    ensures ok { result ≡ OK
+        → IsWritten (text_for status argument) out.old out.new written.new }
     ensures too_small { result ≡ TOO_SMALL
         → IsTooSmall (text_for status argument) out.old out.new written.new }
     ensures short { written.new ≤ STATUS_TEXT_MAX }

@@ -1,8 +1,9 @@
 -- For `bars_are_labels`: the bars of source rows and break rows.
-use Rattle.codespan_core.proofs.Std.{◌≡◌, ℕ, zero, suc, ◌+◌, ◌-◌, ◌<◌, Bool, true, false, ◌==◌}
-use Rattle.codespan_core.proofs.Std.{nat_lt, nat_le, ◌&&◌, if◌then◌else◌, List, [], ◌∷◌, filter_map}
-use Rattle.codespan_core.proofs.Std.{Option, Some, None, slice_get, add-zero, zero-add, refl, sym}
-use Rattle.codespan_core.proofs.Std.{ap, ◌∙◌, arith, enumerate_from, cons_option, nat_tests}
+use Rattle.codespan_core.proofs.Std.{◌≡◌, ℕ, zero, suc, ◌+◌, ◌-◌, ◌<◌, Bool}
+use Rattle.codespan_core.proofs.Std.{true, false, ◌==◌, nat_lt, nat_le, ◌&&◌}
+use Rattle.codespan_core.proofs.Std.{if◌then◌else◌, List, [], ◌∷◌, filter_map, Option}
+use Rattle.codespan_core.proofs.Std.{Some, None, slice_get, add-zero, zero-add, refl, sym, ap}
+use Rattle.codespan_core.proofs.Std.{◌∙◌, arith, enumerate_from, cons_option, nat_tests}
 use Rattle.std.proofs.Common.{◌↔◌}
 use Rattle.codespan_core.specs.FileModel.{FileModel, line_start, line_text}
 use Rattle.codespan_core.specs.Labels.{LabelModel, first_line, last_line, multi_label_on}
@@ -48,7 +49,8 @@ none_before f l n lane (x ∷ xs) low =
 
 found : (lane : ℕ) (x : LabelModel) (multi_label : Option MultiLabel) (lane_marks : List LaneMark)
     → lane_mark_in lane_marks lane ≡ None
-    → lane_mark_in (cons_option (lane_mark_of lane x multi_label) lane_marks) lane ≡ lane_mark_of
+    → lane_mark_in (cons_option (lane_mark_of lane x multi_label) lane_marks) lane
+    ≡ lane_mark_of
     lane x multi_label
 found lane x None lane_marks none = none
 found lane x (Some multi_label) lane_marks none =
@@ -71,7 +73,8 @@ lane_mark_in-from f l n (suc k) (x ∷ xs) =
 -- ---- bars
 
 -- a kind of row in which a label shows no bar on its first line, and a bar on its other lines
-module _ (shape : MultiLabel → Shape) (at_top : (start : ℕ) → shape (Top start) ≡ Bar → ⊥)
+module _ (shape : MultiLabel → Shape)
+    (at_top : (start : ℕ) → shape (Top start) ≡ Bar → ⊥)
     (at_left : shape Left ≡ Bar)
     (at_bottom : (end : ℕ) (message : Stream) → shape (Bottom end message) ≡ Bar) where
   bar_of : (f : FileModel) (l lane : ℕ) (x : LabelModel) → first_line f x < last_line f x
@@ -86,7 +89,8 @@ module _ (shape : MultiLabel → Shape) (at_top : (start : ℕ) → shape (Top s
 
       by_between : (first_line f x == l) ≡ false → (last_line f x == l) ≡ false → (b : Bool)
           → (nat_lt (first_line f x) l && nat_lt l (last_line f x)) ≡ b
-          → (shape_of shape (lane_mark_of lane x (if b then Some Left else None)) ≡ Bar) ↔ IsBarLine
+          → (shape_of shape (lane_mark_of lane x (if b then Some Left else None)) ≡ Bar) ↔
+          IsBarLine
           f x l
       by_between not_first not_last true is =
           let low : first_line f x < l = grind (arith, nat_tests) in
@@ -96,7 +100,8 @@ module _ (shape : MultiLabel → Shape) (at_top : (start : ℕ) → shape (Top s
           (λ bar. cc, λ covered. absurd (grind (arith, nat_tests)))
 
       by_last : (first_line f x == l) ≡ false → (b : Bool) → (last_line f x == l) ≡ b
-          → (shape_of shape (lane_mark_of lane x (if b then bottom else between)) ≡ Bar) ↔ IsBarLine
+          → (shape_of shape (lane_mark_of lane x (if b then bottom else between)) ≡ Bar) ↔
+          IsBarLine
           f x l
       by_last not_first true is =
           let same : last_line f x ≡ l = grind (arith, nat_tests) in
@@ -134,7 +139,8 @@ bars_are_labels layout s l lane x has several = (
   rw lane_mark_is
       (bar_of (source_shape (leading_whitespace (text_without_line_end (line_text s.file l))))
       (no_bar_in_top _) refl (λ _ _. refl) s.file l lane x several),
-  rw lane_mark_is (bar_of empty_or_break_shape (λ start bar. cc) refl (λ _ _. refl) s.file l lane x
+  rw lane_mark_is
+      (bar_of empty_or_break_shape (λ start bar. cc) refl (λ _ _. refl) s.file l lane x
       several),
 )
   where
@@ -142,4 +148,5 @@ bars_are_labels layout s l lane x has several = (
         (multi_label_on s.file l x)
     lane_mark_is =
         ap (lane_mark_in (lane_marks_on s.file s.labels l)) (sym (zero-add lane))
-        ∙ lane_mark_in-from s.file l 0 lane (multi_line_labels s.file s.labels) ∙ rw (zero-add, has)
+        ∙ lane_mark_in-from s.file l 0 lane (multi_line_labels s.file s.labels)
+        ∙ rw (zero-add, has)

@@ -1,7 +1,8 @@
 -- For `breaks_replace_lines`: there are break rows where shown lines are three or more apart.
-use Rattle.codespan_core.proofs.Std.{◌≡◌, ℕ, ◌+◌, Bool, true, false, cond, ◌==◌, nat_le, List, []}
-use Rattle.codespan_core.proofs.Std.{◌∷◌, ◌++◌, map, filter, filter_map, reverse, Some, None, refl}
-use Rattle.codespan_core.proofs.Std.{ap, ap₂, ◌∙◌, append-nil, arith, filter_map-append, nat_tests}
+use Rattle.codespan_core.proofs.Std.{◌≡◌, ℕ, ◌+◌, Bool, true, false, cond, ◌==◌}
+use Rattle.codespan_core.proofs.Std.{nat_le, List, [], ◌∷◌, ◌++◌, map, filter, filter_map}
+use Rattle.codespan_core.proofs.Std.{reverse, Some, None, refl, ap, ap₂, ◌∙◌, append-nil}
+use Rattle.codespan_core.proofs.Std.{arith, filter_map-append, nat_tests}
 use Rattle.codespan_core.specs.Labels.{LabelModel, LaneMark}
 use Rattle.codespan_output.specs.Types.{Config}
 use Rattle.codespan_output.specs.{leading_whitespace, Row, Line, SourceRow, HangingRow}

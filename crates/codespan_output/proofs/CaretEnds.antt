@@ -1,7 +1,7 @@
 -- For `carets_are_cells` and the carets of `rows`: how far the labels of a line reach.
-use Rattle.codespan_core.proofs.Std.{◌≡◌, ℕ, ◌<◌, ◌≤◌, max, min, Bool, true, false, ◌&&◌, List, []}
-use Rattle.codespan_core.proofs.Std.{◌∷◌, fold, Some, refl, arith, ltb-true, ⊎_elim, ◌+◌, list_any}
-use Rattle.codespan_core.proofs.Std.{and_parts, or_cases}
+use Rattle.codespan_core.proofs.Std.{◌≡◌, ℕ, ◌<◌, ◌≤◌, max, min, Bool, true}
+use Rattle.codespan_core.proofs.Std.{false, ◌&&◌, List, [], ◌∷◌, fold, Some, refl, arith}
+use Rattle.codespan_core.proofs.Std.{ltb-true, ⊎_elim, ◌+◌, list_any, and_parts, or_cases}
 use Rattle.codespan_core.specs.Labels.{LabelModel, is_primary}
 use Rattle.codespan_output.specs.Types.{LabelStyle, Metrics}
 use Rattle.codespan_output.specs.{covers, style_under, max_label_end}
@@ -12,7 +12,8 @@ covers-below x c h =
     let below = ltb-true (max x.start c.byte_index) (min x.end (c.byte_index + c.bytes)) h in
     omega arith
 
-fold_max-le : (m : ℕ) (xs : List LabelModel) → m ≤ fold (λ n (x : LabelModel). max n x.end) m xs
+fold_max-le : (m : ℕ) (xs : List LabelModel)
+    → m ≤ fold (λ n (x : LabelModel). max n x.end) m xs
 fold_max-le m [] = omega arith
 fold_max-le m (x ∷ xs) = let more = fold_max-le (max m x.end) xs in omega arith
 

@@ -1,9 +1,10 @@
 -- For `carets_are_cells`: the text of a caret row is its caret cells.
-use Rattle.codespan_core.proofs.Std.{◌≡◌, ℕ, zero, suc, zero-add, ap₂, chars, ◌+◌, ◌<◌, ◌≤◌, Bool}
-use Rattle.codespan_core.proofs.Std.{true, false, cond, nat_lt, List, [], ◌∷◌, ◌++◌, map, filter}
-use Rattle.codespan_core.proofs.Std.{flat_map, replicate, Option, Some, None, encode_utf8_all, refl}
-use Rattle.codespan_core.proofs.Std.{sym, ap, ◌∙◌, arith, add-zero, lt-ltb, range_with_len}
-use Rattle.codespan_core.proofs.Std.{len_utf8, nat_tests, map-append, sum_by-cons}
+use Rattle.codespan_core.proofs.Std.{◌≡◌, ℕ, zero, suc, zero-add, ap₂, chars, ◌+◌}
+use Rattle.codespan_core.proofs.Std.{◌<◌, ◌≤◌, Bool, true, false, cond, nat_lt, List, []}
+use Rattle.codespan_core.proofs.Std.{◌∷◌, ◌++◌, map, filter, flat_map, replicate, Option}
+use Rattle.codespan_core.proofs.Std.{Some, None, encode_utf8_all, refl, sym, ap, ◌∙◌, arith}
+use Rattle.codespan_core.proofs.Std.{add-zero, lt-ltb, range_with_len, len_utf8, nat_tests}
+use Rattle.codespan_core.proofs.Std.{map-append, sum_by-cons}
 use Rattle.std.proofs.Common.{suc-add}
 use Rattle.codespan_core.specs.Labels.{LabelModel}
 use Rattle.codespan_core.specs.Streams.{Stream, spaces, text_of}
@@ -14,8 +15,8 @@ use Rattle.codespan_output.specs.{RowContext, Line, line_metrics_to_end, style_c
 use Rattle.codespan_output.specs.{caret_glyphs, carets}
 use Rattle.codespan_output.proofs.CaretEnds.{style_under-below}
 use Rattle.codespan_output.proofs.Texts.{text_of-append, encode_utf8_all-append}
-use Rattle.codespan_output.proofs.Texts.{encode_utf8_all-spaces, text_of-spaces}
-use Rattle.codespan_output.proofs.Texts.{text_of-style_mark, text_of-repeated}
+use Rattle.codespan_output.proofs.Texts.{encode_utf8_all-spaces, text_of-spaces, text_of-style_mark}
+use Rattle.codespan_output.proofs.Texts.{text_of-repeated}
 
 pub text_of-style_change : (severity : Severity) (previous now : Option LabelStyle)
     → text_of (style_change severity previous now) ≡ []
@@ -114,7 +115,8 @@ occupies-inside : (k : ℕ) (c : Metrics) → c.column ≤ k → k < c.column + 
     → occupies k c ≡ true
 occupies-inside k c low high = grind (arith, nat_tests)
 
-occupies-after : (k : ℕ) (c : Metrics) → c.column + c.unicode_width ≤ k → occupies k c ≡ false
+occupies-after : (k : ℕ) (c : Metrics) → c.column + c.unicode_width ≤ k
+    → occupies k c ≡ false
 occupies-after k c high = grind (arith, nat_tests)
 
 -- from the greatest end on nothing is shown
@@ -132,7 +134,8 @@ none-after chars labels end byte_index column (c ∷ cs) adjacent after =
     (omega arith) in
     (simp past rest.0, simp past rest.1)
 
-caret_codes : (chars : Chars) (labels : List LabelModel) (byte_index column : ℕ) (cs : List Metrics)
+caret_codes : (chars : Chars) (labels : List LabelModel) (byte_index column : ℕ)
+    (cs : List Metrics)
     → AreAdjacent byte_index column cs
     → map (λ k. caret_for chars (style_at labels cs k))
     (range_with_len column

@@ -1,8 +1,8 @@
 -- For `write_carets`: the carets under a line, run by run.
-use Rattle.codespan_core.proofs.Std.{◌≡◌, ℕ, ◌+◌, ◌<◌, ◌≤◌, Bool, true, false, List, [], ◌∷◌, ◌++◌}
-use Rattle.codespan_core.proofs.Std.{Option, None, Some, refl, sym, ap, ◌∙◌, append_assoc}
-use Rattle.codespan_core.proofs.Std.{append-nil, add-zero, arith, le-ltb, lt-ltb, nat_lt}
-use Rattle.codespan_core.proofs.Std.{if◌then◌else◌}
+use Rattle.codespan_core.proofs.Std.{◌≡◌, ℕ, ◌+◌, ◌<◌, ◌≤◌, Bool, true, false}
+use Rattle.codespan_core.proofs.Std.{List, [], ◌∷◌, ◌++◌, Option, None, Some, refl, sym}
+use Rattle.codespan_core.proofs.Std.{ap, ◌∙◌, append_assoc, append-nil, add-zero, arith}
+use Rattle.codespan_core.proofs.Std.{le-ltb, lt-ltb, nat_lt, if◌then◌else◌}
 use Rattle.codespan_core.specs.Labels.{LabelModel}
 use Rattle.codespan_core.specs.Streams.{Stream, spaces, byte_stream, repeated}
 use Rattle.codespan_output.specs.Types.{Severity, LabelStyle, Chars, Metrics}
@@ -14,14 +14,16 @@ use Rattle.codespan_output.proofs.RowEquations.{spaces-add, repeated-add, style_
 use Rattle.codespan_output.proofs.RowEquations.{regroup}
 
 -- the carets of the remaining characters
-abbrev glyphs_left : RowContext → List LabelModel → Option LabelStyle → List Metrics → Stream
+abbrev glyphs_left : RowContext → List LabelModel → Option LabelStyle → List Metrics
+    → Stream
 glyphs_left context labels previous cs =
     styled context.severity (style_under labels)
     (λ c. caret_glyphs context.chars (max_label_end labels) (style_under labels c)
     c) previous cs
 
 -- the carets of a run that has begun, and of the remaining characters
-abbrev pub carets_left : RowContext → List LabelModel → Option LabelStyle → ℕ → List Metrics
+abbrev pub carets_left : RowContext → List LabelModel → Option LabelStyle → ℕ
+    → List Metrics
     → Stream
 carets_left context labels previous run cs =
     caret_run context.chars previous run ++ glyphs_left context labels previous cs
@@ -41,7 +43,8 @@ caret_count end (Some style) c = c.unicode_width
 
 spaces-count : (chars : Chars) (end : ℕ) (c : Metrics) (run : ℕ) (b : Bool)
     → nat_lt c.byte_index end ≡ b
-    → caret_run chars None (run + caret_count end None c) ≡ caret_run chars None run ++ caret_glyphs
+    → caret_run chars None (run + caret_count end None c) ≡ caret_run chars None run
+    ++ caret_glyphs
     chars end None c
 unfolding caret_run caret_glyphs
 spaces-count chars end c run true e = rw e (spaces-add run c.unicode_width)
@@ -65,7 +68,8 @@ run-counts chars end (Some style) c run =
 
 -- ---- the remaining characters
 
-grown : (run shown more rest : Stream) → more ≡ run ++ shown → run ++ (shown ++ rest) ≡ more ++ rest
+grown : (run shown more rest : Stream) → more ≡ run ++ shown
+    → run ++ (shown ++ rest) ≡ more ++ rest
 grown run shown more rest e =
     sym (append_assoc run shown rest) ∙ ap (λ (l : Stream). l ++ rest) (sym e)
 
@@ -154,7 +158,8 @@ carets-end context labels previous run left e = rw e refl
 -- ---- past the greatest end
 
 not-none : (labels : List LabelModel) (c : Metrics) → max_label_end labels ≤ c.byte_index
-    → (style : Option LabelStyle) → style_under labels c ≡ style → style_under labels c ≡ None
+    → (style : Option LabelStyle) → style_under labels c ≡ style
+    → style_under labels c ≡ None
 not-none labels c past None is = is
 not-none labels c past (Some style) is = let low = style_under-below labels c style is in
     absurd (omega arith)

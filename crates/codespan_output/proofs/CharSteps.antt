@@ -1,8 +1,8 @@
 -- For `leading_whitespace` and `write_colored_text`: a step over one character of a text.
-use Rattle.codespan_core.proofs.Std.{◌≡◌, ℕ, ◌+◌, ◌-◌, ◌≤◌, true, false, cond, List, [], ◌∷◌, ◌++◌}
-use Rattle.codespan_core.proofs.Std.{length, drop, length-append, length-drop, ap, ◌∙◌, arith}
-use Rattle.codespan_core.proofs.Std.{sum_by, encode_utf8, len_utf8, IsUtf8, chars, sum_by-cons}
-use Rattle.codespan_core.proofs.Std.{length-encode}
+use Rattle.codespan_core.proofs.Std.{◌≡◌, ℕ, ◌+◌, ◌-◌, ◌≤◌, true, false, cond}
+use Rattle.codespan_core.proofs.Std.{List, [], ◌∷◌, ◌++◌, length, drop, length-append}
+use Rattle.codespan_core.proofs.Std.{length-drop, ap, ◌∙◌, arith, sum_by, encode_utf8}
+use Rattle.codespan_core.proofs.Std.{len_utf8, IsUtf8, chars, sum_by-cons, length-encode}
 use Rattle.std.specs.Prelude.{take_while}
 use Rattle.std.specs.Char.{is_whitespace}
 use Rattle.std.proofs.lemmas.List.Sums.{take_while-cons}

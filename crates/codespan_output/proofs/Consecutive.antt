@@ -1,7 +1,7 @@
 -- For `pointers_are_cells` and the cached pointers of `codespan_renderer`: the characters of a
 -- line, one after another.
-use Rattle.codespan_core.proofs.Std.{◌≡◌, ℕ, ◌+◌, ◌<◌, ◌≤◌, Bool, false, List, [], ◌∷◌, filter}
-use Rattle.codespan_core.proofs.Std.{refl, arith, len_utf8, len_utf8_bounds}
+use Rattle.codespan_core.proofs.Std.{◌≡◌, ℕ, ◌+◌, ◌<◌, ◌≤◌, Bool, false, List}
+use Rattle.codespan_core.proofs.Std.{[], ◌∷◌, filter, refl, arith, len_utf8, len_utf8_bounds}
 use Rattle.codespan_output.specs.Types.{Metrics}
 use Rattle.codespan_output.specs.{metrics_then, width_at}
 

@@ -1,10 +1,12 @@
 -- For `outputs_are_utf8`: the rendered texts of lines, and the lines of notes, are texts.
-use Rattle.codespan_core.proofs.Std.{◌≡◌, ℕ, zero, suc, ◌+◌, ◌-◌, ◌<◌, ◌≤◌, Bool, true, false, ◌&&◌}
-use Rattle.codespan_core.proofs.Std.{◌==◌, cond, List, [], ◌∷◌, ◌++◌, length, take, drop, get_or}
+use Rattle.codespan_core.proofs.Std.{◌≡◌, ℕ, zero, suc, ◌+◌, ◌-◌, ◌<◌}
+use Rattle.codespan_core.proofs.Std.{◌≤◌, Bool, true, false, ◌&&◌, ◌==◌, cond, List}
+use Rattle.codespan_core.proofs.Std.{[], ◌∷◌, ◌++◌, length, take, drop, get_or}
 use Rattle.codespan_core.proofs.Std.{encode_utf8_all, refl, sym, ap, ◌∙◌, subst, arith}
-use Rattle.codespan_core.proofs.Std.{append_assoc, append-nil, ⊎_elim, encode_utf8, AllByRecursion}
-use Rattle.codespan_core.proofs.Std.{slice_split, IsUtf8, IsCharBoundary, cases_Bool, cases_lt}
-use Rattle.codespan_core.proofs.Std.{cond_both, nat_tests, take_all, recursion_from_All, IsUtf8-nil}
+use Rattle.codespan_core.proofs.Std.{append_assoc, append-nil, ⊎_elim, encode_utf8}
+use Rattle.codespan_core.proofs.Std.{AllByRecursion, slice_split, IsUtf8, IsCharBoundary}
+use Rattle.codespan_core.proofs.Std.{cases_Bool, cases_lt, cond_both, nat_tests, take_all}
+use Rattle.codespan_core.proofs.Std.{recursion_from_All, IsUtf8-nil}
 use Rattle.std.specs.List.{onto_first, suffix_len}
 use Rattle.std.specs.Str.{all_scalars}
 use Rattle.std.specs.Str.Lines.{lines, lines_of_parts, strip_carriage_return}
@@ -25,7 +27,8 @@ use Rattle.codespan_output.proofs.ListElements.{all-append}
 -- ---- the texts of drawn lines
 
 -- a prefix of a text, cut at a character boundary, without the line ends at its end
-trimmed : (text : List ℕ) → IsUtf8 text → (n : ℕ) → n ≤ length text → IsCharBoundary text n
+trimmed : (text : List ℕ) → IsUtf8 text → (n : ℕ) → n ≤ length text
+    → IsCharBoundary text n
     → IsUtf8 (take (n - suffix_len is_line_end (take n text)) text)
 trimmed text u zero h cut =
     subst (λ k. IsUtf8 (take k text))
@@ -34,7 +37,8 @@ trimmed text u (suc n) h cut =
     by (is_line_end (get_or text n 0)) refl (trimmed text u n (omega arith))
   where
     by : (b : Bool) → is_line_end (get_or text n 0) ≡ b
-        → (IsCharBoundary text n → IsUtf8 (take (n - suffix_len is_line_end (take n text)) text))
+        → (IsCharBoundary text n
+        → IsUtf8 (take (n - suffix_len is_line_end (take n text)) text))
         → IsUtf8 (take (suc n - suffix_len is_line_end (take (suc n) text)) text)
     by true is again =
         let small : get_or text n 0 < 128 = grind (arith, nat_tests, is) in
@@ -130,7 +134,8 @@ no-line_feed c other =
     (λ (t : is_line_feed (get_or (encode_utf8 c) k d) ≡ false). t)
     (cases_Bool (is_line_feed (get_or (encode_utf8 c) k d))))
   where
-    get_or_same : (xs : List ℕ) (k d e : ℕ) → k < length xs → get_or xs k d ≡ get_or xs k e
+    get_or_same : (xs : List ℕ) (k d e : ℕ) → k < length xs
+        → get_or xs k d ≡ get_or xs k e
     get_or_same [] k d e h = absurd (omega arith)
     get_or_same (x ∷ xs) zero d e h = refl
     get_or_same (x ∷ xs) (suc k) d e h = get_or_same xs k d e (omega arith)

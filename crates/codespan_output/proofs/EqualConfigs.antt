@@ -1,6 +1,7 @@
 -- For the clauses `value` of `codespan_native`, and for the outputs of `report`: equal
 -- configurations render the same.
-use Rattle.codespan_core.proofs.Std.{◌≡◌, ℕ, List, [], ◌∷◌, ◌++◌, refl, ap, ◌∙◌}
+use Rattle.codespan_core.proofs.Std.{◌≡◌, ℕ, List, [], ◌∷◌, ◌++◌, refl, ap}
+use Rattle.codespan_core.proofs.Std.{◌∙◌}
 use Rattle.codespan_core.specs.declared.term.config.chars.SnippetStart.{SnippetStart}
 use Rattle.codespan_core.specs.SnippetStarts.{start_text}
 use Rattle.codespan_core.specs.ConfigEquality.{IsEqualConfig}
@@ -70,7 +71,8 @@ module _ (table config : Config) (equal : IsEqualConfig table config) (severity 
       equal.chars.start rows
 
   pub rendered_equal : (style : DisplayStyle)
-      → rendered style config config severity header_text loci ss notes ≡ rendered style table table
+      → rendered style config config severity header_text loci ss notes
+      ≡ rendered style table table
       severity header_text loci ss notes
   rendered_equal Rich =
       ap (λ c. rendered Rich c c severity header_text loci ss notes)

@@ -1,9 +1,10 @@
 -- For `messages_appear_once`: sums over the rows of files, for the slots of each label's message.
-use Rattle.codespan_core.proofs.Std.{◌≡◌, ℕ, zero, suc, ◌+◌, ◌<◌, ◌≤◌, Bool, true, false, cond}
-use Rattle.codespan_core.proofs.Std.{◌||◌, ◌==◌, nat_lt, nat_le, List, [], ◌∷◌, ◌++◌, map, filter}
-use Rattle.codespan_core.proofs.Std.{Option, Some, None, length, refl, ap, ◌∙◌, arith, sum_by}
-use Rattle.codespan_core.proofs.Std.{list_any, range_with_len, nat_tests, sum_by-cons}
-use Rattle.codespan_core.proofs.Std.{sum_by-append, count_by-le-length}
+use Rattle.codespan_core.proofs.Std.{◌≡◌, ℕ, zero, suc, ◌+◌, ◌<◌, ◌≤◌, Bool}
+use Rattle.codespan_core.proofs.Std.{true, false, cond, ◌||◌, ◌==◌, nat_lt, nat_le, List}
+use Rattle.codespan_core.proofs.Std.{[], ◌∷◌, ◌++◌, map, filter, Option, Some, None}
+use Rattle.codespan_core.proofs.Std.{length, refl, ap, ◌∙◌, arith, sum_by, list_any}
+use Rattle.codespan_core.proofs.Std.{range_with_len, nat_tests, sum_by-cons, sum_by-append}
+use Rattle.codespan_core.proofs.Std.{count_by-le-length}
 use Rattle.std.specs.Str.Lines.{lines}
 use Rattle.codespan_core.specs.FileModel.{FileModel, line_count, line_of}
 use Rattle.codespan_core.specs.Labels.{LabelModel, first_line, last_line}
@@ -90,7 +91,8 @@ or_right false b h = h
 all_drawn : (k : ℕ) (config : Config) (f : FileModel) → 0 < line_count f
     → (p : ℕ → Bool) (xs : List LabelModel)
     → ((l : ℕ) → l < line_count f
-    → list_any (λ x. shows config (first_line f x) (last_line f x) l) xs ≡ true → p l ≡ true)
+    → list_any (λ x. shows config (first_line f x) (last_line f x) l) xs ≡ true
+    → p l ≡ true)
     → sum_by (λ x. sum_by (λ l. on_line k f l x) (filter p (range_with_len 0 (line_count f))))
     xs ≡ sum_by (label_slots k) xs
 all_drawn k config f some p [] h = refl
@@ -105,8 +107,10 @@ all_drawn k config f some p (x ∷ xs) h =
       arith,
       once_among (label_slots k x) (last_line f x) (line_count f) p here below,
       all_drawn k config f some p xs
-          (λ l low any. h l low (or_right (shows config (first_line f x) (last_line f x) l) _ any)),
-      sum_by-cons (λ x. sum_by (λ l. on_line k f l x) (filter p (range_with_len 0 (line_count f))))
+          (λ l low any. h l low
+          (or_right (shows config (first_line f x) (last_line f x) l) _ any)),
+      sum_by-cons
+          (λ x. sum_by (λ l. on_line k f l x) (filter p (range_with_len 0 (line_count f))))
           x xs,
       sum_by-cons (label_slots k) x xs,
     )
@@ -118,7 +122,8 @@ break_sum : (k : ℕ) (s : LabeledFileModel) (previous : Option ℕ) (l : ℕ)
 break_sum k s None l = refl
 break_sum k s (Some c) l = by_test (has_break_between c l)
   where
-    by_test : (b : Bool) → sum_by (row_slots k) (cond b (BreakRow (line_at s l).lanes ∷ []) []) ≡ 0
+    by_test : (b : Bool) → sum_by (row_slots k) (cond b (BreakRow (line_at s l).lanes ∷ []) [])
+        ≡ 0
     by_test true = refl
     by_test false = refl
 

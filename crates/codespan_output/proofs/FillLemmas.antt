@@ -1,7 +1,7 @@
 -- For `rows_are_of_shown_lines` and `breaks_replace_lines`: drawn lines with their breaks, from the
 -- shown lines alone. Between two consecutive ones there is nothing, one filled line, or a break.
-use Rattle.codespan_core.proofs.Std.{◌≡◌, ℕ, ◌≤◌, Bool, true, false, cond, nat_lt, List, Option}
-use Rattle.codespan_core.proofs.Std.{refl, arith, nat_tests}
+use Rattle.codespan_core.proofs.Std.{◌≡◌, ℕ, ◌≤◌, Bool, true, false, cond, nat_lt}
+use Rattle.codespan_core.proofs.Std.{List, Option, refl, arith, nat_tests}
 use Rattle.codespan_core.specs.FileModel.{line_count}
 use Rattle.codespan_output.specs.Types.{Config}
 use Rattle.codespan_output.specs.{is_shown, RowsAreOfShownLines, Row, before_line, break_between}

@@ -1,8 +1,9 @@
 -- For `rows_are_of_shown_lines`: lines of which some are shown. The elements of the drawn lines, in
 -- order, are those of the shown lines and of what is between two of them.
-use Rattle.codespan_core.proofs.Std.{◌≡◌, ℕ, zero, suc, ◌+◌, ◌-◌, ◌≤◌, Bool, true, false, cond}
-use Rattle.codespan_core.proofs.Std.{◌==◌, nat_lt, nat_le, ◌&&◌, ◌||◌, if◌then◌else◌, List, [], ◌∷◌}
-use Rattle.codespan_core.proofs.Std.{◌++◌, filter, Option, Some, None, refl, sym, ap, ◌∙◌, arith}
+use Rattle.codespan_core.proofs.Std.{◌≡◌, ℕ, zero, suc, ◌+◌, ◌-◌, ◌≤◌, Bool}
+use Rattle.codespan_core.proofs.Std.{true, false, cond, ◌==◌, nat_lt, nat_le, ◌&&◌}
+use Rattle.codespan_core.proofs.Std.{◌||◌, if◌then◌else◌, List, [], ◌∷◌, ◌++◌}
+use Rattle.codespan_core.proofs.Std.{filter, Option, Some, None, refl, sym, ap, ◌∙◌, arith}
 use Rattle.codespan_core.proofs.Std.{append_assoc, range_with_len, nat_tests}
 use Rattle.std.proofs.Math.Bool.{and-false}
 use Rattle.codespan_output.specs.{before_line, break_between, gap_between, in_sequence}
@@ -14,7 +15,8 @@ abbrev pub is_drawn_among : (ℕ → Bool) → ℕ → Bool
 is_drawn_among shown l = shown l || (nat_lt 0 l && shown (l - 1) && shown (l + 1))
 
 -- a line between two shown ones is drawn
-filled-between : (shown : ℕ → Bool) (c : ℕ) → shown c ≡ true → shown (c + 1 + 1) ≡ true
+filled-between : (shown : ℕ → Bool) (c : ℕ) → shown c ≡ true
+    → shown (c + 1 + 1) ≡ true
     → is_drawn_among shown (c + 1) ≡ true
 filled-between shown c before after = by_test (shown (c + 1))
   where
@@ -30,7 +32,8 @@ filled-between shown c before after = by_test (shown (c + 1))
     by_test false = rw (some, back) (simp (before, after))
 
 -- a shown line is drawn
-filled-shown : (shown : ℕ → Bool) (a : ℕ) → shown a ≡ true → is_drawn_among shown a ≡ true
+filled-shown : (shown : ℕ → Bool) (a : ℕ) → shown a ≡ true
+    → is_drawn_among shown a ≡ true
 filled-shown shown a h = simp h
 
 -- a line that is not shown, after one that is not, is not drawn
@@ -39,7 +42,8 @@ not_filled-after : (shown : ℕ → Bool) (a : ℕ) → shown a ≡ false
 not_filled-after shown a here before = simp (here, before)
 
 -- a line that is not shown, before one that is not, is not drawn
-not_filled-before : (shown : ℕ → Bool) (a : ℕ) → shown a ≡ false → shown (a + 1) ≡ false
+not_filled-before : (shown : ℕ → Bool) (a : ℕ) → shown a ≡ false
+    → shown (a + 1) ≡ false
     → is_drawn_among shown a ≡ false
 not_filled-before shown a here after = simp (here, after) (and_last (nat_lt 0 a) (shown (a - 1)))
   where
@@ -104,7 +108,8 @@ module _ {X : Type 0} (drawn filled broken : ℕ → List X) where
     -- a drawn line has its own elements
     lines-keep : (previous : Option ℕ) (a n : ℕ) (b : Bool) → is_drawn_among shown a ≡ true
         → shown a ≡ b
-        → lines_from previous a (suc n) ≡ before_line (break_between broken) previous a ++ cond b
+        → lines_from previous a (suc n) ≡ before_line (break_between broken) previous a
+        ++ cond b
         (drawn a) (filled a) ++ lines_from (Some a) (a + 1) n
     lines-keep previous a n b h k =
         ap (λ t. expanded_lines previous
@@ -155,7 +160,8 @@ module _ {X : Type 0} (drawn filled broken : ℕ → List X) where
         ≡ false → NoneFrom (a + n) → lines_from (Some c) a n ≡ shown_from (Some c) a n
 
     -- a shown line comes after one, with no line filled in between
-    take-shown : (n : ℕ) → Next n → (c a : ℕ) → (a == c + 2) ≡ false → shown a ≡ true
+    take-shown : (n : ℕ) → Next n → (c a : ℕ) → (a == c + 2) ≡ false
+        → shown a ≡ true
         → NoneFrom (a + 1 + n) → lines_from (Some c) a (suc n) ≡ shown_from (Some c) a (suc n)
     take-shown n next c a other here none =
         lines-keep (Some c) a n true (filled-shown shown a here) here
@@ -182,7 +188,8 @@ module _ {X : Type 0} (drawn filled broken : ℕ → List X) where
     second_step n next far c is hidden none = by_test (shown (c + 1 + 1)) refl
       where
         by_test : (b : Bool) → shown (c + 1 + 1) ≡ b
-            → lines_from (Some c) (c + 1) (suc (suc n)) ≡ shown_from (Some c) (c + 1 + 1) (suc n)
+            → lines_from (Some c) (c + 1) (suc (suc n))
+            ≡ shown_from (Some c) (c + 1 + 1) (suc n)
         by_test true here =
             let two : (c + 1 + 1 == c + 2) ≡ true = grind (arith, nat_tests) in
             let rest : List X = shown_from (Some (c + 1 + 1)) (c + 1 + 1 + 1) n in
@@ -224,7 +231,8 @@ module _ {X : Type 0} (drawn filled broken : ℕ → List X) where
             take-shown n next c a other here (λ l h. none l (omega arith))
         by_test false here =
             lines-skip (Some c) a n (not_filled-after shown a here previous)
-            ∙ far c (a + 1) (omega arith) (after-hidden shown a here) (λ l h. none l (omega arith))
+            ∙ far c (a + 1) (omega arith) (after-hidden shown a here)
+            (λ l h. none l (omega arith))
             ∙ sym (shown-skip (Some c) a n here)
 
     -- after a shown line, at any distance
@@ -252,17 +260,20 @@ module _ {X : Type 0} (drawn filled broken : ℕ → List X) where
         (shown a) refl
       where
         by_test : (shown a ≡ false → lines_from None (a + 1) n ≡ shown_from None (a + 1) n)
-            → (b : Bool) → shown a ≡ b → lines_from None a (suc n) ≡ shown_from None a (suc n)
+            → (b : Bool) → shown a ≡ b
+            → lines_from None a (suc n) ≡ shown_from None a (suc n)
         by_test later true here =
             lines-keep None a n true (filled-shown shown a here) here
-            ∙ ap (λ rest. drawn a ++ rest) ((all_steps n).0 a here (λ l h. none l (omega arith)))
+            ∙ ap (λ rest. drawn a ++ rest)
+            ((all_steps n).0 a here (λ l h. none l (omega arith)))
             ∙ sym (shown-keep None a n here)
         by_test later false here =
             lines-skip None a n (not_filled-after shown a here previous) ∙ later here
             ∙ sym (shown-skip None a n here)
 
     -- the elements of the drawn lines are those of the shown lines with what is between them
-    pub lines-shown : (own : ℕ → List X) → ((l : ℕ) → own l ≡ given l) → (n : ℕ) → NoneFrom n
+    pub lines-shown : (own : ℕ → List X) → ((l : ℕ) → own l ≡ given l) → (n : ℕ)
+        → NoneFrom n
         → in_sequence (λ l. l) (break_between broken) own None
         (filter (is_drawn_among shown) (range_with_len 0 n))
         ≡ in_sequence (λ l. l) (gap_between filled broken) drawn None

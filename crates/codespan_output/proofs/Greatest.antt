@@ -1,11 +1,12 @@
 -- For `padding_fits`: the greatest of some numbers.
-use Rattle.codespan_core.proofs.Std.{◌≡◌, ℕ, ◌≤◌, max, List, [], ◌∷◌, ◌++◌, refl, ap, ◌∙◌, arith}
-use Rattle.codespan_core.proofs.Std.{fold, AllByRecursion}
+use Rattle.codespan_core.proofs.Std.{◌≡◌, ℕ, ◌≤◌, max, List, [], ◌∷◌, ◌++◌}
+use Rattle.codespan_core.proofs.Std.{refl, ap, ◌∙◌, arith, fold, AllByRecursion}
 
 -- ---- the greatest of several lists
 
 -- of one list after another
-pub greatest-append : (a : ℕ) (xs ys : List ℕ) → fold max a (xs ++ ys) ≡ fold max (fold max a xs) ys
+pub greatest-append : (a : ℕ) (xs ys : List ℕ)
+    → fold max a (xs ++ ys) ≡ fold max (fold max a xs) ys
 greatest-append a [] ys = refl
 greatest-append a (x ∷ xs) ys = greatest-append (max a x) xs ys
 

@@ -1,10 +1,11 @@
 -- For `Messages::of` and `write_pointer_and_hanging_rows`: which message trails, and which hang.
-use Rattle.codespan_core.proofs.Std.{◌||◌, ◌≡◌, ℕ, ◌+◌, ◌-◌, ◌<◌, Bool, true, false, cond, ◌==◌}
-use Rattle.codespan_core.proofs.Std.{List, [], ◌∷◌, ◌++◌, length, get_or, take, drop, map, filter}
-use Rattle.codespan_core.proofs.Std.{reverse, Option, Some, None, refl, sym, ap, subst, ◌∙◌, arith}
-use Rattle.codespan_core.proofs.Std.{length-drop, append_assoc, append-nil, ◌⊎◌, ⊎_elim}
-use Rattle.codespan_core.proofs.Std.{take-length, not, list_any, remove, option_map, option_map_or}
-use Rattle.codespan_core.proofs.Std.{map-append, reverse-append, filter-append, flat_map-append}
+use Rattle.codespan_core.proofs.Std.{◌||◌, ◌≡◌, ℕ, ◌+◌, ◌-◌, ◌<◌, Bool}
+use Rattle.codespan_core.proofs.Std.{true, false, cond, ◌==◌, List, [], ◌∷◌, ◌++◌}
+use Rattle.codespan_core.proofs.Std.{length, get_or, take, drop, map, filter, reverse, Option, Some}
+use Rattle.codespan_core.proofs.Std.{None, refl, sym, ap, subst, ◌∙◌, arith, length-drop}
+use Rattle.codespan_core.proofs.Std.{append_assoc, append-nil, ◌⊎◌, ⊎_elim, take-length}
+use Rattle.codespan_core.proofs.Std.{not, list_any, remove, option_map, option_map_or, map-append}
+use Rattle.codespan_core.proofs.Std.{reverse-append, filter-append, flat_map-append}
 use Rattle.std.specs.List.{push}
 use Rattle.codespan_core.specs.Labels.{LabelModel, has_message}
 use Rattle.codespan_core.specs.Streams.{Stream, newline}
@@ -30,7 +31,8 @@ entry_trails : (xs : List SingleLabelTuple) (k end : ℕ) (d : SingleLabelTuple)
     → last_with_end end (single_label_views xs) ≡ indexed_label_view xs (Some k)
     → option_map_or (does_trail (single_label_views xs)) (indexed_label_view xs (Some k)) false
     ≡ true
-    → indexed_trailing_label (single_label_views xs) ≡ Some (k, single_label_view (get_or xs k d))
+    → indexed_trailing_label (single_label_views xs)
+    ≡ Some (k, single_label_view (get_or xs k d))
 entry_trails xs k end d h greatest last holds =
     let here = entry_is xs k d h in
     trails_by (single_label_views xs) (k, single_label_view (get_or xs k d))
@@ -39,7 +41,8 @@ entry_trails xs k end d h greatest last holds =
     false) (sym here) ∙ holds)
 
 -- its message trails
-pub trailing_here : (xs : List SingleLabelTuple) (k end : ℕ) (d : SingleLabelTuple) → k < length xs
+pub trailing_here : (xs : List SingleLabelTuple) (k end : ℕ) (d : SingleLabelTuple)
+    → k < length xs
     → end ≡ max_label_end (single_label_views xs)
     → last_with_end end (single_label_views xs) ≡ indexed_label_view xs (Some k)
     → option_map_or (does_trail (single_label_views xs)) (indexed_label_view xs (Some k)) false
@@ -50,7 +53,8 @@ trailing_here xs k end d h greatest last holds =
     (sym (entry_trails xs k end d h greatest last holds))
 
 -- all elements from an index on
-all_after : (n : ℕ) (xs : List SingleLabelTuple) → take (length xs - n) (drop n xs) ≡ drop n xs
+all_after : (n : ℕ) (xs : List SingleLabelTuple)
+    → take (length xs - n) (drop n xs) ≡ drop n xs
 all_after n xs = ap (λ k. take k (drop n xs)) (sym (length-drop n xs)) ∙ take-length (drop n xs)
 
 -- all other labels may hang
@@ -85,7 +89,8 @@ hanging_here (x ∷ xs) k end h greatest last holds =
 
 -- no label trails where the rightmost one does not
 none_by : (xs : List LabelModel) (o : Option (ℕ × LabelModel))
-    → last_with_end (max_label_end xs) xs ≡ o → option_map_or (does_trail xs) o false ≡ false
+    → last_with_end (max_label_end xs) xs ≡ o
+    → option_map_or (does_trail xs) o false ≡ false
     → indexed_trailing_label xs ≡ None
 none_by xs None is h = rw is refl
 none_by xs (Some e) is h = rw (is, h) refl
@@ -159,7 +164,8 @@ pub hanging_skip : (context : RowContext) (line : Line) (left rest : List Single
     (x : SingleLabelTuple) (empty : Bool)
     → left ≡ push rest x
     → empty ≡ (length x.2.now == 0) → empty ≡ true
-    → hanging_stream context line (filter has_message (single_label_views left)) ≡ hanging_stream
+    → hanging_stream context line (filter has_message (single_label_views left))
+    ≡ hanging_stream
     context line (filter has_message (single_label_views rest))
 hanging_skip context line left rest x empty step is none =
     rw (step, messages_push rest x false (ap not (sym is ∙ none)), append-nil) refl
@@ -187,7 +193,8 @@ no_message (x ∷ xs) h = by_message (no_message xs) (has_message (single_label_
     by_message again false h = again h
 
 -- some label of these has a message
-some_message : (xs : List SingleLabelTuple) → list_any has_message (single_label_views xs) ≡ true
+some_message : (xs : List SingleLabelTuple)
+    → list_any has_message (single_label_views xs) ≡ true
     → filter has_message (single_label_views xs) ≡ [] → ⊥
 some_message [] h none = cc
 some_message (x ∷ xs) h none =
@@ -209,7 +216,8 @@ pub none_hangs : (labels before after : List SingleLabelTuple) → AreHanging la
     → list_any has_message (single_label_views after) ≡ false
     → hanging_labels (single_label_views labels) ≡ []
 none_hangs labels before after h early late =
-    rw (← hanging_parts labels before after h, no_message before early, no_message after late) refl
+    rw (← hanging_parts labels before after h, no_message before early, no_message after late)
+    refl
 
 -- so no hanging row is written
 pub nothing_hangs : (context : RowContext) (line : Line)

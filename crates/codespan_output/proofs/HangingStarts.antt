@@ -1,9 +1,10 @@
 -- For `pointers_are_cells` and the pointer rows: where hanging labels start. They are labels of the
 -- line.
-use Rattle.codespan_core.proofs.Std.{◌≡◌, ℕ, ◌≤◌, max, Bool, true, false, ◌||◌, cond, List, [], ◌∷◌}
-use Rattle.codespan_core.proofs.Std.{◌++◌, filter, fold, Option, Some, None, refl, sym, ap, subst}
-use Rattle.codespan_core.proofs.Std.{◌∙◌, arith, ⊎_elim, if◌then◌else◌, list_any, or_cases}
-use Rattle.codespan_core.proofs.Std.{nat_tests, list_any-append}
+use Rattle.codespan_core.proofs.Std.{◌≡◌, ℕ, ◌≤◌, max, Bool, true, false, ◌||◌}
+use Rattle.codespan_core.proofs.Std.{cond, List, [], ◌∷◌, ◌++◌, filter, fold, Option}
+use Rattle.codespan_core.proofs.Std.{Some, None, refl, sym, ap, subst, ◌∙◌, arith, ⊎_elim}
+use Rattle.codespan_core.proofs.Std.{if◌then◌else◌, list_any, or_cases, nat_tests}
+use Rattle.codespan_core.proofs.Std.{list_any-append}
 use Rattle.std.proofs.lemmas.Bool.{or_left, or_right}
 use Rattle.codespan_core.specs.Labels.{LabelModel, has_message}
 use Rattle.codespan_output.specs.Types.{Metrics}
@@ -12,13 +13,15 @@ use Rattle.codespan_output.proofs.Rightmost.{Around, others, around_rightmost, a
 use Rattle.codespan_output.proofs.Rightmost.{hanging_of, around_is, hanging_is}
 
 -- where a label that a filter keeps passes a test, a label of the list does
-pub any-filter : (p q : LabelModel → Bool) (xs : List LabelModel) → list_any p (filter q xs) ≡ true
+pub any-filter : (p q : LabelModel → Bool) (xs : List LabelModel)
+    → list_any p (filter q xs) ≡ true
     → list_any p xs ≡ true
 any-filter p q [] h = cc
 any-filter p q (x ∷ xs) h = by_test (any-filter p q xs) (q x) h
   where
     by_test : (list_any p (filter q xs) ≡ true → list_any p xs ≡ true) → (b : Bool)
-        → list_any p (cond b (x ∷ filter q xs) (filter q xs)) ≡ true → (p x || list_any p xs) ≡ true
+        → list_any p (cond b (x ∷ filter q xs) (filter q xs)) ≡ true
+        → (p x || list_any p xs) ≡ true
     by_test again true h =
         ⊎_elim (λ here. or_left (p x) (list_any p xs) here)
         (λ later. or_right (p x) (list_any p xs) (again later))
@@ -69,5 +72,6 @@ any-below m v p (x ∷ xs) below h =
     (λ later. any-below (max m x.start) v p xs below later)
     (or_cases (p x) (list_any p xs) h)
 
-pub starts_in-low : (c : Metrics) (x : LabelModel) → starts_in c x ≡ true → c.byte_index ≤ x.start
+pub starts_in-low : (c : Metrics) (x : LabelModel) → starts_in c x ≡ true
+    → c.byte_index ≤ x.start
 starts_in-low c x h = grind (arith, nat_tests)

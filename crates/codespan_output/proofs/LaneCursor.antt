@@ -1,10 +1,11 @@
 -- For `inner_gutter`: a cursor over lane marks in order finds the lane mark of each lane.
-use Rattle.codespan_core.proofs.Std.{◌≡◌, ℕ, suc, zero, ◌+◌, ◌-◌, ◌<◌, ◌≤◌, Bool, true, false, cond}
-use Rattle.codespan_core.proofs.Std.{eqb, leb, ltb, ◌&&◌, List, [], ◌∷◌, ◌++◌, map, length, get_or}
-use Rattle.codespan_core.proofs.Std.{drop, None, Some, refl, sym, ap, ◌∙◌, arith, add-one}
-use Rattle.codespan_core.proofs.Std.{drop-cons, max, IsTrue, flat_map, range_with_len, option_map}
-use Rattle.codespan_core.proofs.Std.{ne_eqb, eq-eqb, eqb-true, le-leb, false≢true, nat_tests}
-use Rattle.codespan_core.proofs.Std.{common_steps, append_assoc}
+use Rattle.codespan_core.proofs.Std.{◌≡◌, ℕ, suc, zero, ◌+◌, ◌-◌, ◌<◌}
+use Rattle.codespan_core.proofs.Std.{◌≤◌, Bool, true, false, cond, eqb, leb, ltb, ◌&&◌}
+use Rattle.codespan_core.proofs.Std.{List, [], ◌∷◌, ◌++◌, map, length, get_or, drop, None}
+use Rattle.codespan_core.proofs.Std.{Some, refl, sym, ap, ◌∙◌, arith, add-one, drop-cons, max}
+use Rattle.codespan_core.proofs.Std.{IsTrue, flat_map, range_with_len, option_map, ne_eqb, eq-eqb}
+use Rattle.codespan_core.proofs.Std.{eqb-true, le-leb, false≢true, nat_tests, common_steps}
+use Rattle.codespan_core.proofs.Std.{append_assoc}
 use Rattle.codespan_core.specs.Streams.{Stream, spaces, byte_stream}
 use Rattle.codespan_output.specs.declared.rows.lanes.LaneRowKind.{LaneRowKind as RustLaneRowKind}
 use Rattle.codespan_output.specs.{LaneMarkTuple, lane_mark_view, lanes_of, lanes_in_order}
@@ -44,7 +45,8 @@ after-later lane_marks next lane d h e =
 
 pub none-is : (lane_marks : List LaneMarkTuple) (next lane : ℕ) → length lane_marks ≤ next
     → lane_mark_here (drop next lane_marks) lane ≡ None
-none-is lane_marks next lane h = let e : drop next lane_marks ≡ [] = grind (arith, common_steps) in
+none-is lane_marks next lane h = let e : drop next lane_marks
+    ≡ [] = grind (arith, common_steps) in
     rw e refl
 
 pub after-none : (lane_marks : List LaneMarkTuple) (next lane : ℕ) → length lane_marks ≤ next
@@ -130,7 +132,8 @@ left count lane (m ∷ ms) k h = left-cons count lane m ms k _ refl h
 -- and they are in order
 order-cons : (count lane : ℕ) (m : LaneMarkTuple) (ms : List LaneMarkTuple) (b : Bool)
     → eqb m.0 lane ≡ b → IsTrue (ascend_from count lane (map lane_mark_view (m ∷ ms)))
-    → IsTrue (ascend_from count (lane + 1) (map lane_mark_view (lane_marks_after (m ∷ ms) lane)))
+    → IsTrue
+    (ascend_from count (lane + 1) (map lane_mark_view (lane_marks_after (m ∷ ms) lane)))
 order-cons count lane m ms true e h =
     let f : IsFirst count lane m ms = first count lane m ms h in
     rw (e, sym (eqb-true m.0 lane e)) f.after
@@ -145,14 +148,16 @@ order-cons count lane m ms false e h =
 
 order : (count lane : ℕ) (lane_marks : List LaneMarkTuple)
     → IsTrue (ascend_from count lane (map lane_mark_view lane_marks))
-    → IsTrue (ascend_from count (lane + 1) (map lane_mark_view (lane_marks_after lane_marks lane)))
+    → IsTrue
+    (ascend_from count (lane + 1) (map lane_mark_view (lane_marks_after lane_marks lane)))
 order count lane [] h = refl
 order count lane (m ∷ ms) h = order-cons count lane m ms _ refl h
 
 -- ---- the cursor
 
 -- a number of lanes from this one on, each with the lane mark that the cursor finds
-abbrev pub cursor : RowContext → ℕ → RustLaneRowKind → ℕ → ℕ → List LaneMarkTuple → Stream
+abbrev pub cursor : RowContext → ℕ → RustLaneRowKind → ℕ → ℕ → List LaneMarkTuple
+    → Stream
 cursor context leading row lane zero lane_marks = []
 cursor context leading row lane (suc n) lane_marks =
     row_lane_stream context leading row lane (lane_mark_here lane_marks lane)
@@ -181,7 +186,8 @@ unfolding row_lane_stream inner_gutter_column lane_characters crossing_character
 empty-lane context leading row lane clear = rw clear refl
 
 -- where no lane mark is taken all remain
-left-all : (lane_marks : List LaneMarkTuple) (lane : ℕ) → lane_mark_here lane_marks lane ≡ None
+left-all : (lane_marks : List LaneMarkTuple) (lane : ℕ)
+    → lane_mark_here lane_marks lane ≡ None
     → lane_marks_after lane_marks lane ≡ lane_marks
 left-all [] lane none = refl
 left-all (m ∷ ms) lane none = by (eqb m.0 lane) none
@@ -198,7 +204,8 @@ none-first s = refl
 -- the cursor goes past empty lanes
 pub cursor-past : (context : RowContext) (leading : ℕ) (row : RustLaneRowKind)
     (lane_marks : List LaneMarkTuple) (n lane rest : ℕ)
-    → ((k : ℕ) → lane ≤ k → k < lane + n → row_crossing (lane_row_kind_view row) k ≡ None)
+    → ((k : ℕ) → lane ≤ k → k < lane + n
+    → row_crossing (lane_row_kind_view row) k ≡ None)
     → ((k : ℕ) → lane ≤ k → k < lane + n → lane_mark_here lane_marks k ≡ None)
     → cursor context leading row lane (n + rest) lane_marks ≡ spaces (n + n) ++ cursor context
     leading row (lane + n) rest lane_marks
@@ -229,7 +236,8 @@ cursor-past context leading row lane_marks (suc n) lane rest clear bare =
 pub cursor-empty_lanes : (context : RowContext) (leading : ℕ) (row : RustLaneRowKind)
     (lane_marks : List LaneMarkTuple) (count lane until num_empty : ℕ)
     → lane < count → until ≤ count → lane + num_empty ≤ max lane until
-    → ((k : ℕ) → lane ≤ k → k < lane + num_empty → row_crossing (lane_row_kind_view row) k ≡ None)
+    → ((k : ℕ) → lane ≤ k → k < lane + num_empty
+    → row_crossing (lane_row_kind_view row) k ≡ None)
     → ((k : ℕ) → k < until → lane_mark_here lane_marks k ≡ None)
     → cursor context leading row lane (count - lane) lane_marks ≡ spaces (num_empty + num_empty)
     ++ cursor
@@ -241,7 +249,8 @@ cursor-empty_lanes context leading row lane_marks count lane until num_empty ins
     ∙ cursor-past context leading row lane_marks num_empty lane (count - (lane + num_empty)) clear
     (λ k low below. bare k (omega arith))
 
-cursor_is : (context : RowContext) (leading : ℕ) (row : RustLaneRowKind) (count : ℕ) (whole : Lanes)
+cursor_is : (context : RowContext) (leading : ℕ) (row : RustLaneRowKind) (count : ℕ)
+    (whole : Lanes)
     (lane n : ℕ) (lane_marks : List LaneMarkTuple)
     → ((k : ℕ) → lane ≤ k
     → lane_mark_in whole.lane_marks k ≡ lane_mark_in (map lane_mark_view lane_marks) k)
@@ -271,7 +280,8 @@ cursor_is context leading row count whole lane (suc n) lane_marks a h =
 pub cursor-lanes : (context : RowContext) (leading : ℕ) (kind : RustLaneRowKind) (count : ℕ)
     (lane_marks : List LaneMarkTuple)
     → IsTrue (lanes_in_order count lane_marks)
-    → cursor context leading kind 0 (count - 0) lane_marks ≡ row_lanes_stream context leading kind
+    → cursor context leading kind 0 (count - 0) lane_marks
+    ≡ row_lanes_stream context leading kind
     (lanes_of count lane_marks)
 unfolding row_lanes_stream inner_gutter
 cursor-lanes context leading kind count lane_marks h =

@@ -1,8 +1,9 @@
 -- For `lanes_join_corners`: what a lane shows in the rows of a line on which its label begins or
 -- ends.
-use Rattle.codespan_core.proofs.Std.{◌≡◌, ℕ, ◌<◌, Bool, true, false, not, cond, ◌&&◌, ◌==◌, nat_lt}
-use Rattle.codespan_core.proofs.Std.{inl, inr, List, [], ◌∷◌, ◌++◌, map, filter, Some, refl, sym}
-use Rattle.codespan_core.proofs.Std.{ap, ◌∙◌, arith, append_assoc, nat_tests, AllByRecursion}
+use Rattle.codespan_core.proofs.Std.{◌≡◌, ℕ, ◌<◌, Bool, true, false, not, cond}
+use Rattle.codespan_core.proofs.Std.{◌&&◌, ◌==◌, nat_lt, inl, inr, List, [], ◌∷◌}
+use Rattle.codespan_core.proofs.Std.{◌++◌, map, filter, Some, refl, sym, ap, ◌∙◌, arith}
+use Rattle.codespan_core.proofs.Std.{append_assoc, nat_tests, AllByRecursion}
 use Rattle.std.proofs.Math.Bool.{and-false}
 use Rattle.codespan_core.specs.Streams.{Stream}
 use Rattle.codespan_core.specs.Labels.{LaneMark, Top, Bottom}
@@ -92,7 +93,8 @@ bottom_lane_mark layout lane line style end message is r = record {
         bottom_low : (layout : Layout) (lane leading corner_lane end : ℕ) (message : Stream)
             {v : Shape}
             → corner_lane < lane
-            → v ≡ underline_shape layout leading corner_lane lane (Bottom end message) → v ≡ Bar
+            → v ≡ underline_shape layout leading corner_lane lane (Bottom end message)
+            → v ≡ Bar
         bottom_low layout lane leading corner_lane end message h e =
             let other : (lane == corner_lane) ≡ false = grind (arith, nat_tests) in
             let later : nat_lt lane corner_lane ≡ false = grind (arith, nat_tests) in
@@ -104,7 +106,8 @@ bottom_lane_mark layout lane line style end message is r = record {
         bottom_high : (layout : Layout) (lane leading corner_lane end : ℕ) (message : Stream)
             {v : Shape}
             → lane < corner_lane
-            → v ≡ underline_shape layout leading corner_lane lane (Bottom end message) → v ≡ Space
+            → v ≡ underline_shape layout leading corner_lane lane (Bottom end message)
+            → v ≡ Space
         bottom_high layout lane leading corner_lane end message h e =
             let other : (lane == corner_lane) ≡ false = grind (arith, nat_tests) in
             let later : nat_lt lane corner_lane ≡ true = grind (arith, nat_tests) in
@@ -120,7 +123,8 @@ top_low lane corner_lane h e =
     e ∙ simp (other, later)
 
 top_high : (lane corner_lane : ℕ) {v : Shape} → lane < corner_lane
-    → v ≡ cond (lane == corner_lane) TopCorner (cond (nat_lt lane corner_lane) Bar Space) → v ≡ Bar
+    → v ≡ cond (lane == corner_lane) TopCorner (cond (nat_lt lane corner_lane) Bar Space)
+    → v ≡ Bar
 top_high lane corner_lane h e =
     let other : (lane == corner_lane) ≡ false = grind (arith, nat_tests) in
     let later : nat_lt lane corner_lane ≡ true = grind (arith, nat_tests) in
@@ -138,7 +142,8 @@ top_early layout lane line style start is r early = record {
   more = below_rows line ++ underline_rows line;
   rows_are = refl;
   gaps = tt;
-  top_corner = ap (shape_of (source_shape (leading_of line))) is ∙ ap (λ b. cond b TopCorner Space)
+  top_corner = ap (shape_of (source_shape (leading_of line))) is
+      ∙ ap (λ b. cond b TopCorner Space)
       early;
   goes_on = by_layout layout;
 }
@@ -235,9 +240,11 @@ top_early layout lane line style start is r early = record {
 -- a lane whose corner is not in the source row does not continue below that row
 late : (layout : Layout) (leading start : ℕ) → begins_in_source_row leading start ≡ false
     → (is_unbroken layout && begins_in_source_row leading start) ≡ false
-late layout leading start h = ap (λ b. is_unbroken layout && b) h ∙ and-false (is_unbroken layout)
+late layout leading start h = ap (λ b. is_unbroken layout && b) h
+    ∙ and-false (is_unbroken layout)
 
-late_below : (layout : Layout) (leading start : ℕ) → begins_in_source_row leading start ≡ false
+late_below : (layout : Layout) (leading start : ℕ)
+    → begins_in_source_row leading start ≡ false
     → single_labels_shape layout leading (Top start) ≡ Space
 late_below layout leading start h = ap (λ b. cond b Bar Space) (late layout leading start h)
 

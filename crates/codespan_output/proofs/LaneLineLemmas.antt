@@ -1,8 +1,9 @@
 -- For `lanes_join_corners`: lists in parts, and a lane that is one line by the parts of its rows.
-use Rattle.codespan_core.proofs.Std.{◌≡◌, ℕ, zero, suc, ◌+◌, ◌-◌, ◌<◌, Bool, true, false, cond, ◌⊎◌}
-use Rattle.codespan_core.proofs.Std.{inl, inr, List, [], ◌∷◌, ◌++◌, map, filter, length, Option}
-use Rattle.codespan_core.proofs.Std.{Some, slice_get, refl, sym, ap, ap₂, ◌∙◌, arith, append_assoc}
-use Rattle.codespan_core.proofs.Std.{AllByRecursion, option_map, length-append}
+use Rattle.codespan_core.proofs.Std.{◌≡◌, ℕ, zero, suc, ◌+◌, ◌-◌, ◌<◌, Bool}
+use Rattle.codespan_core.proofs.Std.{true, false, cond, ◌⊎◌, inl, inr, List, [], ◌∷◌}
+use Rattle.codespan_core.proofs.Std.{◌++◌, map, filter, length, Option, Some, slice_get, refl}
+use Rattle.codespan_core.proofs.Std.{sym, ap, ap₂, ◌∙◌, arith, append_assoc, AllByRecursion}
+use Rattle.codespan_core.proofs.Std.{option_map, length-append}
 use Rattle.codespan_core.specs.Labels.{LabelModel, first_line}
 use Rattle.codespan_output.specs.Types.{Layout}
 use Rattle.codespan_output.specs.declared.lane_shapes.Shape.{Shape}
@@ -15,7 +16,8 @@ use Rattle.codespan_output.proofs.ListElements.{all-append, all-weaker}
 -- ---- lists
 
 -- what holds of everything holds of each element
-pub each_all : {X : Type 0} (P : X → Type 0) (xs : List X) → ((x : X) → P x) → AllByRecursion P xs
+pub each_all : {X : Type 0} (P : X → Type 0) (xs : List X) → ((x : X) → P x)
+    → AllByRecursion P xs
 each_all P [] h = tt
 each_all P (x ∷ xs) h = (h x, each_all P xs h)
 
@@ -47,7 +49,8 @@ get_right (x ∷ xs) ys (suc j) k e = get_right xs ys j k (omega arith)
 -- a filtered and mapped list, where the filter keeps an element
 pub split_at : {X Y : Type 0} (f : X → Y) (p : X → Bool) (low : List X) (m : X) (high : List X)
     → p m ≡ true
-    → map f (filter p (low ++ (m ∷ high))) ≡ map f (filter p low) ++ (f m ∷ map f (filter p high))
+    → map f (filter p (low ++ (m ∷ high))) ≡ map f (filter p low)
+    ++ (f m ∷ map f (filter p high))
 split_at f p [] m high h = ap (λ b. map f (cond b (m ∷ filter p high) (filter p high))) h
 split_at {X} {Y} f p (y ∷ low) m high h = by_test (split_at f p low m high h) (p y)
   where
@@ -66,7 +69,8 @@ pub split_off : {X Y : Type 0} (f : X → Y) (p : X → Bool) (low : List X) (m 
 split_off f p [] m high h = ap (λ b. map f (cond b (m ∷ filter p high) (filter p high))) h
 split_off {X} {Y} f p (y ∷ low) m high h = by_test (split_off f p low m high h) (p y)
   where
-    by_test : map f (filter p (low ++ (m ∷ high))) ≡ map f (filter p low) ++ map f (filter p high)
+    by_test : map f (filter p (low ++ (m ∷ high))) ≡ map f (filter p low)
+        ++ map f (filter p high)
         → (b : Bool)
         → map f (cond b (y ∷ filter p (low ++ (m ∷ high))) (filter p (low ++ (m ∷ high))))
         ≡ map f (cond b (y ∷ filter p low) (filter p low)) ++ map f (filter p high)
@@ -131,7 +135,8 @@ finishes_later layout lane xs ys bars r = record {
   before = xs ++ r.before;
   bottom = r.bottom;
   after = r.after;
-  rows_are = ap (λ t. xs ++ t) r.rows_are ∙ sym (append_assoc xs r.before (r.bottom ∷ r.after));
+  rows_are = ap (λ t. xs ++ t) r.rows_are
+      ∙ sym (append_assoc xs r.before (r.bottom ∷ r.after));
   bars = all-append (Shows layout lane Bar) xs r.before bars r.bars;
   bottom_corner = r.bottom_corner;
   gaps = r.gaps;
@@ -198,7 +203,8 @@ whole_joined layout lane line xs ys b r = record {
   rows_are =
       ap₂ (λ s t. s ++ t) b.rows_are r.rows_are
       ∙ append_assoc b.before (b.top ∷ b.more) (r.before ++ (r.bottom ∷ r.after))
-      ∙ ap (λ t. b.before ++ (b.top ∷ t)) (sym (append_assoc b.more r.before (r.bottom ∷ r.after)));
+      ∙ ap (λ t. b.before ++ (b.top ∷ t))
+      (sym (append_assoc b.more r.before (r.bottom ∷ r.after)));
   gaps_before = b.gaps;
   top_corner = b.top_corner;
   goes_on = all-append (GoesOn layout lane line b.top) b.more r.before b.goes_on
@@ -258,7 +264,8 @@ one_line layout s rows lane x w = record {
     at_bottom = length w.before + suc (length w.middle)
 
     top_is : slice_get rows at_top ≡ Some w.top
-    top_is = ap (λ t. slice_get t at_top) w.rows_are ∙ get_right w.before (w.top ∷ below) at_top 0
+    top_is = ap (λ t. slice_get t at_top) w.rows_are
+        ∙ get_right w.before (w.top ∷ below) at_top 0
         (omega arith)
 
     bottom_is : slice_get rows at_bottom ≡ Some w.bottom
@@ -277,7 +284,8 @@ one_line layout s rows lane x w = record {
               (w.bottom ∷ w.after),
         )
 
-    by_kind : (k : ℕ) (row : Row) → slice_get rows k ≡ Some row → GoesOn layout lane line w.top row
+    by_kind : (k : ℕ) (row : Row) → slice_get rows k ≡ Some row
+        → GoesOn layout lane line w.top row
         → (shape_at layout rows k lane ≡ Some Bar) ⊎ MayLeaveOut layout s rows lane x at_top k
     by_kind k row is (inl bar) = inl (ap show is ∙ ap Some bar)
     by_kind k row is (inr out) = inr (record {

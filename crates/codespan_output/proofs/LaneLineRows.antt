@@ -1,6 +1,6 @@
 -- For `lanes_join_corners`: what a lane shows in the rows of one line.
-use Rattle.codespan_core.proofs.Std.{◌≡◌, ℕ, Bool, List, [], ◌∷◌, ◌++◌, map, filter, reverse, Some}
-use Rattle.codespan_core.proofs.Std.{None, ap, AllByRecursion}
+use Rattle.codespan_core.proofs.Std.{◌≡◌, ℕ, Bool, List, [], ◌∷◌, ◌++◌, map}
+use Rattle.codespan_core.proofs.Std.{filter, reverse, Some, None, ap, AllByRecursion}
 use Rattle.codespan_core.specs.Labels.{LabelModel, LaneMark, MultiLabel, Left}
 use Rattle.codespan_output.specs.Types.{Layout, LabelStyle}
 use Rattle.codespan_output.specs.declared.lane_shapes.Shape.TheVariants.{Space, Bar}
@@ -51,7 +51,8 @@ each_under P line lane_marks a =
     each_map P (UnderlineRow line) (filter (is_underlined line) lane_marks)
     (all-filter (λ m. P (UnderlineRow line m)) (is_underlined line) lane_marks a)
 
-pub each_after_source : (P : Row → Type 0) (line : Line) → P (CaretRow line) → P (PointerRow line)
+pub each_after_source : (P : Row → Type 0) (line : Line) → P (CaretRow line)
+    → P (PointerRow line)
     → ((y : LabelModel) → P (HangingRow line y))
     → ((m : LaneMark) → P (UnderlineRow line m))
     → AllByRecursion P (below_rows line ++ underline_rows line)

@@ -1,9 +1,9 @@
 -- For `lanes_join_corners`: each lane is one line, by the drawn lines of the file.
-use Rattle.codespan_core.proofs.Std.{◌≡◌, ℕ, zero, suc, ◌+◌, ◌-◌, ◌<◌, ◌≤◌, Bool, true, false, not}
-use Rattle.codespan_core.proofs.Std.{cond, nat_le, ⊎_elim, List, [], ◌∷◌, ◌++◌, filter, length}
-use Rattle.codespan_core.proofs.Std.{Option, Some, None, refl, sym, ap, ◌∙◌, zero-add, append_assoc}
-use Rattle.codespan_core.proofs.Std.{arith, range_with_len, AllByRecursion, cases_lt}
-use Rattle.codespan_core.proofs.Std.{count_by-le-length}
+use Rattle.codespan_core.proofs.Std.{◌≡◌, ℕ, zero, suc, ◌+◌, ◌-◌, ◌<◌}
+use Rattle.codespan_core.proofs.Std.{◌≤◌, Bool, true, false, not, cond, nat_le, ⊎_elim}
+use Rattle.codespan_core.proofs.Std.{List, [], ◌∷◌, ◌++◌, filter, length, Option, Some}
+use Rattle.codespan_core.proofs.Std.{None, refl, sym, ap, ◌∙◌, zero-add, append_assoc, arith}
+use Rattle.codespan_core.proofs.Std.{range_with_len, AllByRecursion, cases_lt, count_by-le-length}
 use Rattle.codespan_core.specs.FileModel.{line_start, line_of, line_count}
 use Rattle.codespan_core.specs.Labels.{LabelModel, is_single, first_line, last_line, multi_label_on}
 use Rattle.codespan_core.specs.Labels.{lane_mark_of, lane_marks_on, multi_line_labels, MultiLabel}
@@ -50,7 +50,8 @@ module _ (layout : Layout) (s : LabeledFileModel) (lane : ℕ) (x : LabelModel)
   abbrev bottom_of : ℕ → MultiLabel
   bottom_of l = Bottom (x.end - line_start s.file l) x.message
 
-  lane_mark_at : (l : ℕ) (multi_label : Option MultiLabel) → multi_label_on s.file l x ≡ multi_label
+  lane_mark_at : (l : ℕ) (multi_label : Option MultiLabel)
+      → multi_label_on s.file l x ≡ multi_label
       → lane_mark_in (lane_marks_on s.file s.labels l) lane ≡ lane_mark_of lane x multi_label
   lane_mark_at l multi_label is =
       ap (lane_mark_in (lane_marks_on s.file s.labels l)) (sym (zero-add lane))
@@ -88,7 +89,8 @@ module _ (layout : Layout) (s : LabeledFileModel) (lane : ℕ) (x : LabelModel)
   left_at l low high = multi_label_left (first_line s.file x) (last_line s.file x) l (top_of l)
       (bottom_of l) low high
 
-  bottom_at : (l : ℕ) → last_line s.file x ≡ l → multi_label_on s.file l x ≡ Some (bottom_of l)
+  bottom_at : (l : ℕ) → last_line s.file x ≡ l
+      → multi_label_on s.file l x ≡ Some (bottom_of l)
   bottom_at l h = multi_label_bottom (first_line s.file x) (last_line s.file x) l (top_of l)
       (bottom_of l) several h
 
@@ -98,7 +100,8 @@ module _ (layout : Layout) (s : LabeledFileModel) (lane : ℕ) (x : LabelModel)
       top_lane_mark layout lane (line_at s l) x.style (x.start - line_start s.file l)
       (lane_mark_at l (Some (top_of l)) (top_at l h)) (split_on l (top_of l) (top_at l h))
 
-  finishes_line : (l : ℕ) → last_line s.file x ≡ l → Finishes layout lane (rows_of (line_at s l))
+  finishes_line : (l : ℕ) → last_line s.file x ≡ l
+      → Finishes layout lane (rows_of (line_at s l))
   finishes_line l h =
       bottom_lane_mark layout lane (line_at s l) x.style (x.end - line_start s.file l) x.message
       (lane_mark_at l (Some (bottom_of l)) (bottom_at l h))
@@ -119,7 +122,8 @@ module _ (layout : Layout) (s : LabeledFileModel) (lane : ℕ) (x : LabelModel)
       (ap (shape_of empty_or_break_shape) (lane_mark_at l (Some (top_of l)) (top_at l h)))
 
   bar_break : (previous : Option ℕ) (l : ℕ) (multi_label : MultiLabel)
-      → empty_or_break_shape multi_label ≡ Bar → multi_label_on s.file l x ≡ Some multi_label
+      → empty_or_break_shape multi_label ≡ Bar
+      → multi_label_on s.file l x ≡ Some multi_label
       → AllByRecursion (Shows layout lane Bar) (breaks_before s previous l)
   bar_break previous l multi_label bar is =
       each_break (Shows layout lane Bar) s previous l
@@ -134,21 +138,25 @@ module _ (layout : Layout) (s : LabeledFileModel) (lane : ℕ) (x : LabelModel)
   skip : (previous : Option ℕ) (a n : ℕ) → drawn a ≡ false
       → rows_from previous a (suc n) ≡ rows_from previous (a + 1) n
   skip previous a n h = ap
-      (λ b. rows_of_drawn s previous (cond b (a ∷ lines_from (a + 1) n) (lines_from (a + 1) n))) h
+      (λ b. rows_of_drawn s previous (cond b (a ∷ lines_from (a + 1) n) (lines_from (a + 1) n)))
+      h
 
   keep : (previous : Option ℕ) (a n : ℕ) → drawn a ≡ true
       → rows_from previous a (suc n) ≡ breaks_before s previous a ++ rows_of
       (line_at s a) ++ rows_from (Some a) (a + 1) n
   keep previous a n h = ap
-      (λ b. rows_of_drawn s previous (cond b (a ∷ lines_from (a + 1) n) (lines_from (a + 1) n))) h
+      (λ b. rows_of_drawn s previous (cond b (a ∷ lines_from (a + 1) n) (lines_from (a + 1) n)))
+      h
 
   -- the rows of the lines after the label
   gaps_after : (previous : Option ℕ) (a n : ℕ) → last_line s.file x < a
       → AllByRecursion (Shows layout lane Space) (rows_from previous a n)
   gaps_after previous a zero past = tt
-  gaps_after previous a (suc n) past = by_test (λ w. gaps_after w (a + 1) n (omega arith)) (drawn a)
+  gaps_after previous a (suc n) past = by_test (λ w. gaps_after w (a + 1) n (omega arith))
+      (drawn a)
     where
-      by_test : ((w : Option ℕ) → AllByRecursion (Shows layout lane Space) (rows_from w (a + 1) n))
+      by_test : ((w : Option ℕ)
+          → AllByRecursion (Shows layout lane Space) (rows_from w (a + 1) n))
           → (b : Bool)
           → AllByRecursion (Shows layout lane Space)
           (rows_of_drawn s previous (cond b (a ∷ lines_from (a + 1) n) (lines_from (a + 1) n)))
@@ -159,12 +167,14 @@ module _ (layout : Layout) (s : LabeledFileModel) (lane : ℕ) (x : LabelModel)
       by_test rest false = rest previous
 
   -- the rows of the lines from one after the label's first on
-  finishes_from : (previous : Option ℕ) (a n : ℕ) → first_line s.file x < a → a ≤ last_line s.file x
+  finishes_from : (previous : Option ℕ) (a n : ℕ) → first_line s.file x < a
+      → a ≤ last_line s.file x
       → last_line s.file x < a + n → drawn (last_line s.file x) ≡ true
       → Finishes layout lane (rows_from previous a n)
   finishes_from previous a zero low high inside end = absurd (omega arith)
   finishes_from previous a (suc n) low high inside end =
-      by_test (λ w further. finishes_from w (a + 1) n (omega arith) (omega arith) (omega arith) end)
+      by_test
+      (λ w further. finishes_from w (a + 1) n (omega arith) (omega arith) (omega arith) end)
       (drawn a) refl
     where
       by_test : ((w : Option ℕ) → a < last_line s.file x
@@ -259,7 +269,8 @@ module _ (layout : Layout) (s : LabeledFileModel) (lane : ℕ) (x : LabelModel)
 -- ---- the file
 
 -- two bytes are on different lines only where there are lines
-has_line : (starts : List ℕ) (a b : ℕ) → line_of starts a < line_of starts b → 0 < length starts
+has_line : (starts : List ℕ) (a b : ℕ) → line_of starts a < line_of starts b
+    → 0 < length starts
 unfolding line_of
 has_line starts a b h = omega (arith, count_by-le-length (λ s. nat_le s b) starts)
 

@@ -1,8 +1,9 @@
 -- For `lanes_join_corners`: the lane mark of a label among those of a line, and what it is by the
 -- line.
-use Rattle.codespan_core.proofs.Std.{◌≡◌, ℕ, zero, suc, ◌+◌, ◌<◌, ◌≤◌, true, false, ◌&&◌, ◌==◌}
-use Rattle.codespan_core.proofs.Std.{nat_lt, List, [], ◌∷◌, Option, Some, None, slice_get, ap, ◌∙◌}
-use Rattle.codespan_core.proofs.Std.{arith, if◌then◌else◌, cons_option, AllByRecursion, nat_tests}
+use Rattle.codespan_core.proofs.Std.{◌≡◌, ℕ, zero, suc, ◌+◌, ◌<◌, ◌≤◌, true}
+use Rattle.codespan_core.proofs.Std.{false, ◌&&◌, ◌==◌, nat_lt, List, [], ◌∷◌, Option}
+use Rattle.codespan_core.proofs.Std.{Some, None, slice_get, ap, ◌∙◌, arith}
+use Rattle.codespan_core.proofs.Std.{if◌then◌else◌, cons_option, AllByRecursion, nat_tests}
 use Rattle.codespan_core.specs.FileModel.{FileModel}
 use Rattle.codespan_core.specs.Labels.{LabelModel, multi_label_on, lane_mark_of, LaneMark}
 use Rattle.codespan_core.specs.Labels.{MultiLabel, Left}
@@ -13,7 +14,8 @@ use Rattle.codespan_output.proofs.ListElements.{all-weaker}
 
 -- ---- the multi-line label marks of a line in their order
 
-each_lane_mark : (P : LaneMark → Type 0) (n : ℕ) (x : LabelModel) (multi_label : Option MultiLabel)
+each_lane_mark : (P : LaneMark → Type 0) (n : ℕ) (x : LabelModel)
+    (multi_label : Option MultiLabel)
     (lane_marks : List LaneMark)
     → ((p : MultiLabel) → P (lane_mark_with n x.style p)) → AllByRecursion P lane_marks
     → AllByRecursion P (cons_option (lane_mark_of n x multi_label) lane_marks)

@@ -1,7 +1,8 @@
 -- For `outputs_are_utf8`: the streams of lanes and of their characters are texts.
-use Rattle.codespan_core.proofs.Std.{◌≡◌, ℕ, ◌+◌, Bool, true, false, ◌&&◌, ◌==◌, List, [], ◌∷◌}
-use Rattle.codespan_core.proofs.Std.{Option, Some, None, refl, if◌then◌else◌, IfSome, IsScalar}
-use Rattle.codespan_core.proofs.Std.{len_utf8, AllByRecursion, IsUtf8, chars}
+use Rattle.codespan_core.proofs.Std.{◌≡◌, ℕ, ◌+◌, Bool, true, false, ◌&&◌, ◌==◌}
+use Rattle.codespan_core.proofs.Std.{List, [], ◌∷◌, Option, Some, None, refl}
+use Rattle.codespan_core.proofs.Std.{if◌then◌else◌, IfSome, IsScalar, len_utf8}
+use Rattle.codespan_core.proofs.Std.{AllByRecursion, IsUtf8, chars}
 use Rattle.std.specs.Str.{all_scalars}
 use Rattle.std.proofs.Math.Utf8.{scalar}
 use Rattle.std.proofs.lemmas.Str.{scalars-chars}
@@ -77,10 +78,12 @@ and_true false b e = absurd (cc)
 
 -- the characters of a line are Unicode scalar values where those of its text are
 scalar-metrics_then : (after : ℕ → ℕ → List Metrics) (tab : ℕ)
-    → ((p k : ℕ) → AllByRecursion (λ (c : Metrics). IsScalar c.ch) (after p k)) → (cs : List ℕ)
+    → ((p k : ℕ) → AllByRecursion (λ (c : Metrics). IsScalar c.ch) (after p k))
+    → (cs : List ℕ)
     → all_scalars cs ≡ true
     → (byte_index column : ℕ)
-    → AllByRecursion (λ (c : Metrics). IsScalar c.ch) (metrics_then after tab byte_index column cs)
+    → AllByRecursion (λ (c : Metrics). IsScalar c.ch)
+    (metrics_then after tab byte_index column cs)
 scalar-metrics_then after tab h [] e byte_index column = h byte_index column
 scalar-metrics_then after tab h (c ∷ cs) e byte_index column =
     let both = and_true (scalar c) (all_scalars cs) e in (

@@ -1,6 +1,7 @@
 -- For `lanes_are_shown`: what a row shows in each lane is what its stream has there.
-use Rattle.codespan_core.proofs.Std.{◌≡◌, ℕ, [], ◌++◌, flat_map, Option, None, refl, sym, ap, subst}
-use Rattle.codespan_core.proofs.Std.{◌∙◌, append-nil, append_assoc, range_with_len}
+use Rattle.codespan_core.proofs.Std.{◌≡◌, ℕ, [], ◌++◌, flat_map, Option, None, refl}
+use Rattle.codespan_core.proofs.Std.{sym, ap, subst, ◌∙◌, append-nil, append_assoc}
+use Rattle.codespan_core.proofs.Std.{range_with_len}
 use Rattle.std.proofs.lemmas.Option.{none-some, same_Some}
 use Rattle.codespan_core.specs.Labels.{LabelModel, LaneMark, MultiLabel}
 use Rattle.codespan_core.specs.Streams.{Stream, style_mark, space}
@@ -25,7 +26,8 @@ use Rattle.codespan_output.specs.Rows.{Lanes}
 -- ---- lanes
 
 -- the two characters of each lane, from left to right, from the multi-line label marks in them
-lanes_are : (context : RowContext) (crossing : ℕ → Option LaneMark) (shape : ℕ → MultiLabel → Shape)
+lanes_are : (context : RowContext) (crossing : ℕ → Option LaneMark)
+    (shape : ℕ → MultiLabel → Shape)
     (lanes : Lanes)
     → lanes_in context crossing shape lanes
     ≡ flat_map
@@ -55,7 +57,8 @@ more : (before lanes whole : Stream) → Starts before lanes whole → (rest : S
     → Starts before lanes (whole ++ rest)
 more before lanes whole starts rest = record {
   after = starts.after ++ rest;
-  is = ap (λ (s : Stream). s ++ rest) starts.is ∙ append_assoc (before ++ lanes) starts.after rest;
+  is = ap (λ (s : Stream). s ++ rest) starts.is
+      ∙ append_assoc (before ++ lanes) starts.after rest;
 }
 
 -- a row whose stream begins with them
@@ -116,7 +119,8 @@ break_shows context lanes =
     (alone (outer_gutter context.padding ++ border_left_break context.chars) _ _
     (plain_are context lanes))
 
-source_shows : (context : RowContext) (line : Line) → ShowsLanes context (SourceRow line) line.lanes
+source_shows : (context : RowContext) (line : Line)
+    → ShowsLanes context (SourceRow line) line.lanes
 unfolding source_row
 source_shows context line =
     shows context (SourceRow line) line.lanes

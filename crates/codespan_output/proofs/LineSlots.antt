@@ -1,9 +1,10 @@
 -- For `messages_appear_once`: sums over the rows of a line, for the slots of each label's message.
-use Rattle.codespan_core.proofs.Std.{◌≡◌, ℕ, ◌+◌, ◌-◌, Bool, true, false, not, cond, ◌&&◌, ◌==◌}
-use Rattle.codespan_core.proofs.Std.{nat_lt, List, [], ◌∷◌, ◌++◌, map, filter, filter_map, reverse}
-use Rattle.codespan_core.proofs.Std.{Option, Some, None, if◌then◌else◌, refl, sym, ap, ◌∙◌, arith}
-use Rattle.codespan_core.proofs.Std.{sum_by, flat_map, enumerate_from, cons_option, nat_tests}
-use Rattle.codespan_core.proofs.Std.{sum_by-cons, sum_by-append, sum_by-IsPermutation}
+use Rattle.codespan_core.proofs.Std.{◌≡◌, ℕ, ◌+◌, ◌-◌, Bool, true, false, not, cond}
+use Rattle.codespan_core.proofs.Std.{◌&&◌, ◌==◌, nat_lt, List, [], ◌∷◌, ◌++◌, map}
+use Rattle.codespan_core.proofs.Std.{filter, filter_map, reverse, Option, Some, None}
+use Rattle.codespan_core.proofs.Std.{if◌then◌else◌, refl, sym, ap, ◌∙◌, arith, sum_by}
+use Rattle.codespan_core.proofs.Std.{flat_map, enumerate_from, cons_option, nat_tests, sum_by-cons}
+use Rattle.codespan_core.proofs.Std.{sum_by-append, sum_by-IsPermutation}
 use Rattle.std.proofs.lemmas.List.Sorted.{IsPermutation-reverse}
 use Rattle.codespan_core.specs.FileModel.{FileModel, line_start}
 use Rattle.codespan_core.specs.Streams.{Stream}
@@ -27,7 +28,8 @@ sum-ext f g h [] = refl
 sum-ext f g h (x ∷ xs) =
     omega (arith, sum_by-cons f x xs, sum_by-cons g x xs, h x, sum-ext f g h xs)
 
-pub sum-zero : {X : Type 0} (f : X → ℕ) → ((x : X) → f x ≡ 0) → (xs : List X) → sum_by f xs ≡ 0
+pub sum-zero : {X : Type 0} (f : X → ℕ) → ((x : X) → f x ≡ 0) → (xs : List X)
+    → sum_by f xs ≡ 0
 sum-zero f h [] = refl
 sum-zero f h (x ∷ xs) = omega (arith, sum_by-cons f x xs, h x, sum-zero f h xs)
 
@@ -54,8 +56,10 @@ pub sum-filter : {X : Type 0} (g : X → ℕ) (p : X → Bool) (xs : List X)
 sum-filter g p [] = refl
 sum-filter g p (x ∷ xs) = by_test (sum-filter g p xs) (p x) refl
   where
-    by_test : sum_by g (filter p xs) ≡ sum_by (λ x. cond (p x) (g x) 0) xs → (b : Bool) → p x ≡ b
-        → sum_by g (cond b (x ∷ filter p xs) (filter p xs)) ≡ sum_by (λ x. cond (p x) (g x) 0)
+    by_test : sum_by g (filter p xs) ≡ sum_by (λ x. cond (p x) (g x) 0) xs → (b : Bool)
+        → p x ≡ b
+        → sum_by g (cond b (x ∷ filter p xs) (filter p xs))
+        ≡ sum_by (λ x. cond (p x) (g x) 0)
         (x ∷ xs)
     by_test rest true is =
         let e = ap {B = ℕ} (λ b. cond b (g x) 0) is in
@@ -71,7 +75,8 @@ sum-filter g p (x ∷ xs) = by_test (sum-filter g p xs) (p x) refl
         omega (arith, rest, e, sum_by-cons (λ x. cond (p x) (g x) 0) x xs)
 
 -- a filter does not change the sum where all that it drops counts 0
-pub sum-filter_free : {X : Type 0} (g : X → ℕ) (p : X → Bool) → ((x : X) → p x ≡ false → g x ≡ 0)
+pub sum-filter_free : {X : Type 0} (g : X → ℕ) (p : X → Bool)
+    → ((x : X) → p x ≡ false → g x ≡ 0)
     → (xs : List X) → sum_by g (filter p xs) ≡ sum_by g xs
 sum-filter_free g p h xs =
     sum-filter g p xs ∙ sum-ext (λ x. cond (p x) (g x) 0) g (λ x. one (p x) (g x) (h x)) xs
@@ -80,10 +85,12 @@ sum-filter_free g p h xs =
     one true n h = refl
     one false n h = sym (h refl)
 
-pub sum-reverse : {X : Type 0} (g : X → ℕ) (xs : List X) → sum_by g (reverse xs) ≡ sum_by g xs
+pub sum-reverse : {X : Type 0} (g : X → ℕ) (xs : List X)
+    → sum_by g (reverse xs) ≡ sum_by g xs
 sum-reverse g xs = sum_by-IsPermutation g xs (reverse xs) (IsPermutation-reverse xs)
 
-pub sum-flat_map_zero : {X Y : Type 0} (g : Y → ℕ) (f : X → List Y) → ((x : X) → sum_by g (f x) ≡ 0)
+pub sum-flat_map_zero : {X Y : Type 0} (g : Y → ℕ) (f : X → List Y)
+    → ((x : X) → sum_by g (f x) ≡ 0)
     → (xs : List X) → sum_by g (flat_map f xs) ≡ 0
 sum-flat_map_zero g f h [] = refl
 sum-flat_map_zero g f h (x ∷ xs) =
@@ -126,7 +133,8 @@ caret_sum k line (x ∷ xs) h =
     omega (arith, e, sum_by-cons (row_slots k) (CaretRow line) [])
 
 hanging_sum : (k : ℕ) (line : Line) (labels : List LabelModel)
-    → sum_by (row_slots k) (pointer_and_hanging_rows line labels) ≡ sum_by (label_slots k) labels
+    → sum_by (row_slots k) (pointer_and_hanging_rows line labels)
+    ≡ sum_by (label_slots k) labels
 hanging_sum k line [] = refl
 hanging_sum k line (x ∷ xs) =
     omega (
@@ -143,7 +151,8 @@ no_underline k leading Left h = refl
 no_underline k leading (Bottom end message) h = cc
 
 underline_sum : (k : ℕ) (line : Line)
-    → sum_by (row_slots k) (underline_rows line) ≡ sum_by (lane_mark_slots k) line.lanes.lane_marks
+    → sum_by (row_slots k) (underline_rows line)
+    ≡ sum_by (lane_mark_slots k) line.lanes.lane_marks
 underline_sum k line =
     sum-map (row_slots k) (UnderlineRow line)
     (filter (λ (m : LaneMark). has_underline (leading_whitespace line.text) m.multi_label)
@@ -178,12 +187,14 @@ sum-insert_sorted g x [] = omega (arith, sum_by-cons g x [])
 sum-insert_sorted g x (y ∷ ys) = by_test (sum-insert_sorted g x ys) (range_precedes y x)
   where
     by_test : sum_by g (insert_sorted x ys) ≡ g x + sum_by g ys → (b : Bool)
-        → sum_by g (if b then y ∷ insert_sorted x ys else x ∷ y ∷ ys) ≡ g x + sum_by g (y ∷ ys)
+        → sum_by g (if b then y ∷ insert_sorted x ys else x ∷ y ∷ ys)
+        ≡ g x + sum_by g (y ∷ ys)
     by_test rest true =
         omega (arith, rest, sum_by-cons g y (insert_sorted x ys), sum_by-cons g y ys)
     by_test rest false = sum_by-cons g x (y ∷ ys)
 
-pub sum-sorted : (g : LabelModel → ℕ) (xs : List LabelModel) → sum_by g (sorted xs) ≡ sum_by g xs
+pub sum-sorted : (g : LabelModel → ℕ) (xs : List LabelModel)
+    → sum_by g (sorted xs) ≡ sum_by g xs
 sum-sorted g [] = refl
 sum-sorted g (x ∷ xs) =
     omega (arith, sum-insert_sorted g x (sorted xs), sum-sorted g xs, sum_by-cons g x xs)
@@ -224,7 +235,8 @@ lane_mark_sum k f l n (x ∷ xs) =
     omega (
       arith,
       cons_lane_mark k n x (multi_label_on f l x) (filter_map
-          (λ (entry : ℕ × LabelModel). lane_mark_of entry.0 entry.1 (multi_label_on f l entry.1))
+          (λ (entry : ℕ × LabelModel). lane_mark_of entry.0 entry.1
+          (multi_label_on f l entry.1))
           (enumerate_from (n + 1) xs)),
       lane_mark_sum k f l (n + 1) xs,
       sum_by-cons (λ x. any_multi_label_slots k (multi_label_on f l x)) x xs,

@@ -1,8 +1,8 @@
 -- For `lanes_join_corners`, `reordering_changes_nothing` and `outputs_are_utf8`: what holds of each
 -- element of a list.
-use Rattle.codespan_core.proofs.Std.{◌≡◌, ℕ, zero, suc, Bool, true, false, ◌&&◌, ◌||◌, cond, List}
-use Rattle.codespan_core.proofs.Std.{[], ◌∷◌, ◌++◌, take, drop, map, filter, refl, ap}
-use Rattle.codespan_core.proofs.Std.{AllByRecursion, list_any, cond_both}
+use Rattle.codespan_core.proofs.Std.{◌≡◌, ℕ, zero, suc, Bool, true, false, ◌&&◌}
+use Rattle.codespan_core.proofs.Std.{◌||◌, cond, List, [], ◌∷◌, ◌++◌, take, drop, map}
+use Rattle.codespan_core.proofs.Std.{filter, refl, ap, AllByRecursion, list_any, cond_both}
 
 -- ---- what holds of each element
 
@@ -13,7 +13,8 @@ all-weaker P Q f [] h = tt
 all-weaker P Q f (x ∷ xs) h = (f x h.0, all-weaker P Q f xs h.1)
 
 -- it holds of what a filter keeps
-pub all-filter : {X : Type 0} (P : X → Type 0) (p : X → Bool) (xs : List X) → AllByRecursion P xs
+pub all-filter : {X : Type 0} (P : X → Type 0) (p : X → Bool) (xs : List X)
+    → AllByRecursion P xs
     → AllByRecursion P (filter p xs)
 all-filter P p [] h = tt
 all-filter P p (x ∷ xs) h =
@@ -66,7 +67,8 @@ all-pass p (x ∷ xs) =
     (λ t. (t, all-pass p xs)) (λ _. all-pass p xs)
 
 -- a filter keeps everything where everything passes
-pub filter-whole : {X : Type 0} (p : X → Bool) (xs : List X) → AllByRecursion (λ x. p x ≡ true) xs
+pub filter-whole : {X : Type 0} (p : X → Bool) (xs : List X)
+    → AllByRecursion (λ x. p x ≡ true) xs
     → filter p xs ≡ xs
 filter-whole p [] h = refl
 filter-whole p (x ∷ xs) h = let r = filter-whole p xs h.1 in rw (h.0, r) refl
@@ -78,7 +80,8 @@ filter-nothing p [] h = refl
 filter-nothing p (x ∷ xs) h = rw h.0 (filter-nothing p xs h.1)
 
 -- nothing passes a test that each fails
-pub any-nothing : {X : Type 0} (p : X → Bool) (xs : List X) → AllByRecursion (λ x. p x ≡ false) xs
+pub any-nothing : {X : Type 0} (p : X → Bool) (xs : List X)
+    → AllByRecursion (λ x. p x ≡ false) xs
     → list_any p xs ≡ false
 any-nothing p [] h = refl
 any-nothing p (x ∷ xs) h = rw h.0 (any-nothing p xs h.1)
@@ -103,6 +106,7 @@ any-filtered p q (x ∷ xs) = by_test (q x) (any-filtered p q xs)
   where
     by_test : (b : Bool) → list_any p (filter q xs) ≡ list_any (λ y. q y && p y) xs
         → list_any p
-        (cond b (x ∷ filter q xs) (filter q xs)) ≡ ((b && p x) || list_any (λ y. q y && p y) xs)
+        (cond b (x ∷ filter q xs) (filter q xs))
+        ≡ ((b && p x) || list_any (λ y. q y && p y) xs)
     by_test true rest = ap (λ b. p x || b) rest
     by_test false rest = rest

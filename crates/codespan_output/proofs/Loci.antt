@@ -1,17 +1,17 @@
 -- For `stated_loci_are_loci`: lists of loci, and those with the names that files state.
-use Rattle.codespan_core.proofs.Std.{◌≡◌, ℕ, suc, Bool, List, [], ◌∷◌, ◌++◌, Option, Some, None}
-use Rattle.codespan_core.proofs.Std.{length, map, not, refl, sym, ap, true≢false, Contains, IfSome}
-use Rattle.codespan_core.proofs.Std.{unwrap_or, AllByRecursion, AllZip, IsUtf8, recursion_from_All}
-use Rattle.codespan_core.proofs.Std.{IsUtf8-nil}
+use Rattle.codespan_core.proofs.Std.{◌≡◌, ℕ, suc, Bool, List, [], ◌∷◌, ◌++◌}
+use Rattle.codespan_core.proofs.Std.{Option, Some, None, length, map, not, refl, sym, ap}
+use Rattle.codespan_core.proofs.Std.{true≢false, Contains, IfSome, unwrap_or, AllByRecursion}
+use Rattle.codespan_core.proofs.Std.{AllZip, IsUtf8, recursion_from_All, IsUtf8-nil}
 use Rattle.std.specs.Prelude.{IsSome}
 use Rattle.std.proofs.lemmas.List.Elements.{All-contains_itself, All-weaker}
 use Rattle.codespan_core.specs.FileModel.{FileDatabase, FileModel}
 use Rattle.codespan_core.specs.Labels.{first_seen, is_primary}
 use Rattle.codespan_output.specs.Types.{DisplayStyle, Rich, Medium, Short, Diagnostic}
 use Rattle.codespan_output.specs.{AreLoci, IsLocus, NamesAreUtf8, label_locus_byte, labels_of}
-use Rattle.codespan_output.specs.{snippet_locus_byte, locus_bytes, stated_loci, stated_locus}
-use Rattle.codespan_output.specs.{Locus, LabelInFile, LabeledFileModel, file_ids}
-use Rattle.codespan_output.specs.{labeled_file_model, labeled_file_models, primary_of}
+use Rattle.codespan_output.specs.{snippet_locus_byte, locus_bytes, stated_loci, stated_locus, Locus}
+use Rattle.codespan_output.specs.{LabelInFile, LabeledFileModel, file_ids, labeled_file_model}
+use Rattle.codespan_output.specs.{labeled_file_models, primary_of}
 use Rattle.codespan_output.proofs.LaneLineLemmas.{each_map}
 use Rattle.codespan_output.proofs.ListElements.{all-filter}
 
@@ -28,7 +28,8 @@ shown_is_text None h = IsUtf8-nil
 shown_is_text (Some stated) h = h
 
 -- a name that is stated
-stated_name : (o : Option (List ℕ)) (name : List ℕ) → IfSome o (λ stated. name ≡ stated) → IsSome o
+stated_name : (o : Option (List ℕ)) (name : List ℕ) → IfSome o (λ stated. name ≡ stated)
+    → IsSome o
     → name ≡ unwrap_or o []
 stated_name None name is some = absurd (true≢false (sym some))
 stated_name (Some stated) name is some = is
@@ -49,7 +50,8 @@ module _ {X : Type 0} where
   zip_weaker R S by (x ∷ xs) (p ∷ ps) h = (by x p h.0, zip_weaker R S by xs ps h.1)
 
   -- the locus that a function has for each element
-  pub zip_each : (R : X → Locus → Type 0) (to_locus : X → Locus) → ((x : X) → R x (to_locus x))
+  pub zip_each : (R : X → Locus → Type 0) (to_locus : X → Locus)
+      → ((x : X) → R x (to_locus x))
       → (xs : List X) → AllZip R xs (map to_locus xs)
   zip_each R to_locus by [] = tt
   zip_each R to_locus by (x ∷ xs) = (by x, zip_each R to_locus by xs)
@@ -63,7 +65,8 @@ module _ {X : Type 0} where
   zip_length R (x ∷ xs) (p ∷ ps) h = ap (λ n. suc n) (zip_length R xs ps h.1)
 
   -- one list of them after another
-  pub zip_append : (R : X → Locus → Type 0) (xs ys : List X) (ps qs : List Locus) → AllZip R xs ps
+  pub zip_append : (R : X → Locus → Type 0) (xs ys : List X) (ps qs : List Locus)
+      → AllZip R xs ps
       → AllZip R ys qs → AllZip R (xs ++ ys) (ps ++ qs)
   zip_append R [] ys [] qs h k = k
   zip_append R [] ys (p ∷ ps) qs h k = absurd h
@@ -71,7 +74,8 @@ module _ {X : Type 0} where
   zip_append R (x ∷ xs) ys (p ∷ ps) qs h k = (h.0, zip_append R xs ys ps qs h.1 k)
 
   -- loci of the images of a list
-  pub zip_map : {Y : Type 0} (R : Y → Locus → Type 0) (f : X → Y) (xs : List X) (ps : List Locus)
+  pub zip_map : {Y : Type 0} (R : Y → Locus → Type 0) (f : X → Y) (xs : List X)
+      (ps : List Locus)
       → AllZip (λ x p. R (f x) p) xs ps → AllZip R (map f xs) ps
   zip_map R f [] [] h = tt
   zip_map R f [] (p ∷ ps) h = absurd h
@@ -88,7 +92,8 @@ module _ {X : Type 0} where
 
 -- the loci of files that state their names are those with these names
 pub zip_stated : (ats : List (FileModel × ℕ)) (ps : List Locus) → AllZip IsLocus ats ps
-    → AllByRecursion (λ (at : FileModel × ℕ). IsSome at.0.name) ats → ps ≡ map stated_locus ats
+    → AllByRecursion (λ (at : FileModel × ℕ). IsSome at.0.name) ats
+    → ps ≡ map stated_locus ats
 zip_stated [] [] h k = refl
 zip_stated [] (p ∷ ps) h k = absurd h
 zip_stated (at ∷ ats) [] h k = absurd h
@@ -116,10 +121,14 @@ each_of P xs h = recursion_from_All P xs (All-weaker (Contains xs) P h xs (All-c
 seen-each : {Id : Type 0} (P : Id → Type 0) (same : Id → Id → Bool) (js : List Id)
     → AllByRecursion P js → AllByRecursion P (first_seen same js)
 seen-each P same [] h = tt
-seen-each P same (j ∷ js) h =
-    (h.0, all-filter P (λ other. not (same j other)) (first_seen same js) (seen-each P same js h.1))
+seen-each P same (j ∷ js) h = (
+  h.0,
+  all-filter P (λ other. not (same j other)) (first_seen same js)
+      (seen-each P same js h.1),
+)
 
-module _ {Id : Type 0} (same : Id → Id → Bool) (file : Id → FileModel) (xs : List (LabelInFile Id))
+module _ {Id : Type 0} (same : Id → Id → Bool) (file : Id → FileModel)
+    (xs : List (LabelInFile Id))
     (P : FileModel → Type 0)
     (each : AllByRecursion (λ (x : LabelInFile Id). P (file x.file_id)) xs) where
   each_primary : AllByRecursion (λ (x : LabelInFile Id). P (file x.file_id)) (primary_of xs)
@@ -128,7 +137,8 @@ module _ {Id : Type 0} (same : Id → Id → Bool) (file : Id → FileModel) (xs
       (λ (x : LabelInFile Id). is_primary x.label) xs
       each
 
-  each_file : AllByRecursion (λ (s : LabeledFileModel). P s.file) (labeled_file_models same file xs)
+  each_file : AllByRecursion (λ (s : LabeledFileModel). P s.file)
+      (labeled_file_models same file xs)
   each_file =
       each_map (λ (s : LabeledFileModel). P s.file) (labeled_file_model same file xs)
       (file_ids same xs)

@@ -1,9 +1,9 @@
 -- For `each_message_trails_or_hangs`: each label with a message trails or hangs, and none does
 -- both.
-use Rattle.codespan_core.proofs.Std.{◌≡◌, ℕ, ◌+◌, Bool, true, false, cond, List, [], ◌∷◌, ◌++◌}
-use Rattle.codespan_core.proofs.Std.{filter, sum_by, Option, Some, None, if◌then◌else◌, refl, ap}
-use Rattle.codespan_core.proofs.Std.{ap₂, sym, not, ◌∙◌, arith, and_parts, filter-append}
-use Rattle.codespan_core.proofs.Std.{sum_by-cons, sum_by-append}
+use Rattle.codespan_core.proofs.Std.{◌≡◌, ℕ, ◌+◌, Bool, true, false, cond, List, []}
+use Rattle.codespan_core.proofs.Std.{◌∷◌, ◌++◌, filter, sum_by, Option, Some, None}
+use Rattle.codespan_core.proofs.Std.{if◌then◌else◌, refl, ap, ap₂, sym, not, ◌∙◌}
+use Rattle.codespan_core.proofs.Std.{arith, and_parts, filter-append, sum_by-cons, sum_by-append}
 use Rattle.codespan_core.specs.Labels.{LabelModel, has_message}
 use Rattle.codespan_output.specs.{max_label_end, TrailsOrHangs, with_first, overlaps_any}
 use Rattle.codespan_output.specs.{trailing_label, hanging_labels}
@@ -23,7 +23,8 @@ trails_or_hangs (x ∷ xs) = by_rightmost (around_rightmost (x ∷ xs)) refl
     by_test : (a : Around) → a.before ++ (a.here ∷ a.after) ≡ x ∷ xs → (b : Bool)
         → around_trails a ≡ b
         → trailing_label (x ∷ xs) ≡ (if b then Some a.here else None)
-        → hanging_labels (x ∷ xs) ≡ with (if b then others a else x ∷ xs) → TrailsOrHangs (x ∷ xs)
+        → hanging_labels (x ∷ xs) ≡ with (if b then others a else x ∷ xs)
+        → TrailsOrHangs (x ∷ xs)
     by_test a whole true is trails hangs =
         let has_one : has_message a.here ≡ true =
         (and_parts (has_message a.here) (not (overlaps_any a.here (others a))) is).0 in
@@ -45,7 +46,8 @@ trails_or_hangs (x ∷ xs) = by_rightmost (around_rightmost (x ∷ xs)) refl
       with_message = ap (λ o. with_first o (with (x ∷ xs))) (sym trails);
     }
 
-    by_rightmost : (r : Option Around) → around_rightmost (x ∷ xs) ≡ r → TrailsOrHangs (x ∷ xs)
+    by_rightmost : (r : Option Around) → around_rightmost (x ∷ xs) ≡ r
+        → TrailsOrHangs (x ∷ xs)
     by_rightmost None none = absurd (some_rightmost x xs none)
     by_rightmost (Some a) is =
         by_test a (around_is (max_label_end (x ∷ xs)) (x ∷ xs) a is) (around_trails a) refl
@@ -61,13 +63,15 @@ weight_of weight (Some x) = weight x
 
 module _ (weight : LabelModel → ℕ)
     (only_messages : (x : LabelModel) → has_message x ≡ false → weight x ≡ 0) where
-  sum_of-filter : (xs : List LabelModel) → sum_by weight (filter has_message xs) ≡ sum_by weight xs
+  sum_of-filter : (xs : List LabelModel)
+      → sum_by weight (filter has_message xs) ≡ sum_by weight xs
   sum_of-filter [] = refl
   sum_of-filter (x ∷ xs) = by_test (sum_of-filter xs) (has_message x) refl
     where
       by_test : sum_by weight (filter has_message xs) ≡ sum_by weight xs → (b : Bool)
           → has_message x ≡ b
-          → sum_by weight (cond b (x ∷ filter has_message xs) (filter has_message xs)) ≡ sum_by
+          → sum_by weight (cond b (x ∷ filter has_message xs) (filter has_message xs))
+          ≡ sum_by
           weight (x ∷ xs)
       by_test rest true is =
           omega (arith, rest, sum_by-cons weight x (filter has_message xs), sum_by-cons weight x xs)
@@ -76,11 +80,13 @@ module _ (weight : LabelModel → ℕ)
   -- where a label without a message has the weight 0, the trailing label and the hanging ones have
   -- the weight of all labels
   pub trailing_and_hanging : (labels : List LabelModel)
-      → weight_of weight (trailing_label labels) + sum_by weight (hanging_labels labels) ≡ sum_by
+      → weight_of weight (trailing_label labels) + sum_by weight (hanging_labels labels)
+      ≡ sum_by
       weight labels
   trailing_and_hanging [] = refl
   trailing_and_hanging (x ∷ xs) =
-      ap₂ (λ t h. weight_of weight t + sum_by weight h) (trailing_is (x ∷ xs)) (hanging_is (x ∷ xs))
+      ap₂ (λ t h. weight_of weight t + sum_by weight h) (trailing_is (x ∷ xs))
+      (hanging_is (x ∷ xs))
       ∙ by_rightmost (around_rightmost (x ∷ xs)) refl
     where
       by_test : (a : Around) → a.before ++ (a.here ∷ a.after) ≡ x ∷ xs → (b : Bool)
@@ -99,7 +105,8 @@ module _ (weight : LabelModel → ℕ)
       by_test a whole false = omega (arith, sum_of-filter (x ∷ xs))
 
       by_rightmost : (r : Option Around) → around_rightmost (x ∷ xs) ≡ r
-          → weight_of weight (trailing_of r) + sum_by weight (hanging_of (x ∷ xs) r) ≡ sum_by weight
+          → weight_of weight (trailing_of r) + sum_by weight (hanging_of (x ∷ xs) r)
+          ≡ sum_by weight
           (x ∷ xs)
       by_rightmost None none = absurd (some_rightmost x xs none)
       by_rightmost (Some a) is =

@@ -1,8 +1,9 @@
 -- For `messages_appear_once`: each label's message has one slot, and with the slots filled the
 -- stream is the output.
-use Rattle.codespan_core.proofs.Std.{◌≡◌, ℕ, zero, suc, ◌+◌, ◌<◌, ◌≤◌, Bool, true, false, not, cond}
-use Rattle.codespan_core.proofs.Std.{◌==◌, List, [], ◌∷◌, length, map, filter, Option, Some, None}
-use Rattle.codespan_core.proofs.Std.{option_map, slice_get, if◌then◌else◌, refl, sym, ap, ap₂, ◌∙◌}
+use Rattle.codespan_core.proofs.Std.{◌≡◌, ℕ, zero, suc, ◌+◌, ◌<◌, ◌≤◌, Bool}
+use Rattle.codespan_core.proofs.Std.{true, false, not, cond, ◌==◌, List, [], ◌∷◌, length}
+use Rattle.codespan_core.proofs.Std.{map, filter, Option, Some, None, option_map, slice_get}
+use Rattle.codespan_core.proofs.Std.{if◌then◌else◌, refl, sym, ap, ap₂, ◌∙◌}
 use Rattle.codespan_core.proofs.Std.{append-nil, arith, sum_by, string_bytes, nat_tests}
 use Rattle.codespan_core.proofs.Std.{slice_get-map, sum_by-cons, IsEquivalence, option_map_or}
 use Rattle.codespan_core.proofs.Std.{AllZip, length-map}
@@ -51,7 +52,8 @@ snippet_zero k config s none =
           ls,
     )
 
-files_zero : {Id : Type 0} (k : ℕ) (config : Config) (same : Id → Id → Bool) (file : Id → FileModel)
+files_zero : {Id : Type 0} (k : ℕ) (config : Config) (same : Id → Id → Bool)
+    (file : Id → FileModel)
     (xs : List (LabelInFile Id))
     → sum_by (λ (x : LabelInFile Id). label_slots k x.label) xs ≡ 0
     → sum_by (file_slots k config) (labeled_file_models same file xs) ≡ 0
@@ -70,7 +72,8 @@ files_zero {Id = Id} k config same file xs none =
               (filter (λ (x : LabelInFile Id). same id x.file_id) xs),
           sum-filter (λ (x : LabelInFile Id). label_slots k x.label)
               (λ (x : LabelInFile Id). same id x.file_id) xs,
-          sum_by-le-sum_by (λ (x : LabelInFile Id). cond (same id x.file_id) (label_slots k x.label)
+          sum_by-le-sum_by
+              (λ (x : LabelInFile Id). cond (same id x.file_id) (label_slots k x.label)
               0)
               (λ (x : LabelInFile Id). label_slots k x.label) xs
               (λ x. at_most (same id x.file_id) (label_slots k x.label)),
@@ -130,14 +133,16 @@ full xs k = by_text (message_text xs k)
     by_text [] = refl
     by_text (b ∷ bs) = refl
 
-no_text : (x : LabelModel) → x.message ≡ byte_stream (text_of x.message) → text_of x.message ≡ []
+no_text : (x : LabelModel) → x.message ≡ byte_stream (text_of x.message)
+    → text_of x.message ≡ []
     → ◌≡◌ {A = ℕ} (if has_message x then 1 else 0) 0
 unfolding byte_stream
 no_text x is none =
     let e : x.message ≡ [] = is ∙ ap byte_stream none in
     ap {B = ℕ} (λ s. if not (is_empty_stream s) then 1 else 0) e
 
-unnamed : {Id : Type 0} (xs : List (LabelInFile Id)) → IsPlain xs → (k : ℕ) → message_text xs k ≡ []
+unnamed : {Id : Type 0} (xs : List (LabelInFile Id)) → IsPlain xs → (k : ℕ)
+    → message_text xs k ≡ []
     → slotted_sum k (slotted_from k 0 xs) ≡ 0
 unnamed {Id = Id} xs plain k none = by_label (slice_get xs k) refl none
   where
@@ -145,14 +150,17 @@ unnamed {Id = Id} xs plain k none = by_label (slice_get xs k) refl none
         → option_map_or (λ (y : LabelInFile Id). text_of y.label.message) o [] ≡ []
         → slotted_sum k (slotted_from k 0 xs) ≡ 0
     by_label None at e = none_here k 0 k xs (omega arith) at
-    by_label (Some x) at e = one_here k 0 k xs x (omega arith) at ∙ no_text x.label (plain k x at) e
+    by_label (Some x) at e = one_here k 0 k xs x (omega arith) at
+        ∙ no_text x.label (plain k x at) e
 
-refill_one : (m : ℕ → List ℕ) (k : ℕ) (t : List ℕ) (message : Stream) → message ≡ byte_stream t
+refill_one : (m : ℕ → List ℕ) (k : ℕ) (t : List ℕ) (message : Stream)
+    → message ≡ byte_stream t
     → m k ≡ nonempty t
     → fill m (if is_empty_stream message then [] else Slot k ∷ []) ≡ message
 unfolding fill byte_stream
 refill_one m k [] message is at =
-    ap (λ (s : Stream). with_messages m (if is_empty_stream s then [] else Slot k ∷ [])) is ∙ sym is
+    ap (λ (s : Stream). with_messages m (if is_empty_stream s then [] else Slot k ∷ [])) is
+    ∙ sym is
 refill_one m k (b ∷ bs) message is at =
     ap (λ (s : Stream). with_messages m (if is_empty_stream s then [] else Slot k ∷ [])) is
     ∙ append-nil (map Byte (m k)) ∙ ap (map Byte) at ∙ sym is
@@ -177,7 +185,8 @@ ids_kept k n [] = refl
 ids_kept k n (x ∷ xs) = ap (λ ids. x.file_id ∷ ids) (ids_kept k (n + 1) xs)
 
 -- there are as many loci as files of labels with slots
-as_many : {Id : Type 0} (same : Id → Id → Bool) (file : Id → FileModel) (xs : List (LabelInFile Id))
+as_many : {Id : Type 0} (same : Id → Id → Bool) (file : Id → FileModel)
+    (xs : List (LabelInFile Id))
     (loci : List Locus)
     → AllZip IsLocus (map snippet_locus_byte (labeled_file_models same file xs)) loci
     → length loci ≡ length (labeled_file_models same file (all_slotted xs))
@@ -231,14 +240,16 @@ filled_output {Id = Id} renderer_config view_config same file severity header_te
         (λ j i x e at. refill_one (full_text xs) i (text_of x.label.message) x.label.message
         (plain j x at)
         (ap (λ n. full_text xs n) (sym e ∙ zero_plus j)
-        ∙ ap (λ o. nonempty (option_map_or (λ (y : LabelInFile Id). text_of y.label.message) o []))
+        ∙ ap
+        (λ o. nonempty (option_map_or (λ (y : LabelInFile Id). text_of y.label.message) o []))
         at))
       where
         zero_plus : (j : ℕ) → 0 + j ≡ j
         zero_plus j = omega arith
 
     by_text : (k : ℕ) (t : List ℕ) → message_text xs k ≡ t
-        → 0 < slots k (rendered Rich renderer_config view_config severity header_text loci ss notes)
+        → 0 < slots k
+        (rendered Rich renderer_config view_config severity header_text loci ss notes)
         → message_text xs k ≡ full_text xs k
     by_text k [] e some =
         absurd (omega (

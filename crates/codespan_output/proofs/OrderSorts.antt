@@ -1,10 +1,10 @@
 -- For `sorted_is_stable_sort` and `reordering_changes_nothing`: the order of a line's labels. Only
 -- the order of the labels of each range counts, and is kept.
-use Rattle.codespan_core.proofs.Std.{◌≡◌, ℕ, Bool, true, false, ◌==◌, ◌&&◌, cond, List, [], ◌∷◌}
-use Rattle.codespan_core.proofs.Std.{filter, ⊎_elim, refl, sym, ap, subst, ◌∙◌, arith, cases_Bool}
-use Rattle.codespan_core.proofs.Std.{cond_both, eq-eqb, nat_tests, IsPermutation-refl}
-use Rattle.codespan_core.proofs.Std.{IsPermutation-trans, IsPermutation-cons, IsStrictWeakOrder}
-use Rattle.codespan_core.proofs.Std.{AllByRecursion, IsPermutation}
+use Rattle.codespan_core.proofs.Std.{◌≡◌, ℕ, Bool, true, false, ◌==◌, ◌&&◌, cond}
+use Rattle.codespan_core.proofs.Std.{List, [], ◌∷◌, filter, ⊎_elim, refl, sym, ap, subst}
+use Rattle.codespan_core.proofs.Std.{◌∙◌, arith, cases_Bool, cond_both, eq-eqb, nat_tests}
+use Rattle.codespan_core.proofs.Std.{IsPermutation-refl, IsPermutation-trans, IsPermutation-cons}
+use Rattle.codespan_core.proofs.Std.{IsStrictWeakOrder, AllByRecursion, IsPermutation}
 use Rattle.std.proofs.lemmas.Bool.{both_ways, false_from_ne_true}
 use Rattle.std.proofs.lemmas.List.Sorted.{IsPermutation-insert}
 use Rattle.std.specs.List.Sorted.{IsStableBy, ties}
@@ -32,7 +32,8 @@ not_before_itself x =
     (λ t. both_ways (range_precedes x x) (before_one_way x x t) t)
 
 -- where `x` is not before `y`, and `y` not before `z`, `x` is not before `z`
-before_chain : (x y z : LabelModel) → range_precedes x y ≡ false → range_precedes y z ≡ false
+before_chain : (x y z : LabelModel) → range_precedes x y ≡ false
+    → range_precedes y z ≡ false
     → range_precedes x z ≡ false
 before_chain x y z h k = grind (arith, nat_tests)
 
@@ -51,7 +52,8 @@ apart : (start end : ℕ) (x y : LabelModel) → range_precedes x y ≡ true
 apart start end x y h k = grind (arith, nat_tests)
 
 -- labels of one range are before the same labels
-before_equal : (x y z : LabelModel) → has_range x.start x.end y ≡ true → range_precedes x z ≡ true
+before_equal : (x y z : LabelModel) → has_range x.start x.end y ≡ true
+    → range_precedes x z ≡ true
     → range_precedes y z ≡ true
 before_equal x y z h k = grind (arith, nat_tests)
 
@@ -59,7 +61,8 @@ before_equal x y z h k = grind (arith, nat_tests)
 
 -- of the labels of one range the inserted one is first
 insert_sorted-keeps : (start end : ℕ) (x : LabelModel) (ys : List LabelModel)
-    → filter (has_range start end) (insert_sorted x ys) ≡ filter (has_range start end) (x ∷ ys)
+    → filter (has_range start end) (insert_sorted x ys)
+    ≡ filter (has_range start end) (x ∷ ys)
 insert_sorted-keeps start end x [] = refl
 insert_sorted-keeps start end x (y ∷ ys) =
     ⊎_elim
@@ -179,11 +182,13 @@ ascending-same (x ∷ xs) (y ∷ ys) a b same =
     let other : filter (has_range x.start x.end) (y ∷ ys) ≡ y
     ∷ filter (has_range x.start x.end) ys =
     rw (one_range x y xy yx) refl in
-    let both : x ∷ filter (has_range x.start x.end) xs ≡ y ∷ filter (has_range x.start x.end) ys =
+    let both : x ∷ filter (has_range x.start x.end) xs
+    ≡ y ∷ filter (has_range x.start x.end) ys =
     sym (own_first x xs) ∙ same x.start x.end ∙ other in
     let head : x ≡ y = cc in
     let rest : SameRanges (x ∷ xs) (x ∷ ys) =
-    λ start end. same start end ∙ ap (λ z. filter (has_range start end) (z ∷ ys)) (sym head) in
+    λ start end. same start end
+    ∙ ap (λ z. filter (has_range start end) (z ∷ ys)) (sym head) in
     let tail : xs ≡ ys = ascending-same xs ys a.1 b.1 (same-rest x xs ys rest) in
     cc
 

@@ -1,10 +1,11 @@
 -- For `padding_fits`: the numbers of drawn lines fit the padding.
-use Rattle.codespan_core.proofs.Std.{◌≡◌, ℕ, zero, suc, ◌+◌, ◌-◌, ◌<◌, ◌≤◌, ◌/◌, ◌%◌, max, Bool}
-use Rattle.codespan_core.proofs.Std.{true, false, cond, ◌&&◌, ◌||◌, nat_lt, ◌⊎◌, inl, inr}
-use Rattle.codespan_core.proofs.Std.{⊎_elim, List, [], ◌∷◌, ◌++◌, map, filter, flat_map, length}
-use Rattle.codespan_core.proofs.Std.{refl, sym, ap, subst, ◌∙◌, arith, Contains, fold, ◌==◌}
-use Rattle.codespan_core.proofs.Std.{if◌then◌else◌, range_with_len, list_any, cases_lt, and_parts}
-use Rattle.codespan_core.proofs.Std.{false≢true, nat_tests, list_any_at}
+use Rattle.codespan_core.proofs.Std.{◌≡◌, ℕ, zero, suc, ◌+◌, ◌-◌, ◌<◌}
+use Rattle.codespan_core.proofs.Std.{◌≤◌, ◌/◌, ◌%◌, max, Bool, true, false, cond}
+use Rattle.codespan_core.proofs.Std.{◌&&◌, ◌||◌, nat_lt, ◌⊎◌, inl, inr, ⊎_elim}
+use Rattle.codespan_core.proofs.Std.{List, [], ◌∷◌, ◌++◌, map, filter, flat_map, length}
+use Rattle.codespan_core.proofs.Std.{refl, sym, ap, subst, ◌∙◌, arith, Contains, fold}
+use Rattle.codespan_core.proofs.Std.{◌==◌, if◌then◌else◌, range_with_len, list_any}
+use Rattle.codespan_core.proofs.Std.{cases_lt, and_parts, false≢true, nat_tests, list_any_at}
 use Rattle.std.specs.Fmt.{digits, digits_onto, digit_glyph}
 use Rattle.codespan_core.specs.FileModel.{FileModel, line_count}
 use Rattle.codespan_core.specs.Labels.{LabelModel, first_line, last_line}
@@ -12,8 +13,7 @@ use Rattle.codespan_core.specs.Lemmas.Lines.{line_of_below}
 use Rattle.codespan_output.specs.Types.{Config, Layout, Classic, Unbroken}
 use Rattle.codespan_output.specs.{is_unbroken, shows, is_shown, is_drawn, drawn_lines}
 use Rattle.codespan_output.specs.{LabeledFileModel, spans, spanned_lines, count_digits}
-use Rattle.codespan_output.specs.{numbered_lines, digits_of, padding_of, NumbersAscend}
-use Rattle.codespan_output.specs.{PaddingFits}
+use Rattle.codespan_output.specs.{numbered_lines, digits_of, padding_of, NumbersAscend, PaddingFits}
 use Rattle.codespan_output.proofs.Greatest.{greatest-low}
 
 -- ---- a greater number has no fewer digits
@@ -72,7 +72,8 @@ contains-append_right : {X : Type 0} (x : X) (xs ys : List X) → Contains ys x
 contains-append_right x [] ys c = c
 contains-append_right x (y ∷ xs) ys c = there x y (xs ++ ys) (contains-append_right x xs ys c)
 
-contains-append_left : {X : Type 0} (x : X) (xs ys : List X) → Contains xs x → Contains (xs ++ ys) x
+contains-append_left : {X : Type 0} (x : X) (xs ys : List X) → Contains xs x
+    → Contains (xs ++ ys) x
 contains-append_left x [] ys (k, low, same) = absurd (omega arith)
 contains-append_left x (y ∷ xs) ys (zero, low, same) = (zero, omega arith, same)
 contains-append_left x (y ∷ xs) ys (suc k, low, same) =
@@ -85,7 +86,8 @@ contains-map f x (y ∷ xs) (zero, low, same) = (zero, omega arith, ap f same)
 contains-map f x (y ∷ xs) (suc k, low, same) =
     there (f x) (f y) (map f xs) (contains-map f x xs (k, omega arith, same))
 
-contains-flat_map : {X Y : Type 0} (f : X → List Y) (x : X) (y : Y) (xs : List X) → Contains xs x
+contains-flat_map : {X Y : Type 0} (f : X → List Y) (x : X) (y : Y) (xs : List X)
+    → Contains xs x
     → Contains (f x) y → Contains (flat_map f xs) y
 contains-flat_map f x y [] (k, low, same) c = absurd (omega arith)
 contains-flat_map f x y (z ∷ xs) (zero, low, same) c =
@@ -94,7 +96,8 @@ contains-flat_map f x y (z ∷ xs) (suc k, low, same) c =
     contains-append_right y (f z) (flat_map f xs)
     (contains-flat_map f x y xs (k, omega arith, same) c)
 
-pub contains-filter : {X : Type 0} (p : X → Bool) (x : X) (xs : List X) → p x ≡ true → Contains xs x
+pub contains-filter : {X : Type 0} (p : X → Bool) (x : X) (xs : List X) → p x ≡ true
+    → Contains xs x
     → Contains (filter p xs) x
 contains-filter p x [] e (k, low, same) = absurd (omega arith)
 contains-filter p x (y ∷ xs) e (zero, low, same) = rw (ap p same ∙ e) (zero, omega arith, same)
@@ -172,19 +175,23 @@ any-found : (p : LabelModel → Bool) (xs : List LabelModel) → list_any p xs �
 any-found p [] h = absurd (false≢true h)
 any-found p (y ∷ ys) h = by_test (any-found p ys) (p y) refl h
   where
-    by_test : (list_any p ys ≡ true → (x : LabelModel) × Contains ys x × (p x ≡ true)) → (b : Bool)
+    by_test : (list_any p ys ≡ true → (x : LabelModel) × Contains ys x × (p x ≡ true))
+        → (b : Bool)
         → p y ≡ b → (b || list_any p ys) ≡ true
         → (x : LabelModel) × Contains (y ∷ ys) x × (p x ≡ true)
     by_test again true e k = (y, (zero, omega arith, refl), e)
     by_test again false e k = let r = again k in (r.0, there r.0 y ys r.1, r.2)
 
-spanned-over : (s : LabeledFileModel) (x : LabelModel) (l m : ℕ) → Contains s.labels x → l ≤ m
-    → m < line_count s.file → spans (first_line s.file x) (last_line s.file x) m ≡ true → Over s l
+spanned-over : (s : LabeledFileModel) (x : LabelModel) (l m : ℕ) → Contains s.labels x
+    → l ≤ m
+    → m < line_count s.file → spans (first_line s.file x) (last_line s.file x) m ≡ true
+    → Over s l
 spanned-over s x l m has h low is = (
   m,
   h,
   low,
-  contains-filter (λ l. list_any (λ x. spans (first_line s.file x) (last_line s.file x) l) s.labels)
+  contains-filter
+      (λ l. list_any (λ x. spans (first_line s.file x) (last_line s.file x) l) s.labels)
       m
       (range_with_len 0 (line_count s.file))
       (list_any_at (λ x. spans (first_line s.file x) (last_line s.file x) m) s.labels has.0 x has.1
@@ -220,7 +227,8 @@ over-shown config s l none h =
       | inr q ↦ elim q [
         | inl p ↦ spanned-over s x l last found.1 (omega arith)
             (line_of_below s.file.starts x.end some) (spans-last first last)
-        | inr p ↦ spanned-over s x l l found.1 (omega arith) low (spans-inside first last l p.0 p.1)
+        | inr p ↦ spanned-over s x l l found.1 (omega arith) low
+            (spans-inside first last l p.0 p.1)
       ]
     ]
 
@@ -256,7 +264,8 @@ padding_fits config ss given s l here c = by_layout config.layout refl
     by_layout : (v : Layout) → config.layout ≡ v
         → count_digits (s.file.line_number l) ≤ padding_of config ss
     by_layout Unbroken e =
-        let same : numbered_lines config s ≡ drawn_lines config s.file s.labels = numbered Unbroken
+        let same : numbered_lines config s
+        ≡ drawn_lines config s.file s.labels = numbered Unbroken
         e in
         numbered-fits config ss s l here (subst (λ ls. Contains ls l) (sym same) c)
     by_layout Classic e =

@@ -1,7 +1,8 @@
 -- For `outputs_are_utf8`: the rows of an output are texts.
-use Rattle.codespan_core.proofs.Std.{◌≡◌, ℕ, ◌+◌, ◌-◌, Bool, true, false, not, ◌&&◌, ◌==◌, List, []}
-use Rattle.codespan_core.proofs.Std.{◌∷◌, ◌++◌, map, filter, reverse, Option, Some, None, refl, sym}
-use Rattle.codespan_core.proofs.Std.{subst, ◌||◌, if◌then◌else◌, IfSome, nat_lt, string_bytes}
+use Rattle.codespan_core.proofs.Std.{◌≡◌, ℕ, ◌+◌, ◌-◌, Bool, true, false, not}
+use Rattle.codespan_core.proofs.Std.{◌&&◌, ◌==◌, List, [], ◌∷◌, ◌++◌, map, filter}
+use Rattle.codespan_core.proofs.Std.{reverse, Option, Some, None, refl, sym, subst, ◌||◌}
+use Rattle.codespan_core.proofs.Std.{if◌then◌else◌, IfSome, nat_lt, string_bytes}
 use Rattle.codespan_core.proofs.Std.{AllByRecursion, cons_option, enumerate_from, filter_map}
 use Rattle.codespan_core.proofs.Std.{option_map, IsUtf8, cond_both}
 use Rattle.std.specs.Prelude.{String}
@@ -65,7 +66,8 @@ module _ (f : FileModel) (labels : List LabelModel) (texts : AllByRecursion HasT
         (all-filter HasTextMessage (λ x. is_single f x && (first_line f x == l)) labels texts)))
 
     -- the message of a multi-line label mark is that of its label
-    text_message-multi_label : (s e l start : ℕ) (x : LabelModel) (lane : ℕ) → HasTextMessage x
+    text_message-multi_label : (s e l start : ℕ) (x : LabelModel) (lane : ℕ)
+        → HasTextMessage x
         → IfSome (lane_mark_of lane x (multi_label_at s e l start x))
         (λ m. MultiLabelIsUtf8 m.multi_label)
     text_message-multi_label s e l start x lane t = by (s == l) (e == l) (nat_lt s l && nat_lt l e)
@@ -82,7 +84,8 @@ module _ (f : FileModel) (labels : List LabelModel) (texts : AllByRecursion HasT
         by false false true = tt
         by false false false = tt
 
-    text_message-lane_marks : (l k : ℕ) (xs : List LabelModel) → AllByRecursion HasTextMessage xs
+    text_message-lane_marks : (l k : ℕ) (xs : List LabelModel)
+        → AllByRecursion HasTextMessage xs
         → AllByRecursion (λ (m : LaneMark). MultiLabelIsUtf8 m.multi_label)
         (filter_map
         (λ (entry : ℕ × LabelModel). lane_mark_of entry.0 entry.1 (multi_label_on f l entry.1))
@@ -95,12 +98,14 @@ module _ (f : FileModel) (labels : List LabelModel) (texts : AllByRecursion HasT
         by : (o : Option LaneMark) → IfSome o (λ m. MultiLabelIsUtf8 m.multi_label)
             → AllByRecursion (λ (m : LaneMark). MultiLabelIsUtf8 m.multi_label)
             (filter_map
-            (λ (entry : ℕ × LabelModel). lane_mark_of entry.0 entry.1 (multi_label_on f l entry.1))
+            (λ (entry : ℕ × LabelModel). lane_mark_of entry.0 entry.1
+            (multi_label_on f l entry.1))
             (enumerate_from (k + 1) xs))
             → AllByRecursion (λ (m : LaneMark). MultiLabelIsUtf8 m.multi_label)
             (cons_option o
             (filter_map
-            (λ (entry : ℕ × LabelModel). lane_mark_of entry.0 entry.1 (multi_label_on f l entry.1))
+            (λ (entry : ℕ × LabelModel). lane_mark_of entry.0 entry.1
+            (multi_label_on f l entry.1))
             (enumerate_from (k + 1) xs)))
         by None t rest = rest
         by (Some m) t rest = (t, rest)
@@ -138,7 +143,8 @@ rows-hanging_labels : (line : Line) (labels : List LabelModel)
 rows-hanging_labels line [] h = tt
 rows-hanging_labels line (x ∷ xs) h = (
   tt,
-  each_map RowIsUtf8 (HangingRow line) (reverse (x ∷ xs)) (all-reverse HasTextMessage (x ∷ xs) h),
+  each_map RowIsUtf8 (HangingRow line) (reverse (x ∷ xs))
+      (all-reverse HasTextMessage (x ∷ xs) h),
 )
 
 rows-caret : (line : Line) (labels : List LabelModel) → AllByRecursion HasTextMessage line.labels
@@ -148,7 +154,8 @@ rows-caret line (x ∷ xs) h = (h, tt)
 
 rows-line : (line : Line) → LineIsUtf8 line → AllByRecursion RowIsUtf8 (rows_of line)
 rows-line line t =
-    let test : LaneMark → Bool = λ m. has_underline (leading_whitespace line.text) m.multi_label in
+    let test : LaneMark → Bool = λ m. has_underline (leading_whitespace line.text) m.multi_label
+    in
     all-append RowIsUtf8
     ((SourceRow line ∷ caret_rows line line.labels)
     ++ pointer_and_hanging_rows line (hanging_labels line.labels))

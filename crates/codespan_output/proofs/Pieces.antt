@@ -1,8 +1,9 @@
 -- For `Messages::of`, `write_pointer_and_hanging_rows` and `write_hanging_rows`: prefixes and
 -- suffixes of the labels of a line.
-use Rattle.codespan_core.proofs.Std.{◌≡◌, ℕ, ◌-◌, ◌≤◌, max, List, [], ◌∷◌, ◌++◌, length}
-use Rattle.codespan_core.proofs.Std.{length-drop, take, drop, fold, sym, ap, ◌∙◌, arith}
-use Rattle.codespan_core.proofs.Std.{take-length, map-append, take-append-drop, fold-append}
+use Rattle.codespan_core.proofs.Std.{◌≡◌, ℕ, ◌-◌, ◌≤◌, max, List, [], ◌∷◌}
+use Rattle.codespan_core.proofs.Std.{◌++◌, length, length-drop, take, drop, fold, sym, ap}
+use Rattle.codespan_core.proofs.Std.{◌∙◌, arith, take-length, map-append, take-append-drop}
+use Rattle.codespan_core.proofs.Std.{fold-append}
 use Rattle.std.proofs.Math.Logic.{∥∥₁_elim}
 use Rattle.std.proofs.Props.{props}
 use Rattle.std.specs.List.{push}
@@ -67,7 +68,8 @@ pub record IsNear (rest : List SingleLabelTuple) (x : SingleLabelTuple) (reach :
   pub others : max_label_start (single_label_views rest) ≤ reach
 
 pub near-last : (left rest : List SingleLabelTuple) (x : SingleLabelTuple) (reach : ℕ)
-    → left ≡ push rest x → max_label_start (single_label_views left) ≤ reach → IsNear rest x reach
+    → left ≡ push rest x → max_label_start (single_label_views left) ≤ reach
+    → IsNear rest x reach
 near-last left rest x reach step near =
     let parts : max_label_start (single_label_views left)
     ≡ max (max_label_start (single_label_views rest)) x.1.start =

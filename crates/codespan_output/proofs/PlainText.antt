@@ -1,10 +1,11 @@
 -- For `plain_from` and `write_text`: text of a line that is rendered unchanged.
-use Rattle.codespan_core.proofs.Std.{◌≡◌, ℕ, ◌+◌, ◌-◌, ◌<◌, ◌≤◌, Option, length, take, drop}
-use Rattle.codespan_core.proofs.Std.{length-append, length-drop, append_assoc, append-nil, arith}
-use Rattle.codespan_core.proofs.Std.{◌++◌, Bool, true, false, ◌&&◌, ◌||◌, ◌==◌, List, [], ◌∷◌, None}
-use Rattle.codespan_core.proofs.Std.{refl, sym, ap, ◌∙◌, encode_utf8, len_utf8, filter, list_any}
-use Rattle.codespan_core.proofs.Std.{IsUtf8, false≢true, ne_eqb, list_any-append, take-length}
-use Rattle.codespan_core.proofs.Std.{drop-drop, take-append-drop, length-encode, len_utf8_bounds}
+use Rattle.codespan_core.proofs.Std.{◌≡◌, ℕ, ◌+◌, ◌-◌, ◌<◌, ◌≤◌, Option}
+use Rattle.codespan_core.proofs.Std.{length, take, drop, length-append, length-drop, append_assoc}
+use Rattle.codespan_core.proofs.Std.{append-nil, arith, ◌++◌, Bool, true, false, ◌&&◌}
+use Rattle.codespan_core.proofs.Std.{◌||◌, ◌==◌, List, [], ◌∷◌, None, refl, sym, ap}
+use Rattle.codespan_core.proofs.Std.{◌∙◌, encode_utf8, len_utf8, filter, list_any, IsUtf8}
+use Rattle.codespan_core.proofs.Std.{false≢true, ne_eqb, list_any-append, take-length, drop-drop}
+use Rattle.codespan_core.proofs.Std.{take-append-drop, length-encode, len_utf8_bounds}
 use Rattle.codespan_core.specs.Labels.{LabelModel, is_primary}
 use Rattle.codespan_core.specs.Streams.{byte_stream, glyph}
 use Rattle.codespan_output.specs.Types.{Metrics}
@@ -143,7 +144,8 @@ pub text-past : (context : RowContext) (line : Line) (previous : Option LabelSty
     (from byte_index : ℕ) (left : List Metrics)
     → IsOver context.tab_width line.text byte_index left
     → from ≤ byte_index
-    → ((c : Metrics) → from ≤ c.byte_index → c.byte_index < length line.text → 1 ≤ c.bytes
+    → ((c : Metrics) → from ≤ c.byte_index → c.byte_index < length line.text
+    → 1 ≤ c.bytes
     → source_style line c ≡ None)
     → list_any (λ b. b == 9) (drop from line.text) ≡ false
     → (byte_stream run ++ style_change context.severity previous None) ++ byte_stream
@@ -160,13 +162,16 @@ text-past context line previous run from byte_index left over low none tab =
     ∙ ap (λ l. byte_stream run ++ (style_change context.severity previous None ++ byte_stream l))
     over.text_left
     ∙ ap (λ l. byte_stream run ++ l) (sym rest)
-    ∙ ap (λ cs. byte_stream run ++ styled context.severity (source_style line) source_glyph previous
+    ∙ ap (λ cs. byte_stream run
+    ++ styled context.severity (source_style line) source_glyph previous
     cs)
     (sym over.char_metrics)
 
 -- a text of which no character has a style, and which has no tab
-pub text-plain : (context : RowContext) (line : Line) (from : ℕ) → IsUtf8 line.text → from ≡ 0
-    → ((c : Metrics) → from ≤ c.byte_index → c.byte_index < length line.text → 1 ≤ c.bytes
+pub text-plain : (context : RowContext) (line : Line) (from : ℕ) → IsUtf8 line.text
+    → from ≡ 0
+    → ((c : Metrics) → from ≤ c.byte_index → c.byte_index < length line.text
+    → 1 ≤ c.bytes
     → source_style line c ≡ None)
     → list_any (λ b. b == 9) (drop from line.text) ≡ false
     → byte_stream line.text ≡ colored_text context line

@@ -1,10 +1,11 @@
 -- For `pointers_are_cells`: pointers are in the first cells of the characters in which hanging
 -- labels start.
-use Rattle.codespan_core.proofs.Std.{◌≡◌, ℕ, zero, suc, ◌+◌, ◌-◌, ◌<◌, ◌≤◌, Bool, true, false, ◌&&◌}
-use Rattle.codespan_core.proofs.Std.{◌==◌, cond, nat_lt, nat_le, List, [], ◌∷◌, ◌++◌, map, filter}
-use Rattle.codespan_core.proofs.Std.{flat_map, replicate, refl, ap, ap₂, ◌∙◌, arith, ⊎_elim}
-use Rattle.codespan_core.proofs.Std.{if◌then◌else◌, Contains, range_with_len, list_any, or_cases}
-use Rattle.codespan_core.proofs.Std.{nat_tests, map-append, sum_by-cons, list_any_at}
+use Rattle.codespan_core.proofs.Std.{◌≡◌, ℕ, zero, suc, ◌+◌, ◌-◌, ◌<◌}
+use Rattle.codespan_core.proofs.Std.{◌≤◌, Bool, true, false, ◌&&◌, ◌==◌, cond, nat_lt}
+use Rattle.codespan_core.proofs.Std.{nat_le, List, [], ◌∷◌, ◌++◌, map, filter, flat_map}
+use Rattle.codespan_core.proofs.Std.{replicate, refl, ap, ap₂, ◌∙◌, arith, ⊎_elim}
+use Rattle.codespan_core.proofs.Std.{if◌then◌else◌, Contains, range_with_len, list_any}
+use Rattle.codespan_core.proofs.Std.{or_cases, nat_tests, map-append, sum_by-cons, list_any_at}
 use Rattle.std.proofs.Math.Bool.{and-false}
 use Rattle.codespan_core.specs.Labels.{LabelModel}
 use Rattle.codespan_output.specs.Types.{Chars, Metrics}
@@ -17,7 +18,8 @@ use Rattle.codespan_output.proofs.Consecutive.{AreConsecutive, none-before}
 
 -- ---- members
 
-pub contains-later : {X : Type 0} (y x : X) (xs : List X) → Contains xs x → Contains (y ∷ xs) x
+pub contains-later : {X : Type 0} (y x : X) (xs : List X) → Contains xs x
+    → Contains (y ∷ xs) x
 contains-later y x xs h = (suc h.0, omega (arith, h.1), h.2)
 
 pub some_in : {X : Type 0} (p : X → Bool) (xs : List X) → list_any p xs ≡ true
@@ -101,7 +103,8 @@ module _ (chars : Chars) (labels : List LabelModel) where
       (any-hanging_labels (starts_in c) labels h)
 
   -- no character begins left of the first one's column
-  points-later : (byte_index column k : ℕ) (cs : List Metrics) → AreConsecutive byte_index column cs
+  points-later : (byte_index column k : ℕ) (cs : List Metrics)
+      → AreConsecutive byte_index column cs
       → k < column → points_at labels cs k ≡ false
   points-later byte_index column k [] adjacent low = refl
   points-later byte_index column k (c ∷ cs) adjacent low =
@@ -113,7 +116,8 @@ module _ (chars : Chars) (labels : List LabelModel) where
 
   -- the cells of the first character
   first-codes : (byte_index column : ℕ) (c : Metrics) (cs : List Metrics)
-      → AreConsecutive byte_index column (c ∷ cs) → (points c ≡ true → 0 < c.unicode_width)
+      → AreConsecutive byte_index column (c ∷ cs)
+      → (points c ≡ true → 0 < c.unicode_width)
       → c.byte_index ≤ reach
       → map (code_of (c ∷ cs)) (range_with_len column c.unicode_width) ≡ codes_at c
   first-codes byte_index column c cs adjacent wide low = by_points (points c) refl
@@ -126,7 +130,8 @@ module _ (chars : Chars) (labels : List LabelModel) where
           points-later (byte_index + c.bytes) (column + c.unicode_width) k cs adjacent.3 high
 
       by_width : (w : ℕ) → c.unicode_width ≡ w → points c ≡ true → 0 < w
-          → map (code_of (c ∷ cs)) (range_with_len column w) ≡ chars.pointer_left ∷ replicate
+          → map (code_of (c ∷ cs)) (range_with_len column w)
+          ≡ chars.pointer_left ∷ replicate
           (w - 1) 32
       by_width zero is holds some = absurd (omega arith)
       by_width (suc v) is holds some =
@@ -154,7 +159,8 @@ module _ (chars : Chars) (labels : List LabelModel) where
           rw near (map-range_with_len (code_of (c ∷ cs)) (λ _. 32) column c.unicode_width
           (λ k low high.
           let later = no_later k high in
-          let none : ((c.column == k) && points c) ≡ false = rw fails (and-false (c.column == k)) in
+          let none : ((c.column == k) && points c)
+          ≡ false = rw fails (and-false (c.column == k)) in
           simp (none, later))
           ∙ map-constant 32 column c.unicode_width)
 

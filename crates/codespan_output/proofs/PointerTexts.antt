@@ -1,8 +1,8 @@
 -- For `pointers_are_cells`: the texts of pointer rows, and the law.
-use Rattle.codespan_core.proofs.Std.{◌≡◌, ℕ, chars, ◌-◌, ◌≤◌, Bool, true, false, cond, nat_lt}
-use Rattle.codespan_core.proofs.Std.{nat_le, List, [], ◌∷◌, ◌++◌, filter, flat_map, replicate}
-use Rattle.codespan_core.proofs.Std.{encode_utf8_all, refl, sym, ap, ap₂, ◌∙◌, arith, append-nil}
-use Rattle.codespan_core.proofs.Std.{Contains, encode_utf8, nat_tests}
+use Rattle.codespan_core.proofs.Std.{◌≡◌, ℕ, chars, ◌-◌, ◌≤◌, Bool, true, false}
+use Rattle.codespan_core.proofs.Std.{cond, nat_lt, nat_le, List, [], ◌∷◌, ◌++◌, filter}
+use Rattle.codespan_core.proofs.Std.{flat_map, replicate, encode_utf8_all, refl, sym, ap, ap₂}
+use Rattle.codespan_core.proofs.Std.{◌∙◌, arith, append-nil, Contains, encode_utf8, nat_tests}
 use Rattle.codespan_core.specs.Labels.{LabelModel}
 use Rattle.codespan_core.specs.Streams.{style_mark, glyph, spaces, text_of}
 use Rattle.codespan_core.specs.declared.term.config.style_mark.StyleMark.TheVariants.{Label, Reset}
@@ -16,9 +16,8 @@ use Rattle.codespan_output.proofs.Texts.{text_of-spaces, encode_utf8_all-append}
 use Rattle.codespan_output.proofs.Texts.{encode_utf8_all-spaces}
 use Rattle.codespan_output.proofs.HangingStarts.{any-hanging_labels, any-below}
 use Rattle.codespan_output.proofs.Consecutive.{AreConsecutive, char_metrics-consecutive}
-use Rattle.codespan_output.proofs.PointerLemmas.{contains-later, some_in, any_in, column-at}
-use Rattle.codespan_output.proofs.PointerLemmas.{points, codes_at, IsWide, char_metrics-codes}
-use Rattle.codespan_output.proofs.PointerLemmas.{far-codes}
+use Rattle.codespan_output.proofs.PointerLemmas.{contains-later, some_in, any_in, column-at, points}
+use Rattle.codespan_output.proofs.PointerLemmas.{codes_at, IsWide, char_metrics-codes, far-codes}
 
 -- ---- texts
 
@@ -76,7 +75,8 @@ module _ (context : RowContext) (labels : List LabelModel) where
       by_points false = text_of-spaces_up_to (max_label_start labels) c.unicode_width c
 
   text_of-all : (cs : List Metrics)
-      → text_of (flat_map (pointer_at context labels (hanging_labels labels)) cs) ≡ encode_utf8_all
+      → text_of (flat_map (pointer_at context labels (hanging_labels labels)) cs)
+      ≡ encode_utf8_all
       (flat_map (codes_at context.chars labels) cs)
   text_of-all [] = refl
   text_of-all (c ∷ cs) =
@@ -130,7 +130,8 @@ pointers_are_cells context line wide = record {
     row_text : text_of (pointers context line.labels cs)
         ≡ encode_utf8_all
         (pointer_cells context.chars line.labels cs
-        (width_of (filter (λ (c : Metrics). nat_le c.byte_index (max_label_start line.labels)) cs)))
+        (width_of
+        (filter (λ (c : Metrics). nat_le c.byte_index (max_label_start line.labels)) cs)))
     row_text =
         text_of-pointers context line.labels cs
         ∙ ap encode_utf8_all (far-codes context.chars line.labels cs

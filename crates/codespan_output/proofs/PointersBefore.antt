@@ -1,8 +1,8 @@
 -- For `write_pointer_row` and `write_hanging_row`: the pointers of the characters before a byte
 -- index, with spaces between.
-use Rattle.codespan_core.proofs.Std.{◌≡◌, ℕ, ◌+◌, ◌≤◌, Bool, true, false, cond, nat_lt, nat_le}
-use Rattle.codespan_core.proofs.Std.{List, [], ◌∷◌, Option, Some, None, refl, sym, ap, ◌∙◌, arith}
-use Rattle.codespan_core.proofs.Std.{nat_tests}
+use Rattle.codespan_core.proofs.Std.{◌≡◌, ℕ, ◌+◌, ◌≤◌, Bool, true, false, cond}
+use Rattle.codespan_core.proofs.Std.{nat_lt, nat_le, List, [], ◌∷◌, Option, Some, None, refl}
+use Rattle.codespan_core.proofs.Std.{sym, ap, ◌∙◌, arith, nat_tests}
 use Rattle.codespan_core.specs.Labels.{LabelModel}
 use Rattle.codespan_output.specs.Types.{LabelStyle, Metrics}
 use Rattle.codespan_output.specs.{width_of, RowContext, hanging_labels, max_label_start, pointers}
@@ -39,7 +39,8 @@ before-consecutive before byte_index column (c ∷ cs) adjacent =
 -- their pointers are those before the byte index
 before-found : (labels : List LabelModel) (before byte_index column : ℕ) (cs : List Metrics)
     → AreConsecutive byte_index column cs
-    → pointers_in labels (metrics_before before cs) ≡ pointers_before before (pointers_in labels cs)
+    → pointers_in labels (metrics_before before cs)
+    ≡ pointers_before before (pointers_in labels cs)
 before-found labels before byte_index column [] adjacent = refl
 before-found labels before byte_index column (c ∷ cs) adjacent =
     by_both
@@ -69,12 +70,14 @@ before-reach before reach [] low = refl
 before-reach before reach (c ∷ cs) low =
     by_test (before-reach before reach cs low) (nat_lt c.byte_index before) refl
   where
-    by_test : metrics_up_to reach (metrics_before before cs) ≡ metrics_before before cs → (b : Bool)
+    by_test : metrics_up_to reach (metrics_before before cs) ≡ metrics_before before cs
+        → (b : Bool)
         → nat_lt c.byte_index before ≡ b
         → metrics_up_to reach
         (cond b (c ∷ metrics_before before cs) (metrics_before before cs))
         ≡ cond b (c ∷ metrics_before before cs) (metrics_before before cs)
-    by_test rest true is = let near : nat_le c.byte_index reach ≡ true = grind (arith, nat_tests) in
+    by_test rest true is = let near : nat_le c.byte_index reach
+        ≡ true = grind (arith, nat_tests) in
         rw near (ap (λ ds. c ∷ ds) rest)
     by_test rest false is = rest
 

@@ -1,8 +1,9 @@
 -- For `bars_are_labels` and `breaks_have_bars`: a multi-line label begins on an earlier line than
 -- it ends on, where its range does.
-use Rattle.codespan_core.proofs.Std.{◌≡◌, ℕ, zero, suc, ◌+◌, ◌-◌, ◌<◌, ◌≤◌, Bool, true, false, ◌⊎◌}
-use Rattle.codespan_core.proofs.Std.{inl, inr, ⊎_elim, cond, not, nat_lt, List, [], ◌∷◌, filter}
-use Rattle.codespan_core.proofs.Std.{Some, slice_get, refl, sym, ap, ◌∙◌, arith, Contains, list_any}
+use Rattle.codespan_core.proofs.Std.{◌≡◌, ℕ, zero, suc, ◌+◌, ◌-◌, ◌<◌}
+use Rattle.codespan_core.proofs.Std.{◌≤◌, Bool, true, false, ◌⊎◌, inl, inr, ⊎_elim}
+use Rattle.codespan_core.proofs.Std.{cond, not, nat_lt, List, [], ◌∷◌, filter, Some}
+use Rattle.codespan_core.proofs.Std.{slice_get, refl, sym, ap, ◌∙◌, arith, Contains, list_any}
 use Rattle.codespan_core.proofs.Std.{cases_lt, and_parts, false≢true, nat_tests, list_any_at}
 use Rattle.std.proofs.lemmas.Bool.{and_from}
 use Rattle.codespan_core.specs.FileModel.{line_count}
@@ -22,7 +23,8 @@ kept p (y ∷ ys) k x h = by_test (λ j g. kept p ys j x g) (p y) refl k h
     later : Contains ys x × (p x ≡ true) → Contains (y ∷ ys) x × (p x ≡ true)
     later r = ((suc r.0.0, omega (arith, r.0.1), r.0.2), r.1)
 
-    by_test : ((j : ℕ) → slice_get (filter p ys) j ≡ Some x → Contains ys x × (p x ≡ true))
+    by_test : ((j : ℕ) → slice_get (filter p ys) j ≡ Some x
+        → Contains ys x × (p x ≡ true))
         → (b : Bool) → p y ≡ b → (j : ℕ)
         → slice_get (cond b (y ∷ filter p ys) (filter p ys)) j ≡ Some x
         → Contains (y ∷ ys) x × (p x ≡ true)
@@ -31,7 +33,8 @@ kept p (y ∷ ys) k x h = by_test (λ j g. kept p ys j x g) (p y) refl k h
     by_test again true is (suc j) h = later (again j h)
     by_test again false is j h = later (again j h)
 
-pub has_lane-ordered : (s : LabeledFileModel) (lane : ℕ) (x : LabelModel) → NoneReversed s.labels
+pub has_lane-ordered : (s : LabeledFileModel) (lane : ℕ) (x : LabelModel)
+    → NoneReversed s.labels
     → HasLane s lane x → first_line s.file x < last_line s.file x
 has_lane-ordered s lane x ordered has =
     let r = kept (λ x. not (is_single s.file x)) s.labels lane x has in
@@ -106,5 +109,6 @@ breaks_have_bars config layout s ordered = λ c d lane x shown_c shown_d apart n
         → is_shown config s.file s.labels c ≡ true → c < line_count s.file
     shown-low config s c h =
         let low = (and_parts (nat_lt c (line_count s.file))
-        (list_any (λ y. shows config (first_line s.file y) (last_line s.file y) c) s.labels) h).0 in
+        (list_any (λ y. shows config (first_line s.file y) (last_line s.file y) c) s.labels) h).0
+        in
         grind (arith, nat_tests)

@@ -1,10 +1,12 @@
 -- For `messages_appear_once` and `reordering_changes_nothing`: labels with other messages have the
--- same rows but for these messages. `re φ` is a label whose message a function `φ` has changed; it
+-- same rows but for these messages. `re φ` is a label whose message a function `φ` has changed;
+-- it
 -- changes no message to an empty one or back.
-use Rattle.codespan_core.proofs.Std.{◌≡◌, ℕ, max, Bool, true, false, not, cond, ◌&&◌, ◌||◌, ◌==◌}
-use Rattle.codespan_core.proofs.Std.{nat_lt, List, [], ◌∷◌, ◌++◌, map, filter, fold, flat_map}
-use Rattle.codespan_core.proofs.Std.{Option, Some, None, option_map, if◌then◌else◌, refl, sym, ap}
-use Rattle.codespan_core.proofs.Std.{ap₂, ◌∙◌, list_any, range_with_len}
+use Rattle.codespan_core.proofs.Std.{◌≡◌, ℕ, max, Bool, true, false, not, cond, ◌&&◌}
+use Rattle.codespan_core.proofs.Std.{◌||◌, ◌==◌, nat_lt, List, [], ◌∷◌, ◌++◌, map}
+use Rattle.codespan_core.proofs.Std.{filter, fold, flat_map, Option, Some, None, option_map}
+use Rattle.codespan_core.proofs.Std.{if◌then◌else◌, refl, sym, ap, ap₂, ◌∙◌, list_any}
+use Rattle.codespan_core.proofs.Std.{range_with_len}
 use Rattle.std.proofs.Common.{find}
 use Rattle.codespan_core.specs.Streams.{Stream}
 use Rattle.codespan_core.specs.Labels.{LabelModel, has_message, is_empty_stream, is_primary}
@@ -24,9 +26,9 @@ use Rattle.codespan_output.specs.declared.lane_shapes.Shape.TheVariants.{Space, 
 use Rattle.codespan_output.specs.declared.lane_shapes.Shape.TheVariants.{BottomCorner}
 use Rattle.codespan_output.specs.Rows.{Lanes}
 use mathlib.Core.Path.{fun_ext}
-use Rattle.codespan_output.proofs.Rightmost.{Around, others, behind, around_with_end}
-use Rattle.codespan_output.proofs.Rightmost.{around_trails, around_rightmost, trailing_of}
-use Rattle.codespan_output.proofs.Rightmost.{hanging_of, trailing_is, hanging_is}
+use Rattle.codespan_output.proofs.Rightmost.{Around, others, behind, around_with_end, around_trails}
+use Rattle.codespan_output.proofs.Rightmost.{around_rightmost, trailing_of, hanging_of, trailing_is}
+use Rattle.codespan_output.proofs.Rightmost.{hanging_is}
 
 -- ---- lists
 
@@ -95,7 +97,8 @@ refilled_around φ a = record {
       map (refilled φ) a.after;
 }
 
-module _ (φ : Stream → Stream) (keeps : (s : Stream) → is_empty_stream (φ s) ≡ is_empty_stream s)
+module _ (φ : Stream → Stream)
+    (keeps : (s : Stream) → is_empty_stream (φ s) ≡ is_empty_stream s)
   where
     -- ---- trailing and hanging
 
@@ -124,14 +127,17 @@ module _ (φ : Stream → Stream) (keeps : (s : Stream) → is_empty_stream (φ 
         by_rest None false e = rw e refl
         by_rest (Some a) b e = rw e refl
 
-    others-refilled : (a : Around) → others (refilled_around φ a) ≡ map (refilled φ) (others a)
+    others-refilled : (a : Around)
+        → others (refilled_around φ a) ≡ map (refilled φ) (others a)
     others-refilled a = sym (map-append' (refilled φ) a.before a.after)
 
     trails : (a : Around) → around_trails (refilled_around φ a) ≡ around_trails a
     trails a =
         ap₂ (λ b c. b && not c) (kept_message a.here)
-        (ap (list_any (λ (x : LabelModel). is_overlapping a.here x.start x.end)) (others-refilled a)
-        ∙ any-map (λ (x : LabelModel). is_overlapping a.here x.start x.end) (refilled φ) (others a))
+        (ap (list_any (λ (x : LabelModel). is_overlapping a.here x.start x.end))
+        (others-refilled a)
+        ∙ any-map (λ (x : LabelModel). is_overlapping a.here x.start x.end) (refilled φ)
+        (others a))
 
     rightmost-refilled : (labels : List LabelModel) → around_rightmost (map (refilled φ) labels)
         ≡ option_map (refilled_around φ) (around_rightmost labels)
@@ -139,7 +145,8 @@ module _ (φ : Stream → Stream) (keeps : (s : Stream) → is_empty_stream (φ 
         (greatest labels) ∙ around (max_label_end labels) labels
 
     pub trailing_label-refilled : (labels : List LabelModel)
-        → trailing_label (map (refilled φ) labels) ≡ option_map (refilled φ) (trailing_label labels)
+        → trailing_label (map (refilled φ) labels)
+        ≡ option_map (refilled φ) (trailing_label labels)
     trailing_label-refilled labels =
         trailing_is (map (refilled φ) labels)
         ∙ ap trailing_of (rightmost-refilled labels)
@@ -175,11 +182,13 @@ module _ (φ : Stream → Stream) (keeps : (s : Stream) → is_empty_stream (φ 
             ≡ map (refilled φ) (hanging_of labels r)
         by_around None = refl
         by_around (Some a) =
-            ap₂ (λ b xs. filter has_message (if b then xs else map (refilled φ) labels)) (trails a)
+            ap₂ (λ b xs. filter has_message (if b then xs else map (refilled φ) labels))
+            (trails a)
             (others-refilled a) ∙ by_test (around_trails a)
           where
             by_test : (b : Bool)
-                → filter has_message (if b then map (refilled φ) (others a) else map (refilled φ)
+                → filter has_message
+                (if b then map (refilled φ) (others a) else map (refilled φ)
                 labels) ≡ map
                 (refilled φ) (filter has_message (if b then others a else labels))
             by_test true = with_message (others a)
@@ -230,7 +239,8 @@ module _ (φ : Stream → Stream) (keeps : (s : Stream) → is_empty_stream (φ 
     lanes-refilled : (context : RowContext) (crossing crossing' : ℕ → Option LaneMark)
         (shape : ℕ → MultiLabel → Shape) (lanes : Lanes)
         → ((lane : ℕ) → crossing' lane ≡ option_map (refilled_lane_mark φ) (crossing lane))
-        → ((lane : ℕ) (multi_label : MultiLabel) → shape lane (refilled_multi_label φ multi_label)
+        → ((lane : ℕ) (multi_label : MultiLabel)
+        → shape lane (refilled_multi_label φ multi_label)
         ≡ shape lane multi_label)
         → lanes_in context crossing' shape (refilled_lanes φ lanes) ≡ lanes_in context crossing
         shape
@@ -307,13 +317,15 @@ module _ (φ : Stream → Stream) (keeps : (s : Stream) → is_empty_stream (φ 
 
     pub underline_lanes-refilled : (context : RowContext) (leading : ℕ) (m : LaneMark)
         (lanes : Lanes)
-        → inner_gutter context leading (Underline (refilled_lane_mark φ m)) (refilled_lanes φ lanes)
+        → inner_gutter context leading (Underline (refilled_lane_mark φ m))
+        (refilled_lanes φ lanes)
         ≡ inner_gutter context leading (Underline m) lanes
     unfolding inner_gutter
     underline_lanes-refilled context leading m lanes =
         lanes-refilled context (λ lane. if nat_lt m.lane lane then Some m else None)
         (λ lane. if nat_lt m.lane lane then Some (refilled_lane_mark φ m) else None)
-        (underline_shape context.layout leading m.lane) lanes (λ lane. by_test (nat_lt m.lane lane))
+        (underline_shape context.layout leading m.lane) lanes
+        (λ lane. by_test (nat_lt m.lane lane))
         (underline_shape-refilled context.layout leading m.lane)
       where
         by_test : (b : Bool) → (if b then Some (refilled_lane_mark φ m) else None)
@@ -366,7 +378,8 @@ module _ (φ : Stream → Stream) (keeps : (s : Stream) → is_empty_stream (φ 
     max_label_start-refilled : (labels : List LabelModel)
         → max_label_start (map (refilled φ) labels)
         ≡ max_label_start labels
-    max_label_start-refilled labels = fold-map (λ m (x : LabelModel). max m x.start) (refilled φ) 0
+    max_label_start-refilled labels = fold-map (λ m (x : LabelModel). max m x.start) (refilled φ)
+        0
         labels
 
     pointer_style-refilled : (labels : List LabelModel) (c : Metrics)

@@ -1,8 +1,9 @@
 -- For `messages_appear_once`: the output of the labels with their slots filled.
-use Rattle.codespan_core.proofs.Std.{◌≡◌, ℕ, suc, ◌+◌, ◌-◌, max, Bool, true, false, not, ◌&&◌, ◌||◌}
-use Rattle.codespan_core.proofs.Std.{◌==◌, nat_lt, List, [], ◌∷◌, ◌++◌, map, filter, reverse, fold}
-use Rattle.codespan_core.proofs.Std.{flat_map, filter_map, length, Option, Some, None, option_map}
-use Rattle.codespan_core.proofs.Std.{if◌then◌else◌, refl, sym, ap, ap₂, ◌∙◌, range_with_len}
+use Rattle.codespan_core.proofs.Std.{◌≡◌, ℕ, suc, ◌+◌, ◌-◌, max, Bool, true, false}
+use Rattle.codespan_core.proofs.Std.{not, ◌&&◌, ◌||◌, ◌==◌, nat_lt, List, [], ◌∷◌}
+use Rattle.codespan_core.proofs.Std.{◌++◌, map, filter, reverse, fold, flat_map, filter_map}
+use Rattle.codespan_core.proofs.Std.{length, Option, Some, None, option_map, if◌then◌else◌}
+use Rattle.codespan_core.proofs.Std.{refl, sym, ap, ap₂, ◌∙◌, range_with_len}
 use Rattle.codespan_core.proofs.Std.{enumerate_from, cons_option, reverse-append}
 use Rattle.std.specs.Str.Lines.{lines}
 use Rattle.codespan_core.specs.FileModel.{FileModel, line_count, line_start}
@@ -38,21 +39,25 @@ map-map : {X Y Z : Type 0} (g : Y → Z) (f : X → Y) (xs : List X) → map g (
 map-map g f [] = refl
 map-map g f (x ∷ xs) = ap (λ ys. g (f x) ∷ ys) (map-map g f xs)
 
-map-ext : {X Y : Type 0} (f g : X → Y) → ((x : X) → f x ≡ g x) → (xs : List X) → map f xs ≡ map g xs
+map-ext : {X Y : Type 0} (f g : X → Y) → ((x : X) → f x ≡ g x) → (xs : List X)
+    → map f xs ≡ map g xs
 map-ext f g h [] = refl
 map-ext f g h (x ∷ xs) = ap₂ (λ y ys. y ∷ ys) (h x) (map-ext f g h xs)
 
-reverse-map : {X Y : Type 0} (f : X → Y) (xs : List X) → reverse (map f xs) ≡ map f (reverse xs)
+reverse-map : {X Y : Type 0} (f : X → Y) (xs : List X)
+    → reverse (map f xs) ≡ map f (reverse xs)
 reverse-map f [] = refl
 reverse-map f (x ∷ xs) =
     reverse-append (f x ∷ []) (map f xs) ∙ ap (λ ys. ys ++ (f x ∷ [])) (reverse-map f xs)
-    ∙ sym (map-append' f (reverse xs) (x ∷ [])) ∙ ap (map f) (sym (reverse-append (x ∷ []) xs))
+    ∙ sym (map-append' f (reverse xs) (x ∷ []))
+    ∙ ap (map f) (sym (reverse-append (x ∷ []) xs))
 
 same-length : {X Y : Type 0} (f : X → Y) (xs : List X) → length (map f xs) ≡ length xs
 same-length f [] = refl
 same-length f (x ∷ xs) = ap suc (same-length f xs)
 
-flat-map-map : {X Y Z : Type 0} (g : Y → List Z) (f : X → Y) (xs : List X) → flat_map g (map f xs)
+flat-map-map : {X Y Z : Type 0} (g : Y → List Z) (f : X → Y) (xs : List X)
+    → flat_map g (map f xs)
     ≡ flat_map (λ x. g (f x)) xs
 flat-map-map g f [] = refl
 flat-map-map g f (x ∷ xs) = ap (λ ys. g (f x) ++ ys) (flat-map-map g f xs)
@@ -63,7 +68,8 @@ refilled_file φ s = record s { labels = map (refilled φ) s.labels }
 abbrev pub refilled_in : {Id : Type 0} → (Stream → Stream) → LabelInFile Id → LabelInFile Id
 refilled_in φ x = record x { label = refilled φ x.label }
 
-module _ (φ : Stream → Stream) (keeps : (s : Stream) → is_empty_stream (φ s) ≡ is_empty_stream s)
+module _ (φ : Stream → Stream)
+    (keeps : (s : Stream) → is_empty_stream (φ s) ≡ is_empty_stream s)
   where
     -- ---- a line
 
@@ -74,7 +80,8 @@ module _ (φ : Stream → Stream) (keeps : (s : Stream) → is_empty_stream (φ 
     caret-rows line (x ∷ xs) = refl
 
     hanging_labels-rows : (line : Line) (labels : List LabelModel)
-        → map (refilled_row φ) (pointer_and_hanging_rows line labels) ≡ pointer_and_hanging_rows
+        → map (refilled_row φ) (pointer_and_hanging_rows line labels)
+        ≡ pointer_and_hanging_rows
         (refilled_line φ line)
         (map (refilled φ) labels)
     hanging_labels-rows line [] = refl
@@ -82,7 +89,8 @@ module _ (φ : Stream → Stream) (keeps : (s : Stream) → is_empty_stream (φ 
         ap (λ rows. PointerRow (refilled_line φ line) ∷ rows)
         (map-map (refilled_row φ) (HangingRow line) (reverse (x ∷ xs))
         ∙ sym (map-map (HangingRow (refilled_line φ line)) (refilled φ) (reverse (x ∷ xs)))
-        ∙ ap (map (HangingRow (refilled_line φ line))) (sym (reverse-map (refilled φ) (x ∷ xs))))
+        ∙ ap (map (HangingRow (refilled_line φ line)))
+        (sym (reverse-map (refilled φ) (x ∷ xs))))
 
     has-underline : (leading : ℕ) (multi_label : MultiLabel)
         → has_underline leading (refilled_multi_label φ multi_label)
@@ -105,14 +113,16 @@ module _ (φ : Stream → Stream) (keeps : (s : Stream) → is_empty_stream (φ 
         ∙ ap (map (UnderlineRow (refilled_line φ line)))
         (sym (filter-map p (refilled_lane_mark φ) line.lanes.lane_marks))
 
-    line-rows : (line : Line) → map (refilled_row φ) (rows_of line) ≡ rows_of (refilled_line φ line)
+    line-rows : (line : Line)
+        → map (refilled_row φ) (rows_of line) ≡ rows_of (refilled_line φ line)
     line-rows line =
         map-append' (refilled_row φ) ((SourceRow line ∷ caret_rows line line.labels)
         ++ pointer_and_hanging_rows line (hanging_labels line.labels)) (underline_rows line)
         ∙ ap₂ (λ a b. a ++ b)
         (map-append' (refilled_row φ) (SourceRow line ∷ caret_rows line line.labels)
         (pointer_and_hanging_rows line (hanging_labels line.labels))
-        ∙ ap₂ (λ a b. (SourceRow (refilled_line φ line) ∷ a) ++ b) (caret-rows line line.labels)
+        ∙ ap₂ (λ a b. (SourceRow (refilled_line φ line) ∷ a) ++ b)
+        (caret-rows line line.labels)
         (hanging_labels-rows line (hanging_labels line.labels)
         ∙ ap (pointer_and_hanging_rows (refilled_line φ line))
         (sym (hanging_labels-refilled φ keeps line.labels))))
@@ -121,13 +131,15 @@ module _ (φ : Stream → Stream) (keeps : (s : Stream) → is_empty_stream (φ 
     -- ---- the labels of a line
 
     put-in : (x : LabelModel) (ys : List LabelModel)
-        → insert_sorted (refilled φ x) (map (refilled φ) ys) ≡ map (refilled φ) (insert_sorted x ys)
+        → insert_sorted (refilled φ x) (map (refilled φ) ys)
+        ≡ map (refilled φ) (insert_sorted x ys)
     put-in x [] = refl
     put-in x (y ∷ ys) = by_test (put-in x ys) (range_precedes y x)
       where
         by_test : insert_sorted (refilled φ x) (map (refilled φ) ys)
             ≡ map (refilled φ) (insert_sorted x ys) → (b : Bool)
-            → (if b then refilled φ y ∷ insert_sorted (refilled φ x) (map (refilled φ) ys) else
+            → (if b then refilled φ y ∷ insert_sorted (refilled φ x) (map (refilled φ) ys)
+            else
             refilled φ x ∷ refilled φ y ∷ map
             (refilled φ) ys)
             ≡ map
@@ -152,10 +164,12 @@ module _ (φ : Stream → Stream) (keeps : (s : Stream) → is_empty_stream (φ 
         ∙ sorted-refilled (reverse (map (drawn_label f) (filter p xs)))
 
     multi-refilled : (f : FileModel) (xs : List LabelModel)
-        → multi_line_labels f (map (refilled φ) xs) ≡ map (refilled φ) (multi_line_labels f xs)
+        → multi_line_labels f (map (refilled φ) xs)
+        ≡ map (refilled φ) (multi_line_labels f xs)
     multi-refilled f xs = filter-map (λ x. not (is_single f x)) (refilled φ) xs
 
-    multi_label-on : (f : FileModel) (l : ℕ) (x : LabelModel) → multi_label_on f l (refilled φ x)
+    multi_label-on : (f : FileModel) (l : ℕ) (x : LabelModel)
+        → multi_label_on f l (refilled φ x)
         ≡ option_map (refilled_multi_label φ) (multi_label_on f l x)
     multi_label-on f l x = by_tests (first_line f x == l) (last_line f x == l)
         (nat_lt (first_line f x) l && nat_lt l (last_line f x))
@@ -171,7 +185,8 @@ module _ (φ : Stream → Stream) (keeps : (s : Stream) → is_empty_stream (φ 
         by_tests false false true = refl
         by_tests false false false = refl
 
-    cons-lane_mark : (n : ℕ) (x : LabelModel) (multi_label : Option MultiLabel) (ms : List LaneMark)
+    cons-lane_mark : (n : ℕ) (x : LabelModel) (multi_label : Option MultiLabel)
+        (ms : List LaneMark)
         → cons_option (lane_mark_of n (refilled φ x)
         (option_map (refilled_multi_label φ) multi_label))
         (map (refilled_lane_mark φ) ms)
@@ -201,7 +216,8 @@ module _ (φ : Stream → Stream) (keeps : (s : Stream) → is_empty_stream (φ 
         (multi_label_on f l entry.1)) (enumerate_from 0 ys)) (multi-refilled f xs)
         ∙ lane_marks-from f l 0 (multi_line_labels f xs)
 
-    lanes-count : (s : LabeledFileModel) → num_multi_labels (refilled_file φ s) ≡ num_multi_labels s
+    lanes-count : (s : LabeledFileModel)
+        → num_multi_labels (refilled_file φ s) ≡ num_multi_labels s
     lanes-count s = ap length (multi-refilled s.file s.labels) ∙ same-length (refilled φ)
         (multi_line_labels s.file s.labels)
 
@@ -230,7 +246,8 @@ module _ (φ : Stream → Stream) (keeps : (s : Stream) → is_empty_stream (φ 
     -- ---- a file
 
     break-refilled : (s : LabeledFileModel) (previous : Option ℕ) (l : ℕ)
-        → map (refilled_row φ) (breaks_before s previous l) ≡ breaks_before (refilled_file φ s)
+        → map (refilled_row φ) (breaks_before s previous l)
+        ≡ breaks_before (refilled_file φ s)
         previous l
     break-refilled s None l = refl
     break-refilled s (Some c) l = by_test (has_break_between c l)
@@ -243,7 +260,8 @@ module _ (φ : Stream → Stream) (keeps : (s : Stream) → is_empty_stream (φ 
         by_test false = refl
 
     after-refilled : (s : LabeledFileModel) (previous : Option ℕ) (ls : List ℕ)
-        → map (refilled_row φ) (rows_of_drawn s previous ls) ≡ rows_of_drawn (refilled_file φ s)
+        → map (refilled_row φ) (rows_of_drawn s previous ls)
+        ≡ rows_of_drawn (refilled_file φ s)
         previous ls
     after-refilled s previous [] = refl
     after-refilled s previous (l ∷ ls) =
@@ -268,14 +286,16 @@ module _ (φ : Stream → Stream) (keeps : (s : Stream) → is_empty_stream (φ 
         (range_with_len 0 (line_count f))) (fun_ext (shown-refilled config f xs))
 
     snippet-refilled : (config : Config) (locus : Locus) (s : LabeledFileModel)
-        → map (refilled_row φ) (snippet config locus s) ≡ snippet config locus (refilled_file φ s)
+        → map (refilled_row φ) (snippet config locus s)
+        ≡ snippet config locus (refilled_file φ s)
     snippet-refilled config locus s =
         map-append' (refilled_row φ) (SnippetStartRow locus ∷ EmptyRow (empty_lanes s) ∷ [])
         (rows_of_drawn s None (drawn_lines config s.file s.labels))
         ∙ ap₂ (λ a b. a ++ b)
         (ap (λ lanes. SnippetStartRow locus ∷ EmptyRow lanes ∷ []) (bare-refilled s))
         (after-refilled s None (drawn_lines config s.file s.labels)
-        ∙ ap (rows_of_drawn (refilled_file φ s) None) (sym (drawn-refilled config s.file s.labels)))
+        ∙ ap (rows_of_drawn (refilled_file φ s) None)
+        (sym (drawn-refilled config s.file s.labels)))
 
     empty_row_after-refilled : (followed : Bool) (s : LabeledFileModel)
         → map (refilled_row φ) (empty_row_after followed s) ≡ empty_row_after followed
@@ -286,9 +306,11 @@ module _ (φ : Stream → Stream) (keeps : (s : Stream) → is_empty_stream (φ 
     -- a snippet and the row after it
     followed-refilled : (config : Config) (followed : Bool) (locus : Locus) (s : LabeledFileModel)
         → map (refilled_row φ) (snippet config locus s ++ empty_row_after followed s)
-        ≡ snippet config locus (refilled_file φ s) ++ empty_row_after followed (refilled_file φ s)
+        ≡ snippet config locus (refilled_file φ s)
+        ++ empty_row_after followed (refilled_file φ s)
     followed-refilled config followed locus s =
-        map-append' (refilled_row φ) (snippet config locus s) (empty_row_after followed s) ∙ ap₂
+        map-append' (refilled_row φ) (snippet config locus s) (empty_row_after followed s)
+        ∙ ap₂
         (λ a b. a ++ b) (snippet-refilled config locus s) (empty_row_after-refilled followed s)
 
     is_followed-refilled : (b : Bool) (ss : List LabeledFileModel)
@@ -308,7 +330,8 @@ module _ (φ : Stream → Stream) (keeps : (s : Stream) → is_empty_stream (φ 
         (snippets config has_notes ps ss)
         ∙ ap₂ (λ a b. a ++ b)
         (followed-refilled config followed p s
-        ∙ ap (λ b. snippet config p (refilled_file φ s) ++ empty_row_after b (refilled_file φ s))
+        ∙ ap (λ b. snippet config p (refilled_file φ s)
+        ++ empty_row_after b (refilled_file φ s))
         (sym (is_followed-refilled has_notes ss)))
         (snippets-refilled config has_notes ps ss)
 
@@ -340,7 +363,8 @@ module _ (φ : Stream → Stream) (keeps : (s : Stream) → is_empty_stream (φ 
 
     -- ---- the padding
 
-    spanned-refilled : (s : LabeledFileModel) → spanned_lines (refilled_file φ s) ≡ spanned_lines s
+    spanned-refilled : (s : LabeledFileModel)
+        → spanned_lines (refilled_file φ s) ≡ spanned_lines s
     spanned-refilled s =
         ap (λ (p : ℕ → Bool). filter p (range_with_len 0 (line_count s.file)))
         (fun_ext (λ (l : ℕ). any-map (λ x. spans (first_line s.file x) (last_line s.file x) l)

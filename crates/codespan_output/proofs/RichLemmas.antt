@@ -1,6 +1,7 @@
 -- For `outputs_mean_labels`: a rich output means its labels, by the laws of its parts together.
-use Rattle.codespan_core.proofs.Std.{◌≡◌, ◌<◌, Bool, List, [], ◌∷◌, ◌++◌, ◌||◌, None, map, flat_map}
-use Rattle.codespan_core.proofs.Std.{refl, sym, subst, ap, AllZip, IsEquivalence}
+use Rattle.codespan_core.proofs.Std.{◌≡◌, ◌<◌, Bool, List, [], ◌∷◌, ◌++◌}
+use Rattle.codespan_core.proofs.Std.{◌||◌, None, map, flat_map, refl, sym, subst, ap, AllZip}
+use Rattle.codespan_core.proofs.Std.{IsEquivalence}
 use Rattle.codespan_core.specs.FileModel.{FileDatabase, line_count}
 use Rattle.codespan_core.specs.Streams.{Stream}
 use Rattle.codespan_output.specs.Types.{Config, Diagnostic, DisplayStyle, Rich}
@@ -8,8 +9,7 @@ use Rattle.codespan_output.specs.{RowContext, LabeledFileModel, line_at, caret_r
 use Rattle.codespan_output.specs.{CaretsAreCells, SnippetMeansLabels, MeansLabels, IsOutput, Locus}
 use Rattle.codespan_output.specs.{Row, HeaderRow, FinalRow, snippet, snippets, has_any}
 use Rattle.codespan_output.specs.{empty_row_after, AreLoci, IsLocus, snippet_locus_byte, output}
-use Rattle.codespan_output.specs.{header_text_of, notes_of, note_rows, rich_context}
-use Rattle.codespan_output.specs.{stream_of_rows}
+use Rattle.codespan_output.specs.{header_text_of, notes_of, note_rows, rich_context, stream_of_rows}
 use Rattle.codespan_output.proofs.Texts.{text_of-append}
 use Rattle.codespan_output.proofs.CaretLemmas.{text_of-line_carets}
 use Rattle.codespan_output.proofs.FillLemmas.{rows_of_shown_lines}

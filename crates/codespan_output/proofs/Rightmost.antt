@@ -1,9 +1,10 @@
 -- For `each_message_trails_or_hangs`: the last label with the greatest end, with the labels around
 -- it.
-use Rattle.codespan_core.proofs.Std.{◌≡◌, ◌≢◌, subst, ℕ, ◌+◌, max, Bool, true, false, not, ◌&&◌}
-use Rattle.codespan_core.proofs.Std.{◌==◌, List, [], ◌∷◌, ◌++◌, length, filter, fold, Option, Some}
-use Rattle.codespan_core.proofs.Std.{None, if◌then◌else◌, cond, refl, ap, ◌∙◌, arith}
-use Rattle.codespan_core.proofs.Std.{enumerate_from, remove, option_map, option_map_or, nat_tests}
+use Rattle.codespan_core.proofs.Std.{◌≡◌, ◌≢◌, subst, ℕ, ◌+◌, max, Bool, true}
+use Rattle.codespan_core.proofs.Std.{false, not, ◌&&◌, ◌==◌, List, [], ◌∷◌, ◌++◌}
+use Rattle.codespan_core.proofs.Std.{length, filter, fold, Option, Some, None, if◌then◌else◌}
+use Rattle.codespan_core.proofs.Std.{cond, refl, ap, ◌∙◌, arith, enumerate_from, remove}
+use Rattle.codespan_core.proofs.Std.{option_map, option_map_or, nat_tests}
 use Rattle.std.specs.List.{last_or}
 use Rattle.std.specs.Option.{option_and_then}
 use Rattle.codespan_core.specs.Labels.{LabelModel, has_message}
@@ -55,7 +56,8 @@ hanging_of labels (Some a) = filter has_message (if around_trails a then others 
 -- ---- the last label with the greatest end
 
 -- the list, from what is around the label
-pub around_is : (end : ℕ) (xs : List LabelModel) (a : Around) → around_with_end end xs ≡ Some a
+pub around_is : (end : ℕ) (xs : List LabelModel) (a : Around)
+    → around_with_end end xs ≡ Some a
     → a.before ++ (a.here ∷ a.after) ≡ xs
 around_is end [] a h = cc
 around_is end (x ∷ xs) a h = by_rest (around_is end xs) (around_with_end end xs) refl h
@@ -66,7 +68,8 @@ around_is end (x ∷ xs) a h = by_rest (around_is end xs) (around_with_end end x
     by_end true h = cc
     by_end false h = cc
 
-    by_rest : ((b : Around) → around_with_end end xs ≡ Some b → b.before ++ (b.here ∷ b.after) ≡ xs)
+    by_rest : ((b : Around) → around_with_end end xs ≡ Some b
+        → b.before ++ (b.here ∷ b.after) ≡ xs)
         → (rest : Option Around) → around_with_end end xs ≡ rest
         → behind x rest
         (if x.end == end then Some (record { before = []; here = x; after = xs }) else None)
@@ -78,11 +81,13 @@ around_is end (x ∷ xs) a h = by_rest (around_is end xs) (around_with_end end x
         subst (λ (y : Around). y.before ++ (y.here ∷ y.after) ≡ x ∷ xs) e
         (ap (λ ys. x ∷ ys) (again b is))
 
-no_end : (end : ℕ) (x : LabelModel) (xs : List LabelModel) → around_with_end end (x ∷ xs) ≡ None
+no_end : (end : ℕ) (x : LabelModel) (xs : List LabelModel)
+    → around_with_end end (x ∷ xs) ≡ None
     → (around_with_end end xs ≡ None) × ((x.end == end) ≡ false)
 no_end end x xs h = by_rest (around_with_end end xs) (x.end == end) refl refl h
   where
-    by_rest : (rest : Option Around) (b : Bool) → around_with_end end xs ≡ rest → (x.end == end) ≡ b
+    by_rest : (rest : Option Around) (b : Bool) → around_with_end end xs ≡ rest
+        → (x.end == end) ≡ b
         → behind x rest
         (if b then Some (record { before = []; here = x; after = xs }) else None) ≡ None
         → (around_with_end end xs ≡ None) × ((x.end == end) ≡ false)
@@ -103,7 +108,8 @@ greatest_none m (x ∷ xs) h =
     omega (arith, same, other)
 
 -- some label has the greatest end
-pub some_rightmost : (x : LabelModel) (xs : List LabelModel) → around_rightmost (x ∷ xs) ≡ None → ⊥
+pub some_rightmost : (x : LabelModel) (xs : List LabelModel)
+    → around_rightmost (x ∷ xs) ≡ None → ⊥
 some_rightmost x xs h =
     let parts = no_end (fold (λ n (y : LabelModel). max n y.end) (max 0 x.end) xs) x xs h in
     let same = greatest_none (max 0 x.end) xs parts.0 in
@@ -120,7 +126,8 @@ entry_of a = (length a.before, a.here)
 -- the last label that passes, from an index on
 last_from : (end : ℕ) (xs : List LabelModel) (n : ℕ) (o : Option (ℕ × LabelModel))
     → last_or o (filter (λ (e : ℕ × LabelModel). e.1.end == end) (enumerate_from n xs))
-    ≡ option_map_or (λ (a : Around). Some (n + length a.before, a.here)) (around_with_end end xs) o
+    ≡ option_map_or (λ (a : Around). Some (n + length a.before, a.here)) (around_with_end end xs)
+    o
 last_from end [] n o = refl
 last_from end (x ∷ xs) n o =
     by_rest (around_with_end end xs) (x.end == end)
@@ -149,7 +156,8 @@ pub last_is : (end : ℕ) (xs : List LabelModel)
 last_is end xs = last_from end xs 0 None ∙ by (around_with_end end xs)
   where
     by : (r : Option Around)
-        → option_map_or (λ (a : Around). Some (0 + length a.before, a.here)) r None ≡ option_map
+        → option_map_or (λ (a : Around). Some (0 + length a.before, a.here)) r None
+        ≡ option_map
         entry_of r
     by None = refl
     by (Some a) = let e : 0 + length a.before ≡ length a.before = omega arith in
@@ -161,10 +169,12 @@ remove-at : (before : List LabelModel) (x : LabelModel) (after : List LabelModel
 remove-at [] x after = refl
 remove-at (y ∷ before) x after = ap (λ ys. y ∷ ys) (remove-at before x after)
 
-pub without_is : (labels : List LabelModel) (a : Around) → a.before ++ (a.here ∷ a.after) ≡ labels
+pub without_is : (labels : List LabelModel) (a : Around)
+    → a.before ++ (a.here ∷ a.after) ≡ labels
     → remove labels (length a.before) ≡ others a
 without_is labels a whole =
-    subst (λ xs. remove xs (length a.before) ≡ others a) whole (remove-at a.before a.here a.after)
+    subst (λ xs. remove xs (length a.before) ≡ others a) whole
+    (remove-at a.before a.here a.after)
 
 -- it trails as the pass finds
 trails_is : (labels : List LabelModel) (a : Around) → a.before ++ (a.here ∷ a.after) ≡ labels
@@ -188,7 +198,8 @@ trailing_is labels =
         (option_and_then if_trails (option_map entry_of r)) ≡ trailing_of r
     by_around None is = refl
     by_around (Some a) is =
-        ap (λ b. option_map (λ (e : ℕ × LabelModel). e.1) (if b then Some (entry_of a) else None))
+        ap (λ b. option_map (λ (e : ℕ × LabelModel). e.1)
+        (if b then Some (entry_of a) else None))
         (trails_is labels a (around_is (max_label_end labels) labels a is))
         ∙ by_test (around_trails a)
       where
@@ -212,7 +223,8 @@ hanging_is labels =
     if_trails : ℕ × LabelModel → Option (ℕ × LabelModel)
     if_trails e = if does_trail labels e then Some e else None
 
-    nothing : (xs : List LabelModel) → around_rightmost xs ≡ None → filter has_message xs ≡ []
+    nothing : (xs : List LabelModel) → around_rightmost xs ≡ None
+        → filter has_message xs ≡ []
     nothing [] is = refl
     nothing (x ∷ xs) is = absurd (some_rightmost x xs is)
 

@@ -1,8 +1,9 @@
 -- For `source_rows_are_few`: how many source rows the labels of a file show.
-use Rattle.codespan_core.proofs.Std.{◌≡◌, ℕ, zero, suc, ◌+◌, ◌-◌, ◌*◌, ◌<◌, ◌≤◌, max, Bool, true}
-use Rattle.codespan_core.proofs.Std.{false, cond, ◌&&◌, ◌||◌, nat_lt, nat_le, List, [], ◌∷◌, ◌++◌}
-use Rattle.codespan_core.proofs.Std.{map, filter, reverse, length, Option, Some, None, refl, ap}
-use Rattle.codespan_core.proofs.Std.{arith, count_by, sum_by, range_with_len, list_any, nat_tests}
+use Rattle.codespan_core.proofs.Std.{◌≡◌, ℕ, zero, suc, ◌+◌, ◌-◌, ◌*◌, ◌<◌}
+use Rattle.codespan_core.proofs.Std.{◌≤◌, max, Bool, true, false, cond, ◌&&◌, ◌||◌}
+use Rattle.codespan_core.proofs.Std.{nat_lt, nat_le, List, [], ◌∷◌, ◌++◌, map, filter}
+use Rattle.codespan_core.proofs.Std.{reverse, length, Option, Some, None, refl, ap, arith, count_by}
+use Rattle.codespan_core.proofs.Std.{sum_by, range_with_len, list_any, nat_tests}
 use Rattle.codespan_core.proofs.Std.{if◌then◌else◌, and_parts, sum_by-cons, sum_by-append}
 use Rattle.std.proofs.lemmas.List.Sums.{sum_by-le-sum_by, length-filter}
 use Rattle.codespan_core.specs.FileModel.{FileModel, line_count}
@@ -32,7 +33,8 @@ one-le true d h = let e : d ≡ true = h refl in rw e (omega arith)
 one-le false d h = omega arith
 
 -- what implies more is counted more often
-count-le : {X : Type 0} (p q : X → Bool) (xs : List X) → ((x : X) → p x ≡ true → q x ≡ true)
+count-le : {X : Type 0} (p q : X → Bool) (xs : List X)
+    → ((x : X) → p x ≡ true → q x ≡ true)
     → count_by p xs ≤ count_by q xs
 count-le p q xs h = sum_by-le-sum_by (λ x. cond (p x) 1 0) (λ x. cond (q x) 1 0) xs
     (λ x. one-le (p x) (q x) (h x))
@@ -55,7 +57,8 @@ count-or p q (x ∷ xs) =
       count-cons q x xs,
     )
 
-count-none : {X : Type 0} (p : X → Bool) (xs : List X) → ((x : X) → p x ≡ false) → count_by p xs ≡ 0
+count-none : {X : Type 0} (p : X → Bool) (xs : List X) → ((x : X) → p x ≡ false)
+    → count_by p xs ≡ 0
 count-none p [] h = refl
 count-none p (x ∷ xs) h = let e = ap {B = ℕ} (λ b. cond b 1 0) (h x) in
     omega (arith, count-cons p x xs, count-none p xs h, e)
@@ -76,7 +79,8 @@ count-is_in : (lo hi a n : ℕ) → count_by (is_in lo hi) (range_with_len a n) 
 count-is_in lo hi a zero = omega arith
 count-is_in lo hi a (suc n) = by_test (count-is_in lo hi (a + 1) n) (is_in lo hi a) refl
   where
-    by_test : count_by (is_in lo hi) (range_with_len (a + 1) n) ≤ hi - max (a + 1) lo → (b : Bool)
+    by_test : count_by (is_in lo hi) (range_with_len (a + 1) n) ≤ hi - max (a + 1) lo
+        → (b : Bool)
         → is_in lo hi a ≡ b
         → count_by (is_in lo hi) (a ∷ range_with_len (a + 1) n) ≤ hi - max a lo
     by_test rest true is =
@@ -99,7 +103,8 @@ shows_in config s e l =
     || (is_in (s + 1) (s + config.start_context_lines + 1) l || is_in (e - config.end_context_lines)
     e l))))
 
-shows-in : (config : Config) (s e l : ℕ) → shows config s e l ≡ true → shows_in config s e l ≡ true
+shows-in : (config : Config) (s e l : ℕ) → shows config s e l ≡ true
+    → shows_in config s e l ≡ true
 shows-in config s e l h = grind (arith, nat_tests)
 
 count-shows : (config : Config) (s e n : ℕ)
@@ -156,7 +161,8 @@ count-shown config s n =
     omega (
       arith,
       count-le (is_shown config s.file s.labels)
-          (λ l. list_any (λ x. shows config (first_line s.file x) (last_line s.file x) l) s.labels)
+          (λ l. list_any (λ x. shows config (first_line s.file x) (last_line s.file x) l)
+          s.labels)
           (range_with_len 0 n)
           (λ l h. (and_parts (nat_lt l (line_count s.file)) (list_any (λ x. shows config
           (first_line s.file x) (last_line s.file x) l) s.labels) h).1),

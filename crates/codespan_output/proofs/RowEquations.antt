@@ -1,9 +1,10 @@
 -- For `write_line`, `write_snippet_empty` and `write_break`: equations of rows, as the calls that
 -- write them put them together.
-use Rattle.codespan_core.proofs.Std.{◌≡◌, ℕ, ◌+◌, ◌-◌, ◌^◌, ◌<◌, ◌≤◌, ◌==◌, List, [], ◌∷◌, ◌++◌}
-use Rattle.codespan_core.proofs.Std.{true, false, nat_lt, lt-ltb, Option, None, Some, append_assoc}
-use Rattle.codespan_core.proofs.Std.{append-nil, length, replicate, refl, ap, sym, ◌∙◌, arith}
-use Rattle.codespan_core.proofs.Std.{flat_map-append, codes, IsUtf8}
+use Rattle.codespan_core.proofs.Std.{◌≡◌, ℕ, ◌+◌, ◌-◌, ◌^◌, ◌<◌, ◌≤◌}
+use Rattle.codespan_core.proofs.Std.{◌==◌, List, [], ◌∷◌, ◌++◌, true, false, nat_lt}
+use Rattle.codespan_core.proofs.Std.{lt-ltb, Option, None, Some, append_assoc, append-nil, length}
+use Rattle.codespan_core.proofs.Std.{replicate, refl, ap, sym, ◌∙◌, arith, flat_map-append}
+use Rattle.codespan_core.proofs.Std.{codes, IsUtf8}
 use Rattle.std.proofs.lemmas.List.{replicate-append-replicate}
 use Rattle.codespan_core.specs.Streams.{Stream, byte_stream, spaces, repeated, glyph, newline}
 use Rattle.codespan_output.specs.Types.{LabelStyle, Primary, Secondary, Severity, Metrics}
@@ -28,12 +29,14 @@ gutter_spaces n = refl
 
 -- the lanes of each kind of row, by the definitions
 pub source_lanes_are : (context : RowContext) (leading : ℕ) (lanes : Lanes)
-    → row_lanes_stream context leading Source lanes ≡ inner_gutter context leading kind.Source lanes
+    → row_lanes_stream context leading Source lanes
+    ≡ inner_gutter context leading kind.Source lanes
 unfolding row_lanes_stream inner_gutter
 source_lanes_are context leading lanes = refl
 
 pub plain_lanes_are : (context : RowContext) (leading : ℕ) (lanes : Lanes)
-    → row_lanes_stream context leading EmptyOrBreak lanes ≡ inner_gutter context 0 kind.EmptyOrBreak
+    → row_lanes_stream context leading EmptyOrBreak lanes
+    ≡ inner_gutter context 0 kind.EmptyOrBreak
     lanes
 unfolding row_lanes_stream inner_gutter
 plain_lanes_are context leading lanes = refl
@@ -48,7 +51,8 @@ pub ruleset lanes_are = (source_lanes_are, plain_lanes_are, below_lanes_are)
 
 -- a code that is not empty is in brackets
 pub bracketed-some : (code : List ℕ) → (length code == 0) ≡ false
-    → bracketed (Some code) ≡ byte_stream (codes "[") ++ byte_stream code ++ byte_stream (codes "]")
+    → bracketed (Some code) ≡ byte_stream (codes "[") ++ byte_stream code
+    ++ byte_stream (codes "]")
 unfolding bracketed
 bracketed-some [] h = let clash : true ≡ false = h in cc
 bracketed-some (b ∷ bs) h = refl
@@ -70,7 +74,8 @@ pub repeated-add : (k n c : ℕ) → repeated (k + n) c ≡ repeated k c ++ repe
 unfolding repeated
 repeated-add k n c = repeat-add k n (glyph c)
 
-pub repeated-past : (k n c : ℕ) → k ≤ n → repeated n c ≡ repeated k c ++ repeated (n - k) c
+pub repeated-past : (k n c : ℕ) → k ≤ n
+    → repeated n c ≡ repeated k c ++ repeated (n - k) c
 repeated-past k n c h = let e : n ≡ k + (n - k) = omega arith in
     ap (λ m. repeated m c) e ∙ repeated-add k (n - k) c
 
@@ -113,7 +118,8 @@ line_rows context line =
 
 -- a line without labels has no caret row
 pub caret_rows_none : (context : RowContext) (line : Line) (labels : List SingleLabelTuple)
-    → length labels ≤ 0 → stream_of_rows context (caret_rows line (single_label_views labels)) ≡ []
+    → length labels ≤ 0 → stream_of_rows context (caret_rows line (single_label_views labels))
+    ≡ []
 caret_rows_none context line [] h = refl
 caret_rows_none context line (x ∷ xs) h = absurd (omega arith)
 

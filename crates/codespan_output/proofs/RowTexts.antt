@@ -1,9 +1,9 @@
 -- For `outputs_are_utf8`: the streams of rows are texts.
-use Rattle.codespan_core.proofs.Std.{◌≡◌, ℕ, ◌-◌, Bool, true, false, List, [], ◌∷◌, ◌++◌, Option}
-use Rattle.codespan_core.proofs.Std.{Some, None, refl, sym, subst, arith, Contains, codes, nat_lt}
-use Rattle.codespan_core.proofs.Std.{nat_le, if◌then◌else◌, IfSome, IsScalar, AllByRecursion}
-use Rattle.codespan_core.proofs.Std.{list_any, range_with_len, IsUtf8, cond_both}
-use Rattle.codespan_core.proofs.Std.{All-from_recursion}
+use Rattle.codespan_core.proofs.Std.{◌≡◌, ℕ, ◌-◌, Bool, true, false, List, []}
+use Rattle.codespan_core.proofs.Std.{◌∷◌, ◌++◌, Option, Some, None, refl, sym, subst}
+use Rattle.codespan_core.proofs.Std.{arith, Contains, codes, nat_lt, nat_le, if◌then◌else◌}
+use Rattle.codespan_core.proofs.Std.{IfSome, IsScalar, AllByRecursion, list_any, range_with_len}
+use Rattle.codespan_core.proofs.Std.{IsUtf8, cond_both, All-from_recursion}
 use Rattle.std.proofs.lemmas.List.Elements.{All-contains, Contains-append_right}
 use Rattle.codespan_core.specs.SnippetStarts.{start_text}
 use Rattle.codespan_core.specs.Labels.{LabelModel, LaneMark, MultiLabel, Top, Left, Bottom}
@@ -27,9 +27,9 @@ use Rattle.codespan_output.specs.{line_metrics, line_metrics_to_end, source_styl
 use Rattle.codespan_output.specs.{colored_text, caret_glyphs, carets, trailing_message, starts_in}
 use Rattle.codespan_output.specs.{max_label_start, spaces_up_to, pointer_style, pointer_at}
 use Rattle.codespan_output.specs.{pointers, metrics_before, metrics_up_to, start_caret, end_caret}
-use Rattle.codespan_output.specs.{underline_message, underline, bracketed, header_locus}
-use Rattle.codespan_output.specs.{header_row, snippet_start_row, empty_row, break_row, source_row}
-use Rattle.codespan_output.specs.{row_start, caret_row, pointer_row, hanging_row, underline_row}
+use Rattle.codespan_output.specs.{underline_message, underline, bracketed, header_locus, header_row}
+use Rattle.codespan_output.specs.{snippet_start_row, empty_row, break_row, source_row, row_start}
+use Rattle.codespan_output.specs.{caret_row, pointer_row, hanging_row, underline_row}
 use Rattle.codespan_output.specs.{first_note_row, later_note_row, stream_of, stream_of_rows}
 use Rattle.codespan_output.specs.{StreamIsUtf8, CharsAreScalars}
 use Rattle.codespan_output.specs.Rows.{Lanes}
@@ -46,9 +46,9 @@ use Rattle.codespan_output.proofs.StreamTexts.{text-outer_gutter_number, text-bo
 use Rattle.codespan_output.proofs.StreamTexts.{text-border_left_break, text-styled}
 use Rattle.codespan_output.proofs.StreamTexts.{text-label_message}
 use Rattle.codespan_output.proofs.LaneTexts.{text-label_glyph, text-lane_characters}
-use Rattle.codespan_output.proofs.LaneTexts.{scalar-caret_for, scalar-start_caret}
-use Rattle.codespan_output.proofs.LaneTexts.{scalar-end_caret, scalar-char_metrics}
-use Rattle.codespan_output.proofs.LaneTexts.{text-source_glyph, MultiLabelIsUtf8, RowIsUtf8}
+use Rattle.codespan_output.proofs.LaneTexts.{scalar-caret_for, scalar-start_caret, scalar-end_caret}
+use Rattle.codespan_output.proofs.LaneTexts.{scalar-char_metrics, text-source_glyph}
+use Rattle.codespan_output.proofs.LaneTexts.{MultiLabelIsUtf8, RowIsUtf8}
 
 -- ---- rows
 
@@ -84,7 +84,8 @@ text-trailing_label severity (x ∷ xs) h =
         text-both space (label_message severity y.style y.message) text-space
         (text-label_message severity y.style y.message t)
 
-    here : (a : Around) → a.before ++ (a.here ∷ a.after) ≡ x ∷ xs → StreamIsUtf8 a.here.message
+    here : (a : Around) → a.before ++ (a.here ∷ a.after) ≡ x ∷ xs
+        → StreamIsUtf8 a.here.message
     here a whole =
         All-contains (λ (y : LabelModel). StreamIsUtf8 y.message) (x ∷ xs) a.here
         (All-from_recursion (λ (y : LabelModel). StreamIsUtf8 y.message) (x ∷ xs) h)
@@ -127,7 +128,8 @@ module _ (context : RowContext) (ok : CharsAreScalars context.chars) where
   unfolding colored_text
   text-colored line u =
       text-styled context.severity (source_style line) source_glyph None (line_metrics context line)
-      (all-weaker (λ (c : Metrics). IsScalar c.ch) (λ (c : Metrics). StreamIsUtf8 (source_glyph c))
+      (all-weaker (λ (c : Metrics). IsScalar c.ch)
+      (λ (c : Metrics). StreamIsUtf8 (source_glyph c))
       text-source_glyph (line_metrics context line)
       (scalar-char_metrics context.tab_width line.text u))
 
@@ -194,7 +196,8 @@ module _ (context : RowContext) (ok : CharsAreScalars context.chars) where
   text-underline_message (p ∷ ps) t = text-both space (p ∷ ps) text-space t
 
   text-underline : (style : LabelStyle) (cs : List Metrics) (multi_label : MultiLabel)
-      → MultiLabelIsUtf8 multi_label → StreamIsUtf8 (underline context.chars style cs multi_label)
+      → MultiLabelIsUtf8 multi_label
+      → StreamIsUtf8 (underline context.chars style cs multi_label)
   unfolding underline
   text-underline style cs (Top start) t =
       followed

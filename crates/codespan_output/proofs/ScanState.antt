@@ -1,8 +1,9 @@
 -- For `write_carets` and `find_pointers`: how the characters of a line follow one another, and what
 -- a loop over them knows of byte indices and columns.
-use Rattle.codespan_core.proofs.Std.{◌≡◌, ℕ, ◌+◌, ◌*◌, ◌-◌, ◌^◌, ◌<◌, ◌≤◌, List, [], ◌∷◌, length}
-use Rattle.codespan_core.proofs.Std.{refl, sym, ap, ◌∙◌, arith, length-append, encode_utf8}
-use Rattle.codespan_core.proofs.Std.{len_utf8, IsUtf8, chars, length-encode, len_utf8_bounds}
+use Rattle.codespan_core.proofs.Std.{◌≡◌, ℕ, ◌+◌, ◌*◌, ◌-◌, ◌^◌, ◌<◌}
+use Rattle.codespan_core.proofs.Std.{◌≤◌, List, [], ◌∷◌, length, refl, sym, ap}
+use Rattle.codespan_core.proofs.Std.{◌∙◌, arith, length-append, encode_utf8, len_utf8, IsUtf8}
+use Rattle.codespan_core.proofs.Std.{chars, length-encode, len_utf8_bounds}
 use Rattle.std.proofs.lemmas.Str.{encodes-chars}
 use Rattle.codespan_output.specs.Types.{Metrics}
 use Rattle.codespan_output.specs.{metrics_then, char_metrics, placeholder, char_metrics_to_end}
@@ -52,12 +53,14 @@ bytes_of (c ∷ cs) = len_utf8 c + bytes_of cs
 bytes_of-encodes : (cs : List ℕ) → length (encodes cs) ≡ bytes_of cs
 bytes_of-encodes [] = refl
 bytes_of-encodes (c ∷ cs) =
-    length-append (encode_utf8 c) (encodes cs) ∙ omega (arith, length-encode c, bytes_of-encodes cs)
+    length-append (encode_utf8 c) (encodes cs)
+    ∙ omega (arith, length-encode c, bytes_of-encodes cs)
 
 bytes_of-chars : (bs : List ℕ) → IsUtf8 bs → bytes_of (chars bs) ≡ length bs
 bytes_of-chars bs u = sym (bytes_of-encodes (chars bs)) ∙ ap length (encodes-chars bs u)
 
-consecutive_within-then : (after : ℕ → ℕ → List Metrics) (more top tab byte_index column : ℕ)
+consecutive_within-then : (after : ℕ → ℕ → List Metrics)
+    (more top tab byte_index column : ℕ)
     (cs : List ℕ)
     → ((p q : ℕ) → p + more ≤ top → ConsecutiveWithin top p q (after p q))
     → byte_index + bytes_of cs + more ≤ top
@@ -103,14 +106,16 @@ scan_state-char_metrics tab text u = record {
 
 -- one more cell can be counted
 pub scan_state-fits : (top run : ℕ) (x : Metrics) (cs : List Metrics) → top ≤ 2 ^ 64
-    → x.unicode_width < 2 ^ 64 → ScanState top run (x ∷ cs) → run + x.unicode_width < 2 ^ 128
+    → x.unicode_width < 2 ^ 64 → ScanState top run (x ∷ cs)
+    → run + x.unicode_width < 2 ^ 128
 scan_state-fits top run x cs t w l =
     let here = l.consecutive_within.0 in
     omega (arith, here.room, here.some, l.narrow, l.small)
 
 -- how many cells are counted after it: at most those before it and its own
 pub scan_state-more : (top run counted : ℕ) (x : Metrics) (cs : List Metrics)
-    → x.unicode_width < 2 ^ 64 → counted ≤ run + x.unicode_width → ScanState top run (x ∷ cs)
+    → x.unicode_width < 2 ^ 64 → counted ≤ run + x.unicode_width
+    → ScanState top run (x ∷ cs)
     → ScanState top counted cs
 scan_state-more top run counted x cs w h l =
     let here = l.consecutive_within.0 in

@@ -1,8 +1,8 @@
 -- For `outputs_are_utf8`: the elements of items in sequence and of what is between them, and what
 -- holds of all of them.
-use Rattle.codespan_core.proofs.Std.{◌≡◌, ℕ, ◌+◌, Bool, true, false, cond, ◌==◌, List, [], ◌∷◌}
-use Rattle.codespan_core.proofs.Std.{◌++◌, flat_map, Option, Some, None, refl, ap, ap₂, ◌∙◌}
-use Rattle.codespan_core.proofs.Std.{AllByRecursion, cond_both}
+use Rattle.codespan_core.proofs.Std.{◌≡◌, ℕ, ◌+◌, Bool, true, false, cond, ◌==◌}
+use Rattle.codespan_core.proofs.Std.{List, [], ◌∷◌, ◌++◌, flat_map, Option, Some, None}
+use Rattle.codespan_core.proofs.Std.{refl, ap, ap₂, ◌∙◌, AllByRecursion, cond_both}
 use Rattle.std.proofs.lemmas.List.Concat.{flat_map-append}
 use Rattle.codespan_output.specs.{has_break_between, before_line, break_between, gap_between}
 use Rattle.codespan_output.specs.{in_sequence}
@@ -10,7 +10,8 @@ use Rattle.codespan_output.proofs.ListElements.{all-append}
 
 module _ {A : Type 0} (P : A → Type 0) where
   -- what holds of all elements of breaks
-  pub all-break : (broken : ℕ → List A) → ((d : ℕ) → AllByRecursion P (broken d)) → (c d : ℕ)
+  pub all-break : (broken : ℕ → List A) → ((d : ℕ) → AllByRecursion P (broken d))
+      → (c d : ℕ)
       → AllByRecursion P (break_between broken c d)
   all-break broken each c d =
       cond_both (has_break_between c d) (broken d) [] (AllByRecursion P) (λ _. each d) (λ _. tt)
@@ -24,14 +25,17 @@ module _ {A : Type 0} (P : A → Type 0) where
       (λ _. fills (c + 1)) (λ _. all-break broken breaks c d)
 
   -- what holds of all elements between lines holds of those before one
-  pub all-before : (between : ℕ → ℕ → List A) → ((c d : ℕ) → AllByRecursion P (between c d))
+  pub all-before : (between : ℕ → ℕ → List A)
+      → ((c d : ℕ) → AllByRecursion P (between c d))
       → (previous : Option ℕ) (d : ℕ) → AllByRecursion P (before_line between previous d)
   all-before between gaps None d = tt
   all-before between gaps (Some c) d = gaps c d
 
   -- what holds of these and of the elements of the items holds of all
-  pub all-sequence : {X : Type 0} (line_of : X → ℕ) (between : ℕ → ℕ → List A) (own : X → List A)
-      → ((c d : ℕ) → AllByRecursion P (between c d)) → ((x : X) → AllByRecursion P (own x))
+  pub all-sequence : {X : Type 0} (line_of : X → ℕ) (between : ℕ → ℕ → List A)
+      (own : X → List A)
+      → ((c d : ℕ) → AllByRecursion P (between c d))
+      → ((x : X) → AllByRecursion P (own x))
       → (previous : Option ℕ) (xs : List X)
       → AllByRecursion P (in_sequence line_of between own previous xs)
   all-sequence line_of between own gaps each previous [] = tt
@@ -64,7 +68,8 @@ flat_map-sequence {X} {A} {B} expand line_of between own previous (x ∷ xs) =
     before (Some c) = refl
 
 -- the elements of a gap are those of the filled line or of the break in it
-pub flat_map-gap : {A B : Type 0} (expand : A → List B) (filled broken : ℕ → List A) (c d : ℕ)
+pub flat_map-gap : {A B : Type 0} (expand : A → List B) (filled broken : ℕ → List A)
+    (c d : ℕ)
     → flat_map expand (gap_between filled broken c d) ≡ gap_between
     (λ l. flat_map expand (filled l)) (λ l. flat_map expand (broken l)) c d
 flat_map-gap expand filled broken c d = by_tests (d == c + 2) (has_break_between c d)
@@ -76,7 +81,8 @@ flat_map-gap expand filled broken c d = by_tests (d == c + 2) (has_break_between
     by_tests false false = refl
 
 -- where breaks have no elements, a sequence has those of its items
-pub sequence-flat : {X A : Type 0} (line_of : X → ℕ) (own : X → List A) (previous : Option ℕ)
+pub sequence-flat : {X A : Type 0} (line_of : X → ℕ) (own : X → List A)
+    (previous : Option ℕ)
     (xs : List X)
     → in_sequence line_of (break_between (λ _. [])) own previous xs ≡ flat_map own xs
 sequence-flat line_of own previous [] = refl

@@ -1,8 +1,9 @@
 -- For `write_carets`: the characters that a loop over a line leaves out, since they end before all
 -- labels start.
-use Rattle.codespan_core.proofs.Std.{◌≡◌, ℕ, ◌+◌, ◌-◌, ◌^◌, ◌<◌, ◌≤◌, Bool, true, false, ◌&&◌, ◌||◌}
-use Rattle.codespan_core.proofs.Std.{◌==◌, ◌%◌, List, [], ◌∷◌, ◌++◌, None, refl, sym, ap, subst}
-use Rattle.codespan_core.proofs.Std.{◌∙◌, arith, min, fold, add-zero, list_any, len_utf8, chars}
+use Rattle.codespan_core.proofs.Std.{◌≡◌, ℕ, ◌+◌, ◌-◌, ◌^◌, ◌<◌, ◌≤◌}
+use Rattle.codespan_core.proofs.Std.{Bool, true, false, ◌&&◌, ◌||◌, ◌==◌, ◌%◌, List}
+use Rattle.codespan_core.proofs.Std.{[], ◌∷◌, ◌++◌, None, refl, sym, ap, subst, ◌∙◌}
+use Rattle.codespan_core.proofs.Std.{arith, min, fold, add-zero, list_any, len_utf8, chars}
 use Rattle.codespan_core.proofs.Std.{if◌then◌else◌, nat_tests, sum_by-cons}
 use Rattle.codespan_core.specs.Labels.{LabelModel, is_primary}
 use Rattle.codespan_output.specs.Types.{Metrics}
@@ -16,7 +17,8 @@ use Rattle.codespan_output.proofs.ScanState.{ConsecutiveWithin, ScanState, scan_
 
 -- ---- what is under no label
 
-least-le : (m : ℕ) (xs : List LabelModel) → fold (λ n (x : LabelModel). min x.start n) m xs ≤ m
+least-le : (m : ℕ) (xs : List LabelModel)
+    → fold (λ n (x : LabelModel). min x.start n) m xs ≤ m
 least-le m [] = omega arith
 least-le m (x ∷ xs) = let more = least-le (min x.start m) xs in omega arith
 
@@ -111,9 +113,11 @@ scan_state-past top run (c ∷ cs) left narrow l =
     (scan_state-more top run (run + c.unicode_width) c (cs ++ left) narrow.0 (omega arith) l))
 
 -- a loop over the remaining characters of a line and the placeholder after the last one
-pub scan_state-left : (tab : ℕ) (text : List ℕ) (byte_index column top : ℕ) (left : List Metrics)
+pub scan_state-left : (tab : ℕ) (text : List ℕ) (byte_index column top : ℕ)
+    (left : List Metrics)
     → tab < 2 ^ 64 → ScanState top 0 (char_metrics_to_end tab text)
-    → LeavesOut byte_index (char_metrics_to_end tab text) column left → ScanState top column left
+    → LeavesOut byte_index (char_metrics_to_end tab text) column left
+    → ScanState top column left
 scan_state-left tab text byte_index column top left h scan_state out =
     let narrow : AreNarrow (out.before ++ left) =
     subst (λ (cs : List Metrics). AreNarrow cs) (sym out.whole)

@@ -1,9 +1,9 @@
 -- For `messages_appear_once`: the slots in each row.
-use Rattle.codespan_core.proofs.Std.{◌≡◌, ℕ, zero, suc, ◌+◌, ◌-◌, Bool, true, false, cond, ◌==◌}
-use Rattle.codespan_core.proofs.Std.{nat_lt, nat_le, List, [], ◌∷◌, ◌++◌, replicate, Option, Some}
-use Rattle.codespan_core.proofs.Std.{None, if◌then◌else◌, refl, ap₂, ◌∙◌, arith, sum_by, count_by}
-use Rattle.codespan_core.proofs.Std.{flat_map, repeat, list_any, range_with_len, sum_by-cons}
-use Rattle.codespan_core.proofs.Std.{sum_by-append}
+use Rattle.codespan_core.proofs.Std.{◌≡◌, ℕ, zero, suc, ◌+◌, ◌-◌, Bool, true, false}
+use Rattle.codespan_core.proofs.Std.{cond, ◌==◌, nat_lt, nat_le, List, [], ◌∷◌, ◌++◌}
+use Rattle.codespan_core.proofs.Std.{replicate, Option, Some, None, if◌then◌else◌, refl}
+use Rattle.codespan_core.proofs.Std.{ap₂, ◌∙◌, arith, sum_by, count_by, flat_map, repeat}
+use Rattle.codespan_core.proofs.Std.{list_any, range_with_len, sum_by-cons, sum_by-append}
 use Rattle.codespan_core.specs.Streams.{Stream, Byte, style_mark, byte_stream, spaces, space, glyph}
 use Rattle.codespan_core.specs.Streams.{repeated, newline}
 use Rattle.codespan_core.specs.declared.term.config.style_mark.StyleMark.{StyleMark}
@@ -15,16 +15,16 @@ use Rattle.codespan_output.specs.{RowContext, Line, Row, HeaderRow, SnippetStart
 use Rattle.codespan_output.specs.{BreakRow, SourceRow, CaretRow, PointerRow, HangingRow}
 use Rattle.codespan_output.specs.{UnderlineRow, FirstNoteRow, LaterNoteRow, FinalRow}
 use Rattle.codespan_output.specs.{trailing_label, hanging_labels, snippet_locus, outer_gutter}
-use Rattle.codespan_output.specs.{outer_gutter_number, border_left, border_left_break}
-use Rattle.codespan_output.specs.{style_change, styled, label_message, inner_gutter_column}
-use Rattle.codespan_output.specs.{lanes_in, inner_gutter, line_metrics, source_style, source_glyph}
+use Rattle.codespan_output.specs.{outer_gutter_number, border_left, border_left_break, style_change}
+use Rattle.codespan_output.specs.{styled, label_message, inner_gutter_column, lanes_in}
+use Rattle.codespan_output.specs.{inner_gutter, line_metrics, source_style, source_glyph}
 use Rattle.codespan_output.specs.{colored_text, caret_glyphs, carets, trailing_message}
 use Rattle.codespan_output.specs.{spaces_up_to, pointer_at, pointers, pointer_style, starts_in}
 use Rattle.codespan_output.specs.{max_label_start, underline_message, underline, bracketed}
-use Rattle.codespan_output.specs.{header_locus, header_row, snippet_start_row, empty_row}
-use Rattle.codespan_output.specs.{break_row, source_row, row_start, caret_row, pointer_row}
-use Rattle.codespan_output.specs.{hanging_row, underline_row, first_note_row, later_note_row}
-use Rattle.codespan_output.specs.{stream_of, stream_of_rows, is_slot}
+use Rattle.codespan_output.specs.{header_locus, header_row, snippet_start_row, empty_row, break_row}
+use Rattle.codespan_output.specs.{source_row, row_start, caret_row, pointer_row, hanging_row}
+use Rattle.codespan_output.specs.{underline_row, first_note_row, later_note_row, stream_of}
+use Rattle.codespan_output.specs.{stream_of_rows, is_slot}
 use Rattle.codespan_output.specs.declared.lane_shapes.Shape.{Shape}
 use Rattle.codespan_output.specs.declared.lane_shapes.Shape.TheVariants.{Space, Bar, TopCorner}
 use Rattle.codespan_output.specs.declared.lane_shapes.Shape.TheVariants.{BottomCorner}
@@ -94,7 +94,8 @@ pub slots-label_glyph : (k : ℕ) (severity : Severity) (style : LabelStyle) (c 
 unfolding label_glyph
 slots-label_glyph k severity style c = simp slots_of_parts
 
-pub slots-crossing_characters : (k : ℕ) (severity : Severity) (chars : Chars) (m : Option LaneMark)
+pub slots-crossing_characters : (k : ℕ) (severity : Severity) (chars : Chars)
+    (m : Option LaneMark)
     (n : ℕ)
     → slots k (crossing_characters severity chars m n) ≡ 0
 unfolding crossing_characters
@@ -193,7 +194,8 @@ unfolding colored_text
 slots-colored_text k context line = slots-styled k context.severity (source_style line) source_glyph
     (slots-source_glyph k) None (line_metrics context line)
 
-pub slots-caret_glyphs : (k : ℕ) (chars : Chars) (end : ℕ) (style : Option LabelStyle) (c : Metrics)
+pub slots-caret_glyphs : (k : ℕ) (chars : Chars) (end : ℕ) (style : Option LabelStyle)
+    (c : Metrics)
     → slots k (caret_glyphs chars end style c) ≡ 0
 unfolding caret_glyphs
 slots-caret_glyphs k chars end None c = by_test (nat_lt c.byte_index end)

@@ -1,9 +1,9 @@
 -- For `messages_appear_once`: each label's message has one slot.
-use Rattle.codespan_core.proofs.Std.{◌≡◌, ℕ, zero, suc, ◌+◌, ◌<◌, Bool, true, false, not, cond}
-use Rattle.codespan_core.proofs.Std.{◌||◌, ◌==◌, List, [], ◌∷◌, map, filter, Some, slice_get}
-use Rattle.codespan_core.proofs.Std.{length, if◌then◌else◌, refl, ap, ◌∙◌, arith, sum_by, count_by}
-use Rattle.codespan_core.proofs.Std.{list_any, enumerate_from, nat_tests, sum_by-cons}
-use Rattle.codespan_core.proofs.Std.{IsEquivalence}
+use Rattle.codespan_core.proofs.Std.{◌≡◌, ℕ, zero, suc, ◌+◌, ◌<◌, Bool, true, false}
+use Rattle.codespan_core.proofs.Std.{not, cond, ◌||◌, ◌==◌, List, [], ◌∷◌, map}
+use Rattle.codespan_core.proofs.Std.{filter, Some, slice_get, length, if◌then◌else◌, refl, ap}
+use Rattle.codespan_core.proofs.Std.{◌∙◌, arith, sum_by, count_by, list_any, enumerate_from}
+use Rattle.codespan_core.proofs.Std.{nat_tests, sum_by-cons, IsEquivalence}
 use Rattle.codespan_core.specs.FileModel.{FileModel, line_count}
 use Rattle.codespan_core.specs.Streams.{Slot}
 use Rattle.codespan_core.specs.Labels.{has_message, is_empty_stream, first_seen}
@@ -32,9 +32,11 @@ module _ {Id : Type 0} (same : Id → Id → Bool) (law : IsEquivalence same) wh
           → cond (not b) (cond c v 0) 0 ≡ 0
       clash is o true c here there = refl
       clash is o false false here there = refl
-      clash is o false true here there = let e = law.congr i z o is ∙ (law.symm z o ∙ there) in cc
+      clash is o false true here there = let e = law.congr i z o is
+          ∙ (law.symm z o ∙ there) in cc
 
-      apart : same i z ≡ false → (o : Id) → not (same i o) ≡ false → (c : Bool) → same o z ≡ c
+      apart : same i z ≡ false → (o : Id) → not (same i o) ≡ false → (c : Bool)
+          → same o z ≡ c
           → cond c v 0 ≡ 0
       apart is o here false there = refl
       apart is o here true there = by_same (same i o) refl here
@@ -72,7 +74,8 @@ module _ {Id : Type 0} (same : Id → Id → Bool) (law : IsEquivalence same) wh
 
   -- over all files each label counts once
   all_seen : (w : LabelInFile Id → ℕ) (ids : List Id) (xs : List (LabelInFile Id))
-      → ((z : Id) → list_any (λ id. same id z) (map (λ (x : LabelInFile Id). x.file_id) xs) ≡ true
+      → ((z : Id) → list_any (λ id. same id z) (map (λ (x : LabelInFile Id). x.file_id) xs)
+      ≡ true
       → list_any (λ id. same id z) ids ≡ true)
       → sum_by
       (λ (x : LabelInFile Id). sum_by (λ id. cond (same id x.file_id) (w x) 0)
@@ -105,14 +108,17 @@ module _ {Id : Type 0} (same : Id → Id → Bool) (law : IsEquivalence same) wh
       let ids = first_seen same (map (λ (x : LabelInFile Id). x.file_id) xs) in
       sum-map (file_slots k config) (labeled_file_model same file xs) ids
       ∙ sum-ext (λ id. file_slots k config (labeled_file_model same file xs id))
-      (λ id. sum_by (λ (x : LabelInFile Id). cond (same id x.file_id) (label_slots k x.label) 0) xs)
+      (λ id. sum_by (λ (x : LabelInFile Id). cond (same id x.file_id) (label_slots k x.label) 0)
+      xs)
       (λ id. snippet_sum k config (labeled_file_model same file xs id) (some id)
       ∙ sum-map (label_slots k) (λ (x : LabelInFile Id). x.label)
       (filter (λ (x : LabelInFile Id). same id x.file_id) xs)
-      ∙ sum-filter (λ (x : LabelInFile Id). label_slots k x.label) (λ (x : LabelInFile Id). same id
+      ∙ sum-filter (λ (x : LabelInFile Id). label_slots k x.label)
+      (λ (x : LabelInFile Id). same id
       x.file_id) xs)
       ids
-      ∙ sum-swap (λ id (x : LabelInFile Id). cond (same id x.file_id) (label_slots k x.label) 0) ids
+      ∙ sum-swap (λ id (x : LabelInFile Id). cond (same id x.file_id) (label_slots k x.label) 0)
+      ids
       xs
       ∙ all_seen (λ x. label_slots k x.label) (map (λ (x : LabelInFile Id). x.file_id) xs) xs
       (λ z any. any)
@@ -125,7 +131,8 @@ unfolding slots
 slotted_slots k n x = by_tests (is_empty_stream x.label.message) (n == k) refl refl
   where
     by_tests : (b c : Bool) → is_empty_stream x.label.message ≡ b → (n == k) ≡ c
-        → count_by (is_slot k) (if b then [] else Slot n ∷ []) ≡ cond c (if not b then 1 else 0) 0
+        → count_by (is_slot k) (if b then [] else Slot n ∷ [])
+        ≡ cond c (if not b then 1 else 0) 0
     by_tests true true h i = refl
     by_tests true false h i = refl
     by_tests false true h i = let e = ap {B = ℕ} (λ b. cond b 1 0) i in omega (arith, e)
@@ -138,7 +145,8 @@ module _ {Id : Type 0} (k : ℕ) where
   abbrev pub slotted_sum : List (LabelInFile Id) → ℕ
   slotted_sum ys = sum_by (λ (y : LabelInFile Id). label_slots k y.label) ys
 
-  pub none_later : (n : ℕ) (xs : List (LabelInFile Id)) → k < n → slotted_sum (slotted_from n xs)
+  pub none_later : (n : ℕ) (xs : List (LabelInFile Id)) → k < n
+      → slotted_sum (slotted_from n xs)
       ≡ 0
   none_later n [] h = refl
   none_later n (x ∷ xs) h =
@@ -159,7 +167,8 @@ module _ {Id : Type 0} (k : ℕ) where
   one_here n j [] x at h = cc
   one_here n zero (y ∷ ys) x at h =
       let is : y ≡ x = cc in
-      let weight = ap {B = ℕ} (λ (z : LabelInFile Id). if has_message z.label then 1 else 0) is in
+      let weight = ap {B = ℕ} (λ (z : LabelInFile Id). if has_message z.label then 1 else 0) is
+      in
       let here : (n == k) ≡ true = grind (arith, nat_tests) in
       let e = ap {B = ℕ} (λ b. cond b (if has_message y.label then 1 else 0) 0) here in
       omega (
@@ -187,7 +196,8 @@ pub each_once : {Id : Type 0} (context : RowContext) (config : Config) (same : I
     (file : Id → FileModel) (header_text : HeaderText) (notes : List (List ℕ))
     (xs : List (LabelInFile Id)) (ps : List Locus)
     → length ps ≡ length (labeled_file_models same file (all_slotted xs))
-    → IsEquivalence same → ((id : Id) → 0 < line_count (file id)) → (k : ℕ) (x : LabelInFile Id)
+    → IsEquivalence same → ((id : Id) → 0 < line_count (file id))
+    → (k : ℕ) (x : LabelInFile Id)
     → slice_get xs k ≡ Some x
     → count_by (is_slot k)
     (stream_of_rows context

@@ -1,9 +1,9 @@
 -- For `sorted_is_stable_sort`: what a filter keeps of a list that was sorted.
-use Rattle.codespan_core.proofs.Std.{◌≡◌, Bool, true, false, cond, List, [], ◌∷◌, ◌++◌, filter}
-use Rattle.codespan_core.proofs.Std.{reverse, ◌⊎◌, inl, inr, refl, sym, ap, subst, ◌∙◌, arith}
-use Rattle.codespan_core.proofs.Std.{true≢false, IsStrictWeakOrder, AllByRecursion, sum_by}
-use Rattle.codespan_core.proofs.Std.{IsSortedBy, IsPermutation, cond_both, append-nil}
-use Rattle.codespan_core.proofs.Std.{reverse-append, filter-append, recursion_from_All}
+use Rattle.codespan_core.proofs.Std.{◌≡◌, Bool, true, false, cond, List, [], ◌∷◌}
+use Rattle.codespan_core.proofs.Std.{◌++◌, filter, reverse, ◌⊎◌, inl, inr, refl, sym, ap}
+use Rattle.codespan_core.proofs.Std.{subst, ◌∙◌, arith, true≢false, IsStrictWeakOrder}
+use Rattle.codespan_core.proofs.Std.{AllByRecursion, sum_by, IsSortedBy, IsPermutation, cond_both}
+use Rattle.codespan_core.proofs.Std.{append-nil, reverse-append, filter-append, recursion_from_All}
 use Rattle.codespan_core.proofs.Std.{All-from_recursion, sum_by-IsPermutation, All-permutation}
 use Rattle.codespan_core.proofs.Std.{sum_by-append, sum_by-cons}
 use Rattle.codespan_output.proofs.ListElements.{all-weaker, all-filter, all-append, all-both}
@@ -20,21 +20,25 @@ IsIn x [] = ⊥
 IsIn x (y ∷ ys) = (x ≡ y) ⊎ IsIn x ys
 
 -- what holds of each element holds of one that is in the list
-all-in : {X : Type 0} (P : X → Type 0) (y : X) (xs : List X) → AllByRecursion P xs → IsIn y xs → P y
+all-in : {X : Type 0} (P : X → Type 0) (y : X) (xs : List X) → AllByRecursion P xs → IsIn y xs
+    → P y
 all-in P y [] h i = absurd i
 all-in P y (x ∷ xs) h (inl e) = subst P (sym e) h.0
 all-in P y (x ∷ xs) h (inr i) = all-in P y xs h.1 i
 
 -- elements of a list that climbs are one where neither is below the other
-climbs-tie : {X : Type 0} (lt : X → X → Bool) (zs : List X) → Climbs lt zs → (x y : X) → IsIn x zs
+climbs-tie : {X : Type 0} (lt : X → X → Bool) (zs : List X) → Climbs lt zs → (x y : X)
+    → IsIn x zs
     → IsIn y zs
     → lt x y ≡ false → lt y x ≡ false → x ≡ y
 climbs-tie lt [] c x y i j h k = absurd i
 climbs-tie lt (z ∷ zs) c x y (inl e) (inl f) h k = e ∙ sym f
 climbs-tie lt (z ∷ zs) c x y (inl e) (inr j) h k =
-    absurd (true≢false (sym (ap (λ w. lt w y) e ∙ all-in (λ w. lt z w ≡ true) y zs c.0 j) ∙ h))
+    absurd
+    (true≢false (sym (ap (λ w. lt w y) e ∙ all-in (λ w. lt z w ≡ true) y zs c.0 j) ∙ h))
 climbs-tie lt (z ∷ zs) c x y (inr i) (inl f) h k =
-    absurd (true≢false (sym (ap (λ w. lt w x) f ∙ all-in (λ w. lt z w ≡ true) x zs c.0 i) ∙ k))
+    absurd
+    (true≢false (sym (ap (λ w. lt w x) f ∙ all-in (λ w. lt z w ≡ true) x zs c.0 i) ∙ k))
 climbs-tie lt (z ∷ zs) c x y (inr i) (inr j) h k = climbs-tie lt zs c.1 x y i j h k
 
 -- each is in the list that has an element more
@@ -59,7 +63,8 @@ in-filter q x (y ∷ ys) t (inr i) =
     (λ _. in-filter q x ys t i)
 
 -- a filter keeps of a sorted list what climbs with the same elements
-filter-sorted : {X : Type 0} (lt : X → X → Bool) → IsStrictWeakOrder lt → (given sorted : List X)
+filter-sorted : {X : Type 0} (lt : X → X → Bool) → IsStrictWeakOrder lt
+    → (given sorted : List X)
     → IsPermutation given sorted → IsSortedBy lt sorted
     → (q : X → Bool) (zs : List X) → Climbs lt zs → SameSums (filter q given) zs
     → ((x : X) → IsIn x (filter q given) → IsIn x zs)
@@ -85,7 +90,8 @@ filter-sorted {X} lt o given sorted perm up q zs climbs sums has =
 -- ---- a list from its end
 
 -- the first goes last
-pub reverse-cons : {X : Type 0} (x : X) (xs : List X) → reverse (x ∷ xs) ≡ reverse xs ++ x ∷ []
+pub reverse-cons : {X : Type 0} (x : X) (xs : List X)
+    → reverse (x ∷ xs) ≡ reverse xs ++ x ∷ []
 reverse-cons x xs = reverse-append (x ∷ []) xs
 
 -- what a filter keeps of a list from its end
@@ -161,14 +167,16 @@ in-reverse x xs i = all-in (λ y. IsIn y (reverse xs)) x xs (each xs) i
         subst (λ zs. AllByRecursion (λ z. IsIn z zs) (y ∷ ys)) (sym (reverse-cons y ys)) (
           first y (reverse ys),
           all-weaker (λ z. IsIn z (reverse ys))
-              (λ z. IsIn z (reverse ys ++ y ∷ [])) (λ z i. front z y (reverse ys) i) ys (each ys),
+              (λ z. IsIn z (reverse ys ++ y ∷ [])) (λ z i. front z y (reverse ys) i) ys
+              (each ys),
         )
 
 -- a filter keeps of a sorted list, from its end, what it keeps of the list that was sorted, where
 -- that falls
 pub filter-sorted_falls : {X : Type 0} (lt : X → X → Bool) → IsStrictWeakOrder lt
     → (given sorted : List X) → IsPermutation given sorted → IsSortedBy lt sorted
-    → (q : X → Bool) → Falls lt (filter q given) → filter q sorted ≡ reverse (filter q given)
+    → (q : X → Bool) → Falls lt (filter q given)
+    → filter q sorted ≡ reverse (filter q given)
 filter-sorted_falls lt o given sorted perm up q falls =
     filter-sorted lt o given sorted perm up q (reverse (filter q given))
     (climbs-reverse lt (filter q given) falls)

@@ -1,9 +1,9 @@
 -- For `sorted_is_stable_sort`: lists in order, and what a filter keeps of a list that was sorted.
-use Rattle.codespan_core.proofs.Std.{◌≡◌, ℕ, zero, suc, ◌+◌, Bool, true, false, cond, List, [], ◌∷◌}
-use Rattle.codespan_core.proofs.Std.{length, map, filter, ⊎_elim, refl, sym, ap, ◌∙◌, arith}
-use Rattle.codespan_core.proofs.Std.{IsStrictWeakOrder, AllByRecursion, sum_by, IsSortedBy}
-use Rattle.codespan_core.proofs.Std.{cases_Bool, cond_both, get_or-map, length-map}
-use Rattle.codespan_core.proofs.Std.{recursion_from_All, sorted_far, sum_by-cons}
+use Rattle.codespan_core.proofs.Std.{◌≡◌, ℕ, zero, suc, ◌+◌, Bool, true, false, cond}
+use Rattle.codespan_core.proofs.Std.{List, [], ◌∷◌, length, map, filter, ⊎_elim, refl, sym}
+use Rattle.codespan_core.proofs.Std.{ap, ◌∙◌, arith, IsStrictWeakOrder, AllByRecursion}
+use Rattle.codespan_core.proofs.Std.{sum_by, IsSortedBy, cases_Bool, cond_both, get_or-map}
+use Rattle.codespan_core.proofs.Std.{length-map, recursion_from_All, sorted_far, sum_by-cons}
 use Rattle.std.specs.List.{AllPairs}
 use Rattle.codespan_output.proofs.ListElements.{all-weaker, all-filter}
 
@@ -30,7 +30,8 @@ rises-from_pairs lt (x ∷ xs) h = (
 )
 
 -- a sorted list rises
-pub rises-from_sorted : {X : Type 0} (lt : X → X → Bool) → IsStrictWeakOrder lt → (xs : List X)
+pub rises-from_sorted : {X : Type 0} (lt : X → X → Bool) → IsStrictWeakOrder lt
+    → (xs : List X)
     → IsSortedBy lt xs → Rises lt xs
 rises-from_sorted lt o xs h =
     rises-from_pairs lt xs (λ i j d l w. sorted_far lt o xs h i j d (omega arith) w)
@@ -46,7 +47,8 @@ sorted_from_rises lt (x ∷ y ∷ ys) h (suc k) d z w =
     rw e (sorted_from_rises lt (y ∷ ys) h.1 k d (omega arith) (omega arith))
 
 -- what a filter keeps rises too
-pub rises-filter : {X : Type 0} (lt : X → X → Bool) (p : X → Bool) (xs : List X) → Rises lt xs
+pub rises-filter : {X : Type 0} (lt : X → X → Bool) (p : X → Bool) (xs : List X)
+    → Rises lt xs
     → Rises lt (filter p xs)
 rises-filter lt p [] h = tt
 rises-filter lt p (x ∷ xs) h =
@@ -115,19 +117,24 @@ pub not_below_itself : {X : Type 0} (lt : X → X → Bool) → IsStrictWeakOrde
 not_below_itself lt o x = ⊎_elim (λ t. o.one_way x x t) (λ f. f) (cases_Bool (lt x x))
 
 -- the first of a list is not below the first of one that rises with the same elements
-first-low : {X : Type 0} (lt : X → X → Bool) → IsStrictWeakOrder lt → (x y : X) (xs ys : List X)
-    → AllByRecursion (λ z. lt z y ≡ false) ys → SameSums (x ∷ xs) (y ∷ ys) → lt x y ≡ true → ⊥
+first-low : {X : Type 0} (lt : X → X → Bool) → IsStrictWeakOrder lt
+    → (x y : X) (xs ys : List X)
+    → AllByRecursion (λ z. lt z y ≡ false) ys → SameSums (x ∷ xs) (y ∷ ys)
+    → lt x y ≡ true → ⊥
 first-low lt o x y xs ys low same t =
     let none : sum_by (λ z. cond (lt z y) 1 0) (y ∷ ys) ≡ 0 =
     no_sum (λ z. lt z y) (y ∷ ys) (not_below_itself lt o y, low) in
-    let some : sum_by (λ z. cond (lt z y) 1 0) (x ∷ xs) ≡ 1 + sum_by (λ z. cond (lt z y) 1 0) xs =
+    let some : sum_by (λ z. cond (lt z y) 1 0) (x ∷ xs)
+    ≡ 1 + sum_by (λ z. cond (lt z y) 1 0) xs =
     sum_by-cons (λ z. cond (lt z y) 1 0) x xs ∙ rw t refl in
     omega (arith, none, some, same (λ z. cond (lt z y) 1 0))
 
 -- two ascending lists with the same elements are equal where the order separates the elements
-pub rises-unique : {X : Type 0} (lt : X → X → Bool) → IsStrictWeakOrder lt → (P : X → Type 0)
+pub rises-unique : {X : Type 0} (lt : X → X → Bool) → IsStrictWeakOrder lt
+    → (P : X → Type 0)
     → ((x y : X) → P x → P y → lt x y ≡ false → lt y x ≡ false → x ≡ y)
-    → (xs ys : List X) → AllByRecursion P xs → AllByRecursion P ys → Rises lt xs → Rises lt ys
+    → (xs ys : List X) → AllByRecursion P xs → AllByRecursion P ys → Rises lt xs
+    → Rises lt ys
     → SameSums xs ys → xs ≡ ys
 rises-unique lt o P tie [] [] p q a b same = refl
 rises-unique lt o P tie [] (y ∷ ys) p q a b same =

@@ -1,8 +1,9 @@
 -- For `write_caret_pointers` and `write_pointer_row`, and for `find_pointers` and `next_pointer` of
 -- `codespan_renderer`: the pointers of a line with spaces between them.
-use Rattle.codespan_core.proofs.Std.{◌≡◌, ℕ, ◌+◌, ◌-◌, ◌<◌, ◌≤◌, min, Bool, true, false, nat_lt}
-use Rattle.codespan_core.proofs.Std.{nat_le, List, [], ◌∷◌, ◌++◌, Option, Some, None, refl, sym, ap}
-use Rattle.codespan_core.proofs.Std.{◌∙◌, arith, append_assoc, append-nil, lt-ltb, if◌then◌else◌}
+use Rattle.codespan_core.proofs.Std.{◌≡◌, ℕ, ◌+◌, ◌-◌, ◌<◌, ◌≤◌, min}
+use Rattle.codespan_core.proofs.Std.{Bool, true, false, nat_lt, nat_le, List, [], ◌∷◌}
+use Rattle.codespan_core.proofs.Std.{◌++◌, Option, Some, None, refl, sym, ap, ◌∙◌, arith}
+use Rattle.codespan_core.proofs.Std.{append_assoc, append-nil, lt-ltb, if◌then◌else◌}
 use Rattle.codespan_core.proofs.Std.{list_any, le-leb, lt-leb, nat_tests}
 use Rattle.codespan_core.specs.Labels.{LabelModel}
 use Rattle.codespan_core.specs.Streams.{Stream, byte_stream, spaces}
@@ -38,7 +39,8 @@ pub spaced-stop : (context : RowContext) (edge column before : ℕ) (ps rest : L
     → ps ≡ p ∷ rest → before ≤ p.byte_index
     → spaced context edge column (pointers_before before ps) ≡ spaces (edge - column)
 spaced-stop context edge column before ps rest p step far =
-    let late : nat_lt p.byte_index before ≡ false = grind (arith, nat_tests) in rw (step, late) refl
+    let late : nat_lt p.byte_index before
+    ≡ false = grind (arith, nat_tests) in rw (step, late) refl
 
 -- none is left
 pub spaced-end : (context : RowContext) (edge column before : ℕ) (ps : List Pointer) → ps ≡ []
@@ -55,7 +57,8 @@ spaces_none s = refl
 -- no label hangs from the character
 pointer_none : (context : RowContext) (labels : List LabelModel) (c : Metrics)
     → pointer_style_if_any (hanging_labels labels) c ≡ None
-    → pointer_at context labels (hanging_labels labels) c ≡ spaces_up_to (max_label_start labels) c
+    → pointer_at context labels (hanging_labels labels) c
+    ≡ spaces_up_to (max_label_start labels) c
     c.unicode_width
 unfolding pointer_at
 pointer_none context labels c h = by_test (list_any (starts_in c) (hanging_labels labels)) refl h
@@ -88,7 +91,8 @@ pointer_some context labels c style h =
     by_test false is h = cc
 
 -- the spaces of a character are added to the pending ones
-spaces_due : (reach : ℕ) (c : Metrics) (pending width : ℕ) (s : Stream) → c.byte_index ≤ reach
+spaces_due : (reach : ℕ) (c : Metrics) (pending width : ℕ) (s : Stream)
+    → c.byte_index ≤ reach
     → spaces pending ++ (spaces_up_to reach c width ++ s) ≡ spaces (pending + width) ++ s
 unfolding spaces_up_to
 spaces_due reach c pending width s h =
@@ -106,7 +110,8 @@ spaces_past reach c width s h =
 -- ---- past the greatest start
 
 none-test : (labels : List LabelModel) (c : Metrics) (b : Bool)
-    → max_label_start labels < c.byte_index → list_any (starts_in c) (hanging_labels labels) ≡ b
+    → max_label_start labels < c.byte_index
+    → list_any (starts_in c) (hanging_labels labels) ≡ b
     → b ≡ false
 none-test labels c true past is =
     let low = any-below 0 c.byte_index (starts_in c) labels (λ x. starts_in-low c x)
@@ -188,7 +193,8 @@ spaced-char_metrics context labels byte_index column at (c ∷ cs) adjacent low 
         (pointers_in (hanging_labels labels) cs))
         → (b : Bool) → nat_le c.byte_index (max_label_start labels) ≡ b
         → spaces (column - at) ++ pointers context labels (c ∷ cs)
-        ≡ spaced context (column + width_of (metrics_up_to (max_label_start labels) (c ∷ cs))) at
+        ≡ spaced context (column + width_of (metrics_up_to (max_label_start labels) (c ∷ cs)))
+        at
         (pointers_in (hanging_labels labels) (c ∷ cs))
     by_reach again true near = by_found (pointer_style_if_any (hanging_labels labels) c) refl
       where
@@ -202,7 +208,8 @@ spaced-char_metrics context labels byte_index column at (c ∷ cs) adjacent low 
 
         by_found : (o : Option LabelStyle) → pointer_style_if_any (hanging_labels labels) c ≡ o
             → spaces (column - at) ++ pointers context labels (c ∷ cs)
-            ≡ spaced context (column + width_of (metrics_up_to (max_label_start labels) (c ∷ cs)))
+            ≡ spaced context
+            (column + width_of (metrics_up_to (max_label_start labels) (c ∷ cs)))
             at (pointers_in (hanging_labels labels) (c ∷ cs))
         by_found None is =
             let more : column - at + c.unicode_width ≡ column + c.unicode_width - at =

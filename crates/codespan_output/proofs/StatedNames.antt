@@ -1,8 +1,9 @@
 -- For `output_is_picture` and `headers_are_before_failure`: an output where the
 -- names of files are stated.
-use Rattle.codespan_core.proofs.Std.{◌≡◌, Bool, true, false, cond, ◌&&◌, List, [], ◌∷◌, ◌++◌}
-use Rattle.codespan_core.proofs.Std.{length, map, take, flat_map, Option, None, Some, refl, sym, ap}
-use Rattle.codespan_core.proofs.Std.{◌∙◌, arith, take-append_seam, length-map, map-append}
+use Rattle.codespan_core.proofs.Std.{◌≡◌, Bool, true, false, cond, ◌&&◌, List, []}
+use Rattle.codespan_core.proofs.Std.{◌∷◌, ◌++◌, length, map, take, flat_map, Option, None}
+use Rattle.codespan_core.proofs.Std.{Some, refl, sym, ap, ◌∙◌, arith, take-append_seam}
+use Rattle.codespan_core.proofs.Std.{length-map, map-append}
 use Rattle.std.specs.Prelude.{IsSome, is_none, take_while}
 use Rattle.std.proofs.lemmas.List.Elements.{Contains-append_right}
 use Rattle.std.proofs.lemmas.List.Sums.{take_while-cons}
@@ -66,9 +67,11 @@ run_before {Id} failure (x ∷ xs) here after succeeded failed =
     none_of_first failure (header_lookups_of x) (flat_map header_lookups_of xs) succeeded in
     let passes : lookup_succeeds failure x ≡ true = both_succeed _ _ parts.0 in
     take_while-cons (lookup_succeeds failure) x (xs ++ here ∷ after)
-    ∙ ap (λ (b : Bool). cond b (x ∷ take_while (lookup_succeeds failure) (xs ++ here ∷ after)) [])
+    ∙ ap
+    (λ (b : Bool). cond b (x ∷ take_while (lookup_succeeds failure) (xs ++ here ∷ after)) [])
     passes
-    ∙ ap (λ (l : List (LabelInFile Id)). x ∷ l) (run_before failure xs here after parts.1 failed)
+    ∙ ap (λ (l : List (LabelInFile Id)). x ∷ l)
+    (run_before failure xs here after parts.1 failed)
 
 -- ---- loci of files that state their names
 
@@ -110,7 +113,8 @@ module _ {Id : Type 0} (files : FileDatabase Id) (d : Diagnostic Id)
       (take_while (lookup_succeeds files.failure) (primary_of (labels_of d))))
   headers_stated config loci are before here after whole succeeded e failed =
       let primaries = primary_of (labels_of d) in
-      let to_locus : LabelInFile Id → Locus = λ x. stated_locus (label_locus_byte files.file x) in
+      let to_locus : LabelInFile Id
+      → Locus = λ x. stated_locus (label_locus_byte files.file x) in
       let split : loci ≡ map to_locus before ++ map to_locus (here ∷ after) =
       loci_stated Short loci are ∙ map_twice stated_locus (label_locus_byte files.file) primaries
       ∙ ap (map to_locus) (sym whole) ∙ map-append to_locus before (here ∷ after) in

@@ -1,10 +1,10 @@
 -- For `outputs_are_utf8`: the streams of parts of rows are texts.
-use Rattle.codespan_core.proofs.Std.{◌≡◌, ℕ, zero, suc, ◌<◌, ◌/◌, ◌%◌, Bool, true, false, ◌&&◌}
-use Rattle.codespan_core.proofs.Std.{◌==◌, List, [], ◌∷◌, ◌++◌, flat_map, map, replicate}
-use Rattle.codespan_core.proofs.Std.{append_assoc, append-nil, Option, Some, None, refl, sym, subst}
-use Rattle.codespan_core.proofs.Std.{arith, codes, decimal, nat_lt, IsScalar, encode_utf8}
-use Rattle.codespan_core.proofs.Std.{AllByRecursion, repeat, IsUtf8, chars, cond_both, nat_tests}
-use Rattle.codespan_core.proofs.Std.{IsUtf8-nil}
+use Rattle.codespan_core.proofs.Std.{◌≡◌, ℕ, zero, suc, ◌<◌, ◌/◌, ◌%◌, Bool}
+use Rattle.codespan_core.proofs.Std.{true, false, ◌&&◌, ◌==◌, List, [], ◌∷◌, ◌++◌}
+use Rattle.codespan_core.proofs.Std.{flat_map, map, replicate, append_assoc, append-nil, Option}
+use Rattle.codespan_core.proofs.Std.{Some, None, refl, sym, subst, arith, codes, decimal, nat_lt}
+use Rattle.codespan_core.proofs.Std.{IsScalar, encode_utf8, AllByRecursion, repeat, IsUtf8, chars}
+use Rattle.codespan_core.proofs.Std.{cond_both, nat_tests, IsUtf8-nil}
 use Rattle.std.specs.Fmt.{digits, digits_onto, digit_glyph}
 use Rattle.std.specs.Str.{IsAscii}
 use Rattle.std.proofs.lemmas.Str.{IsUtf8-append, IsUtf8-encode, IsUtf8-from_ascii}
@@ -17,10 +17,9 @@ use Rattle.codespan_core.specs.Streams.{spaces, space, repeated, newline, text_o
 use Rattle.codespan_core.specs.declared.term.config.style_mark.StyleMark.{StyleMark}
 use Rattle.codespan_core.specs.declared.term.config.style_mark.StyleMark.TheVariants.{Label, Reset}
 use Rattle.codespan_output.specs.Types.{LabelStyle, Primary, Secondary, Severity, Chars, Metrics}
-use Rattle.codespan_output.specs.{Locus, snippet_locus, outer_gutter}
-use Rattle.codespan_output.specs.{outer_gutter_number, border_left, border_left_break}
-use Rattle.codespan_output.specs.{style_change, styled, label_message, AreUtf8After, StreamIsUtf8}
-use Rattle.codespan_output.specs.{CharsAreScalars}
+use Rattle.codespan_output.specs.{Locus, snippet_locus, outer_gutter, outer_gutter_number}
+use Rattle.codespan_output.specs.{border_left, border_left_break, style_change, styled}
+use Rattle.codespan_output.specs.{label_message, AreUtf8After, StreamIsUtf8, CharsAreScalars}
 use Rattle.codespan_output.proofs.Texts.{text_of-append, text_of-byte_stream, text_of-style_mark}
 
 -- ---- streams
@@ -157,7 +156,8 @@ text-each f (x ∷ xs) h = text-both (f x) (flat_map f xs) h.0 (text-each f xs h
 ascii-digit : (n : ℕ) → digit_glyph false (n % 10) < 128
 ascii-digit n = let small : n % 10 < 10 = omega arith in grind (arith, nat_tests)
 
-ascii-digits : (k n : ℕ) (acc : List ℕ) → IsAscii acc → IsAscii (digits_onto k 10 false n acc)
+ascii-digits : (k n : ℕ) (acc : List ℕ) → IsAscii acc
+    → IsAscii (digits_onto k 10 false n acc)
 ascii-digits zero n acc a = a
 ascii-digits (suc k) n acc a =
     let one : IsAscii (digit_glyph false (n % 10) ∷ acc) =
@@ -210,7 +210,8 @@ pub text-outer_gutter_number : (padding n : ℕ) → StreamIsUtf8 (outer_gutter_
 unfolding outer_gutter_number
 text-outer_gutter_number padding n = search pieces
 
-pub text-border_left : (chars : Chars) → CharsAreScalars chars → StreamIsUtf8 (border_left chars)
+pub text-border_left : (chars : Chars) → CharsAreScalars chars
+    → StreamIsUtf8 (border_left chars)
 unfolding border_left
 text-border_left chars ok = search (pieces, ok.source_border_left)
 

@@ -1,7 +1,8 @@
 -- For `write_colored_text`: the text of a source row, run by run.
-use Rattle.codespan_core.proofs.Std.{◌≡◌, ℕ, ◌+◌, ◌-◌, ◌≤◌, List, [], ◌∷◌, ◌++◌, length, take, drop}
-use Rattle.codespan_core.proofs.Std.{Option, None, refl, sym, ap, ◌∙◌, append_assoc, append-nil}
-use Rattle.codespan_core.proofs.Std.{arith, encode_utf8, len_utf8, IsUtf8, chars, take-append_seam}
+use Rattle.codespan_core.proofs.Std.{◌≡◌, ℕ, ◌+◌, ◌-◌, ◌≤◌, List, []}
+use Rattle.codespan_core.proofs.Std.{◌∷◌, ◌++◌, length, take, drop, Option, None, refl}
+use Rattle.codespan_core.proofs.Std.{sym, ap, ◌∙◌, append_assoc, append-nil, arith}
+use Rattle.codespan_core.proofs.Std.{encode_utf8, len_utf8, IsUtf8, chars, take-append_seam}
 use Rattle.codespan_core.proofs.Std.{drop-drop, ne_eqb, eq-eqb}
 use Rattle.std.proofs.Math.Seq.{take-add}
 use Rattle.std.proofs.lemmas.Str.{encodes-chars, drop_past_char}
@@ -17,14 +18,16 @@ use Rattle.codespan_output.proofs.RowEquations.{style_change-same, regroup}
 -- ---- where a loop is in the text
 
 -- the remaining characters are those of the text from a byte index on
-pub record IsOver (tab : ℕ) (text : List ℕ) (byte_index : ℕ) (left : List Metrics) : Type 0 where
-  pub codes : List ℕ
-  pub column : ℕ
-  pub char_metrics : left ≡ metrics_then (λ _ _. []) tab byte_index column codes
-  pub text_left : drop byte_index text ≡ encodes codes
-  pub within : byte_index ≤ length text
+pub record IsOver (tab : ℕ) (text : List ℕ) (byte_index : ℕ) (left : List Metrics) : Type 0
+  where
+    pub codes : List ℕ
+    pub column : ℕ
+    pub char_metrics : left ≡ metrics_then (λ _ _. []) tab byte_index column codes
+    pub text_left : drop byte_index text ≡ encodes codes
+    pub within : byte_index ≤ length text
 
-pub over-start : (tab : ℕ) (text : List ℕ) → IsUtf8 text → IsOver tab text 0 (char_metrics tab text)
+pub over-start : (tab : ℕ) (text : List ℕ) → IsUtf8 text
+    → IsOver tab text 0 (char_metrics tab text)
 over-start tab text u =
     record {
       codes =
@@ -51,7 +54,8 @@ abbrev after : List Metrics → List Metrics
 after [] = []
 after (x ∷ xs) = xs
 
-over-cons : (tab : ℕ) (text : List ℕ) (byte_index column : ℕ) (x : Metrics) (left : List Metrics)
+over-cons : (tab : ℕ) (text : List ℕ) (byte_index column : ℕ) (x : Metrics)
+    (left : List Metrics)
     (codes : List ℕ)
     → x ∷ left ≡ metrics_then (λ _ _. []) tab byte_index column codes
     → drop byte_index text ≡ encodes codes → byte_index ≤ length text
@@ -82,8 +86,10 @@ over-cons tab text byte_index column x left (c ∷ cs) e t w =
       };
     }
 
-pub over-next : (tab : ℕ) (text : List ℕ) (byte_index : ℕ) (x : Metrics) (left after : List Metrics)
-    → left ≡ x ∷ after → IsOver tab text byte_index left → IsNext tab text byte_index x after
+pub over-next : (tab : ℕ) (text : List ℕ) (byte_index : ℕ) (x : Metrics)
+    (left after : List Metrics)
+    → left ≡ x ∷ after → IsOver tab text byte_index left
+    → IsNext tab text byte_index x after
 over-next tab text byte_index x left after e o =
     over-cons tab text byte_index o.column x after o.codes (sym e ∙ o.char_metrics) o.text_left
     o.within
@@ -111,7 +117,8 @@ piece-grows text start end ch n h t e =
 -- ---- the rest of a source row
 
 -- the text of a run that has begun, and of the remaining characters
-abbrev pub text_rest : RowContext → Line → Option LabelStyle → List ℕ → List Metrics → Stream
+abbrev pub text_rest : RowContext → Line → Option LabelStyle → List ℕ → List Metrics
+    → Stream
 text_rest context line previous run cs =
     byte_stream run ++ styled context.severity (source_style line) source_glyph previous cs
 
@@ -134,7 +141,8 @@ tab_shown c h = rw (eq-eqb c.ch 9 h) refl
 pub text-turn : (context : RowContext) (line : Line) (previous style : Option LabelStyle)
     (run : List ℕ) (c : Metrics) (left cs : List Metrics)
     → left ≡ c ∷ cs → style ≡ source_style line c → (c.ch ≡ 9 → ⊥)
-    → text_rest context line previous run left ≡ byte_stream run ++ style_change context.severity
+    → text_rest context line previous run left ≡ byte_stream run
+    ++ style_change context.severity
     previous
     style ++ text_rest context line style (encode_utf8 c.ch) cs
 text-turn context line previous style run c left cs l s h =
@@ -143,14 +151,16 @@ text-turn context line previous style run c left cs l s h =
     (source_glyph c)
     (styled context.severity (source_style line) source_glyph (source_style line c) cs)
     ∙ ap
-    (λ (g : Stream). byte_stream run ++ style_change context.severity previous (source_style line c)
+    (λ (g : Stream). byte_stream run
+    ++ style_change context.severity previous (source_style line c)
     ++ (g ++ styled context.severity (source_style line) source_glyph (source_style line c) cs))
     (shown c h))
 
 -- it is in the run
 pub text-same : (context : RowContext) (line : Line) (previous style : Option LabelStyle)
     (run : List ℕ) (c : Metrics) (left cs : List Metrics)
-    → left ≡ c ∷ cs → style ≡ source_style line c → (c.ch ≡ 9 → ⊥) → previous ≡ style
+    → left ≡ c ∷ cs → style ≡ source_style line c → (c.ch ≡ 9 → ⊥)
+    → previous ≡ style
     → text_rest context line previous run left ≡ text_rest context line style
     (run ++ encode_utf8 c.ch) cs
 text-same context line previous style run c left cs l s h e =
@@ -158,7 +168,8 @@ text-same context line previous style run c left cs l s h e =
     text-turn context line previous style run c left cs l s h
     ∙ ap (λ (g : Stream). g ++ text_rest context line style (encode_utf8 c.ch) cs)
     (ap (λ (g : Stream). byte_stream run ++ g)
-    (ap (λ o. style_change context.severity o style) e ∙ style_change-same context.severity style)
+    (ap (λ o. style_change context.severity o style) e
+    ∙ style_change-same context.severity style)
     ∙ append-nil (byte_stream run))
     ∙ sym (append_assoc (byte_stream run) (glyph c.ch) st)
     ∙ ap (λ (g : Stream). g ++ st) (sym (byte_stream-append run (encode_utf8 c.ch)))
@@ -167,7 +178,8 @@ text-same context line previous style run c left cs l s h e =
 pub text-tab : (context : RowContext) (line : Line) (previous style : Option LabelStyle)
     (run : List ℕ) (c : Metrics) (left cs : List Metrics)
     → left ≡ c ∷ cs → style ≡ source_style line c → c.ch ≡ 9
-    → text_rest context line previous run left ≡ byte_stream run ++ style_change context.severity
+    → text_rest context line previous run left ≡ byte_stream run
+    ++ style_change context.severity
     previous
     style ++ spaces c.unicode_width ++ text_rest context line style [] cs
 unfolding byte_stream
@@ -178,7 +190,8 @@ text-tab context line previous style run c left cs l s h =
     (source_glyph
     c) st
     ∙ ap
-    (λ (g : Stream). byte_stream run ++ style_change context.severity previous (source_style line c)
+    (λ (g : Stream). byte_stream run
+    ++ style_change context.severity previous (source_style line c)
     ++ (g ++ st))
     (tab_shown c h)
     ∙ sym

@@ -1,8 +1,9 @@
 -- For `carets_are_cells`, `chars_change_no_row_length` and `lanes_take_two_characters`: texts of
 -- streams.
-use Rattle.codespan_core.proofs.Std.{◌≡◌, ℕ, zero, suc, ◌+◌, not, List, [], ◌∷◌, ◌++◌, replicate}
-use Rattle.codespan_core.proofs.Std.{encode_utf8_all, cond, refl, sym, ap, ◌∙◌, arith, append_assoc}
-use Rattle.codespan_core.proofs.Std.{repeat, encode_utf8, nat_tests, sum_by-append}
+use Rattle.codespan_core.proofs.Std.{◌≡◌, ℕ, zero, suc, ◌+◌, not, List, [], ◌∷◌}
+use Rattle.codespan_core.proofs.Std.{◌++◌, replicate, encode_utf8_all, cond, refl, sym, ap}
+use Rattle.codespan_core.proofs.Std.{◌∙◌, arith, append_assoc, repeat, encode_utf8, nat_tests}
+use Rattle.codespan_core.proofs.Std.{sum_by-append}
 use Rattle.codespan_core.specs.Streams.{Stream, Byte, Mark, Slot, byte_stream, style_mark, spaces}
 use Rattle.codespan_core.specs.Streams.{repeated, glyph, text_of}
 use Rattle.codespan_core.specs.declared.term.config.style_mark.StyleMark.{StyleMark}

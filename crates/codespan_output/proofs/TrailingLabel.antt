@@ -1,9 +1,10 @@
 -- For `Messages::of`: which label's message trails.
-use Rattle.codespan_core.proofs.Std.{◌||◌, ◌≡◌, ℕ, zero, suc, ◌+◌, ◌<◌, Bool, true, false, cond}
-use Rattle.codespan_core.proofs.Std.{◌==◌, ◌&&◌, List, [], ◌∷◌, ◌++◌, length, get_or, take, drop}
-use Rattle.codespan_core.proofs.Std.{filter, Option, Some, None, refl, sym, ap, subst, ◌∙◌, arith}
-use Rattle.codespan_core.proofs.Std.{drop-cons, add-one, not, list_any, enumerate_from, remove}
-use Rattle.codespan_core.proofs.Std.{take-map, drop-map, option_map, option_map_or, eq-eqb, ne_eqb}
+use Rattle.codespan_core.proofs.Std.{◌||◌, ◌≡◌, ℕ, zero, suc, ◌+◌, ◌<◌, Bool}
+use Rattle.codespan_core.proofs.Std.{true, false, cond, ◌==◌, ◌&&◌, List, [], ◌∷◌}
+use Rattle.codespan_core.proofs.Std.{◌++◌, length, get_or, take, drop, filter, Option, Some}
+use Rattle.codespan_core.proofs.Std.{None, refl, sym, ap, subst, ◌∙◌, arith, drop-cons}
+use Rattle.codespan_core.proofs.Std.{add-one, not, list_any, enumerate_from, remove, take-map}
+use Rattle.codespan_core.proofs.Std.{drop-map, option_map, option_map_or, eq-eqb, ne_eqb}
 use Rattle.codespan_core.proofs.Std.{list_any-append}
 use Rattle.std.specs.List.{last_or}
 use Rattle.std.proofs.lemmas.Option.{slice_get-get_or}
@@ -37,7 +38,8 @@ NoneEnds end xs = list_any (λ (x : LabelModel). x.end == end) (single_label_vie
 last_none : (end : ℕ) (xs : List SingleLabelTuple) (n : ℕ) (o : Option (ℕ × LabelModel))
     → NoneEnds end xs
     → last_or o
-    (filter (λ (e : ℕ × LabelModel). e.1.end == end) (enumerate_from n (single_label_views xs))) ≡ o
+    (filter (λ (e : ℕ × LabelModel). e.1.end == end) (enumerate_from n (single_label_views xs)))
+    ≡ o
 last_none end [] n o none = refl
 last_none end (x ∷ xs) n o none = by_test (last_none end xs (n + 1) o) (x.1.end == end) refl none
   where
@@ -117,7 +119,8 @@ pub without_at : (xs : List SingleLabelTuple) (k : ℕ)
 without_at xs k =
     ap (λ ys. ys ++ drop (suc k) (single_label_views xs)) (take-map single_label_view k xs)
     ∙ ap (λ ys. single_label_views (take k xs) ++ ys) (drop-map single_label_view (suc k) xs)
-    ∙ ap (λ n. single_label_views (take k xs) ++ single_label_views (drop n xs)) (sym (add-one k))
+    ∙ ap (λ n. single_label_views (take k xs) ++ single_label_views (drop n xs))
+    (sym (add-one k))
 
 -- what is tested of the label at an index
 pub trails_at : (xs : List SingleLabelTuple) (k : ℕ) (d : SingleLabelTuple) (empty : Bool)

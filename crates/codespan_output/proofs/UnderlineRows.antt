@@ -1,8 +1,9 @@
 -- For `write_underlines` and `write_note`: the underlines of multi-line labels, and the rows of a
 -- note.
-use Rattle.codespan_core.proofs.Std.{◌≡◌, ℕ, ◌+◌, ◌<◌, Bool, true, false, List, [], ◌∷◌, ◌++◌}
-use Rattle.codespan_core.proofs.Std.{append_assoc, length, drop, None, Some, refl, sym, ap, arith}
-use Rattle.codespan_core.proofs.Std.{get_or, add-one, drop-cons, filter, map, if◌then◌else◌}
+use Rattle.codespan_core.proofs.Std.{◌≡◌, ℕ, ◌+◌, ◌<◌, Bool, true, false, List, []}
+use Rattle.codespan_core.proofs.Std.{◌∷◌, ◌++◌, append_assoc, length, drop, None, Some}
+use Rattle.codespan_core.proofs.Std.{refl, sym, ap, arith, get_or, add-one, drop-cons, filter, map}
+use Rattle.codespan_core.proofs.Std.{if◌then◌else◌}
 use Rattle.std.specs.Borrow.{Bor}
 use Rattle.std.specs.declared.str.Lines.{Lines as TextLines}
 use Rattle.std.specs.Str.Iter.{lines_steps}
@@ -38,7 +39,8 @@ underline_lanes_are context leading lane style multi_label lanes = refl
 -- ---- the message of an underline
 
 -- no message
-pub underline_message-none : (bs : List ℕ) → length bs ≡ 0 → underline_message (byte_stream bs) ≡ []
+pub underline_message-none : (bs : List ℕ) → length bs ≡ 0
+    → underline_message (byte_stream bs) ≡ []
 unfolding underline_message byte_stream
 underline_message-none [] e = refl
 underline_message-none (b ∷ bs) e = absurd (omega arith)

@@ -1,7 +1,7 @@
 -- For `width_before` and `width_up_to`: how wide the characters of a line are up to a byte index.
-use Rattle.codespan_core.proofs.Std.{◌≡◌, ℕ, ◌+◌, ◌≤◌, ◌<◌, Bool, true, false, cond, List, [], ◌∷◌}
-use Rattle.codespan_core.proofs.Std.{refl, ap, ◌∙◌, arith, nat_lt, nat_le, le-leb, lt-leb, le-ltb}
-use Rattle.codespan_core.proofs.Std.{nat_tests, sum_by-cons}
+use Rattle.codespan_core.proofs.Std.{◌≡◌, ℕ, ◌+◌, ◌≤◌, ◌<◌, Bool, true, false}
+use Rattle.codespan_core.proofs.Std.{cond, List, [], ◌∷◌, refl, ap, ◌∙◌, arith, nat_lt}
+use Rattle.codespan_core.proofs.Std.{nat_le, le-leb, lt-leb, le-ltb, nat_tests, sum_by-cons}
 use Rattle.codespan_output.specs.Types.{Metrics}
 use Rattle.codespan_output.specs.{width_of, metrics_before, metrics_up_to}
 
@@ -30,7 +30,8 @@ width-before-first byte_index (x ∷ cs) e =
     rw k (width-before-first byte_index cs e)
 
 -- a byte index is at most the last one where it is before the next
-same-test : (last byte_index k : ℕ) → byte_index ≡ last + 1 → nat_le k last ≡ nat_lt k byte_index
+same-test : (last byte_index k : ℕ) → byte_index ≡ last + 1
+    → nat_le k last ≡ nat_lt k byte_index
 same-test last byte_index k e = grind (arith, nat_tests)
 
 -- the characters that begin up to a byte index are those that begin before the next one

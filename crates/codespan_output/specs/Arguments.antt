@@ -1,6 +1,6 @@
 -- Labels, lane marks and loci, as the calls of `Renderer` take them.
-use Rattle.std.specs.Prelude.{ℕ, Bool, List, map, string_bytes, ◌+◌, true, ◌&&◌, nat_lt, nat_le, []}
-use Rattle.std.specs.Prelude.{◌∷◌}
+use Rattle.std.specs.Prelude.{ℕ, Bool, List, map, string_bytes, ◌+◌, true, ◌&&◌, nat_lt}
+use Rattle.std.specs.Prelude.{nat_le, [], ◌∷◌}
 use Rattle.std.specs.Borrow.{Bor}
 use Rattle.std.specs.declared.ops.Range.{Range}
 use Rattle.codespan_output.specs.Types.{LabelStyle}

@@ -1,7 +1,7 @@
 -- The laws of carets and pointers: carets are under the characters that labels cover, and pointers
 -- under those in which labels start.
-use Rattle.std.specs.Prelude.{◌≡◌, ℕ, ◌<◌, Bool, ◌&&◌, ◌==◌, List, ◌++◌, map, if◌then◌else◌}
-use Rattle.std.specs.Prelude.{Contains, IsTrue, encode_utf8_all}
+use Rattle.std.specs.Prelude.{◌≡◌, ℕ, ◌<◌, Bool, ◌&&◌, ◌==◌, List, ◌++◌}
+use Rattle.std.specs.Prelude.{map, if◌then◌else◌, Contains, IsTrue, encode_utf8_all}
 use Rattle.std.specs.List.{list_any, range_with_len}
 use Rattle.codespan_output.specs.Types.{Chars}
 use Rattle.codespan_core.specs.Labels.{LabelModel}
@@ -28,7 +28,8 @@ CaretsAreCells context = (line : Line)
 -- a hanging label starts in a character whose first cell this is
 abbrev pub points_at : List LabelModel → List Metrics → ℕ → Bool
 points_at labels cs k =
-    list_any (λ (c : Metrics). (c.column == k) && list_any (starts_in c) (hanging_labels labels)) cs
+    list_any (λ (c : Metrics). (c.column == k) && list_any (starts_in c) (hanging_labels labels))
+    cs
 
 -- the first `n` cells of a pointer row
 abbrev pub pointer_cells : Chars → List LabelModel → List Metrics → ℕ → List ℕ

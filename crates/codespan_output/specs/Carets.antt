@@ -1,6 +1,7 @@
 -- The carets under a line: in which cells they are, and of which style.
-use Rattle.std.specs.Prelude.{ℕ, ◌+◌, max, min, Bool, ◌&&◌, nat_lt, nat_le, List, ◌∷◌, map, filter}
-use Rattle.std.specs.Prelude.{fold, Option, Some, None, if◌then◌else◌, []}
+use Rattle.std.specs.Prelude.{ℕ, ◌+◌, max, min, Bool, ◌&&◌, nat_lt, nat_le, List}
+use Rattle.std.specs.Prelude.{◌∷◌, map, filter, fold, Option, Some, None, if◌then◌else◌}
+use Rattle.std.specs.Prelude.{[]}
 use Rattle.std.specs.List.{list_any, range_with_len}
 use Rattle.codespan_output.specs.Types.{LabelStyle, Primary, Secondary, Chars}
 use Rattle.codespan_core.specs.Labels.{LabelModel, is_primary}

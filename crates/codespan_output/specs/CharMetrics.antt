@@ -1,6 +1,7 @@
 -- The characters of a drawn line and the cells that they occupy.
-use Rattle.std.specs.Prelude.{ℕ, ◌+◌, ◌-◌, ◌%◌, Bool, false, ◌||◌, ◌==◌, if◌then◌else◌, unwrap_or}
-use Rattle.std.specs.Prelude.{List, ◌∷◌, length, sum_by, take, take_while, []}
+use Rattle.std.specs.Prelude.{ℕ, ◌+◌, ◌-◌, ◌%◌, Bool, false, ◌||◌, ◌==◌}
+use Rattle.std.specs.Prelude.{if◌then◌else◌, unwrap_or, List, ◌∷◌, length, sum_by, take}
+use Rattle.std.specs.Prelude.{take_while, []}
 use Rattle.std.specs.List.{suffix_len}
 use Rattle.std.specs.Str.{chars}
 use Rattle.std.specs.Char.{len_utf8, is_whitespace}
@@ -24,7 +25,8 @@ width_at tab column c =
 
 -- these characters with their cells, the first at this byte index and column, and then the list
 -- that `after` has for the byte index and the column at which they end
-abbrev pub metrics_then : (ℕ → ℕ → List Metrics) → ℕ → ℕ → ℕ → List ℕ → List Metrics
+abbrev pub metrics_then : (ℕ → ℕ → List Metrics) → ℕ → ℕ → ℕ → List ℕ
+    → List Metrics
 metrics_then after tab byte_index column [] = after byte_index column
 metrics_then after tab byte_index column (c ∷ cs) =
     record {

@@ -1,7 +1,7 @@
 -- The laws of lanes: what a lane shows in each row says where its label goes, and is what the row's
 -- stream has there.
-use Rattle.std.specs.Prelude.{◌≡◌, ℕ, ◌<◌, ◌≤◌, ◌⊎◌, ◌↔◌, false, List, [], ◌++◌, length, slice_get}
-use Rattle.std.specs.Prelude.{flat_map, Option, Some, None}
+use Rattle.std.specs.Prelude.{◌≡◌, ℕ, ◌<◌, ◌≤◌, ◌⊎◌, ◌↔◌, false, List}
+use Rattle.std.specs.Prelude.{[], ◌++◌, length, slice_get, flat_map, Option, Some, None}
 use Rattle.std.specs.List.{range_with_len}
 use Rattle.std.specs.Option.{option_map, option_map_or}
 use Rattle.codespan_output.specs.Types.{Layout}
@@ -78,7 +78,8 @@ shape_at layout rows k lane = option_map (λ row. shape_in layout row lane) (sli
 pub record MayLeaveOut (layout : Layout) (s : LabeledFileModel) (rows : List Row) (lane : ℕ)
     (x : LabelModel) (top k : ℕ) : Type 0 where
   pub is_classic : is_unbroken layout ≡ false
-  pub begins_in_source_row : slice_get rows top ≡ Some (SourceRow (line_at s (first_line s.file x)))
+  pub begins_in_source_row : slice_get rows top
+      ≡ Some (SourceRow (line_at s (first_line s.file x)))
   pub shows_space : shape_at layout rows k lane ≡ Some Space
   pub is_of_line : (row : Row) → slice_get rows k ≡ Some row
       → line_of_row row ≡ Some (line_at s (first_line s.file x))
@@ -95,7 +96,8 @@ pub record IsCornerToCorner (layout : Layout) (s : LabeledFileModel) (rows : Lis
   pub between : (k : ℕ) → top < k → k < bottom
       → (shape_at layout rows k lane ≡ Some Bar) ⊎ MayLeaveOut layout s rows lane x top k
   pub before : (k : ℕ) → k < top → shape_at layout rows k lane ≡ Some Space
-  pub after : (k : ℕ) → bottom < k → k < length rows → shape_at layout rows k lane ≡ Some Space
+  pub after : (k : ℕ) → bottom < k → k < length rows
+      → shape_at layout rows k lane ≡ Some Space
 
 -- each lane of a file is one line through these rows
 abbrev pub LanesJoinCorners : Layout → LabeledFileModel → List Row → Type 0

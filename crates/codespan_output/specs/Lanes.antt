@@ -1,6 +1,6 @@
 -- What each lane shows in each kind of row.
-use Rattle.std.specs.Prelude.{ℕ, Bool, true, false, ◌&&◌, ◌==◌, nat_lt, nat_le, List, ◌++◌, find}
-use Rattle.std.specs.Prelude.{Option, Some, None, if◌then◌else◌}
+use Rattle.std.specs.Prelude.{ℕ, Bool, true, false, ◌&&◌, ◌==◌, nat_lt, nat_le, List}
+use Rattle.std.specs.Prelude.{◌++◌, find, Option, Some, None, if◌then◌else◌}
 use Rattle.codespan_output.specs.Types.{Severity, LabelStyle, Primary, Chars, Layout, Classic}
 use Rattle.codespan_output.specs.Types.{Unbroken}
 use Rattle.codespan_core.specs.Streams.{Stream, style_mark, glyph, spaces, repeated}
@@ -102,7 +102,8 @@ crossing_characters severity chars (Some m) n =
 
 -- the two characters of a lane: a space, or one character of the underline that crosses it, and
 -- then its own; if it shows nothing, two such
-unfoldable pub lane_characters : Severity → Chars → Option LaneMark → LabelStyle → Shape → Stream
+unfoldable pub lane_characters : Severity → Chars → Option LaneMark → LabelStyle → Shape
+    → Stream
 lane_characters severity chars crossing style Space = crossing_characters severity chars crossing 2
 lane_characters severity chars crossing style Bar =
     crossing_characters severity chars crossing 1 ++ label_glyph severity style chars.multi_left

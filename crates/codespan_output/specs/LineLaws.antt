@@ -1,7 +1,8 @@
 -- The laws of drawn lines, breaks, and line numbers.
-use Rattle.std.specs.Prelude.{◌≡◌, ℕ, ◌+◌, ◌<◌, ◌≤◌, ◌↔◌, Bool, false, List, ◌∷◌, Contains, map}
-use Rattle.std.specs.Prelude.{filter, filter_map, Option, Some, None, if◌then◌else◌, IsTrue, ◌*◌}
-use Rattle.std.specs.Prelude.{true, sum_by, count_by, []}
+use Rattle.std.specs.Prelude.{◌≡◌, ℕ, ◌+◌, ◌<◌, ◌≤◌, ◌↔◌, Bool, false}
+use Rattle.std.specs.Prelude.{List, ◌∷◌, Contains, map, filter, filter_map, Option, Some}
+use Rattle.std.specs.Prelude.{None, if◌then◌else◌, IsTrue, ◌*◌, true, sum_by, count_by}
+use Rattle.std.specs.Prelude.{[]}
 use Rattle.std.specs.List.{range_with_len}
 use Rattle.codespan_output.specs.Types.{Config, Layout}
 use Rattle.codespan_core.specs.FileModel.{FileModel, line_count}
@@ -50,7 +51,8 @@ BreaksReplaceLines config s rows =
 abbrev pub BreaksHaveBars : Config → Layout → LabeledFileModel → Type 0
 BreaksHaveBars config layout s = (c d lane : ℕ) (x : LabelModel)
     → IsTrue (is_shown config s.file s.labels c) → IsTrue (is_shown config s.file s.labels d)
-    → c + 3 ≤ d → ((l : ℕ) → c < l → l < d → is_shown config s.file s.labels l ≡ false)
+    → c + 3 ≤ d
+    → ((l : ℕ) → c < l → l < d → is_shown config s.file s.labels l ≡ false)
     → HasLane s lane x
     → (shape_in layout (BreakRow (line_at s d).lanes) lane ≡ Bar)
     ↔ ((l : ℕ) → c < l → l < d → IsBarLine s.file x l)

@@ -1,5 +1,6 @@
 -- Which lines of a file are drawn, and where a break is.
-use Rattle.std.specs.Prelude.{ℕ, ◌+◌, ◌-◌, Bool, ◌&&◌, ◌||◌, ◌==◌, nat_lt, nat_le, List, filter}
+use Rattle.std.specs.Prelude.{ℕ, ◌+◌, ◌-◌, Bool, ◌&&◌, ◌||◌, ◌==◌, nat_lt}
+use Rattle.std.specs.Prelude.{nat_le, List, filter}
 use Rattle.std.specs.List.{list_any, range_with_len}
 use Rattle.codespan_output.specs.Types.{Config}
 use Rattle.codespan_core.specs.FileModel.{FileModel, line_count}

@@ -1,7 +1,8 @@
 -- The lookups of an output, in the order in which their errors count, and which error is returned.
-use Rattle.std.specs.Prelude.{◌≡◌, ◌≢◌, ◌<◌, length, ℕ, ◌+◌, Bool, not, ◌&&◌, ◌||◌, nat_le}
-use Rattle.std.specs.Prelude.{List, [], ◌∷◌, ◌++◌, map, filter, flat_map, Option, Some, None}
-use Rattle.std.specs.Prelude.{Contains, if◌then◌else◌, true, false}
+use Rattle.std.specs.Prelude.{◌≡◌, ◌≢◌, ◌<◌, length, ℕ, ◌+◌, Bool, not}
+use Rattle.std.specs.Prelude.{◌&&◌, ◌||◌, nat_le, List, [], ◌∷◌, ◌++◌, map}
+use Rattle.std.specs.Prelude.{filter, flat_map, Option, Some, None, Contains, if◌then◌else◌}
+use Rattle.std.specs.Prelude.{true, false}
 use Rattle.std.specs.List.{range_with_len}
 use Rattle.codespan_output.specs.Types.{Config, DisplayStyle, Rich, Layout, Classic, Unbroken}
 use Rattle.codespan_output.specs.Types.{Diagnostic, Error, FormatError, LineTooLarge, OutOfMemory}
@@ -35,7 +36,8 @@ ends_context_lines _ = false
 
 -- the range of the line past the file's last one, where the context lines reach it. It is not
 -- listed where it fails with `LineTooLarge`, which is not an error of the output
-abbrev pub lookup_past_end : Config → FileModel → (Lookup → Option Error) → LabelModel → List Lookup
+abbrev pub lookup_past_end : Config → FileModel → (Lookup → Option Error) → LabelModel
+    → List Lookup
 lookup_past_end config f failure x =
     if nat_le (line_count f) (last_line f x + config.after_label_lines)
     && not (ends_context_lines (failure (LineRange (line_count f))))
@@ -109,7 +111,8 @@ module _ {Id : Type 0} (files : FileDatabase Id) (xs : List (LabelInFile Id)) wh
 
     -- those after the header, file by file
     abbrev pub late_lookups : List (Id × Lookup)
-    late_lookups = flat_map (λ id. lookups_of_file id (snippet_lookups id)) (file_ids files.same xs)
+    late_lookups = flat_map (λ id. lookups_of_file id (snippet_lookups id))
+        (file_ids files.same xs)
 
 -- in short and medium style, those of a label's header: the name of its file, and the location of
 -- its start
@@ -135,7 +138,8 @@ AllSucceed {Id} failure lookups = (id : Id) (lookup : Lookup)
 
 -- there is a lookup, and the error is that of the first one that fails, `OutOfMemory`, or
 -- `FormatError`, which stands for a name whose `Display` fails
-abbrev pub IsLookupError : {Id : Type 0} → FileDatabase Id → List (Id × Lookup) → Error → Type 0
+abbrev pub IsLookupError : {Id : Type 0} → FileDatabase Id → List (Id × Lookup) → Error
+    → Type 0
 IsLookupError files lookups e =
     (0 < length lookups)
     × (e ≢ OutOfMemory → e ≢ FormatError → first_error files.failure lookups ≡ Some e)

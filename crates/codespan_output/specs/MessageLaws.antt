@@ -1,6 +1,6 @@
 -- The law of messages: each appears exactly once in a rich output.
-use Rattle.std.specs.Prelude.{◌≡◌, ℕ, Bool, false, ◌==◌, List, ◌∷◌, map, count_by, slice_get, Some}
-use Rattle.std.specs.Prelude.{if◌then◌else◌, []}
+use Rattle.std.specs.Prelude.{◌≡◌, ℕ, Bool, false, ◌==◌, List, ◌∷◌, map, count_by}
+use Rattle.std.specs.Prelude.{slice_get, Some, if◌then◌else◌, []}
 use Rattle.std.specs.List.{enumerate_from}
 use Rattle.std.specs.Option.{option_map_or}
 use Rattle.codespan_output.specs.Types.{Config, Diagnostic, Rich}
@@ -14,7 +14,8 @@ use Rattle.codespan_output.specs.OutputStreams.{header_text_of, labels_of, notes
 -- a label with a slot instead of its message, where it has a message
 abbrev pub slotted : {Id : Type 0} → ℕ → LabelInFile Id → LabelInFile Id
 slotted k x = record x {
-  label = record x.label { message = if is_empty_stream x.label.message then [] else Slot k ∷ [] };
+  label = record x.label
+      { message = if is_empty_stream x.label.message then [] else Slot k ∷ [] };
 }
 
 -- the labels with slots instead of their messages, each slot with its label's index

@@ -60,7 +60,8 @@ abbrev pub snippet_locus_byte : LabeledFileModel → FileModel × ℕ
 snippet_locus_byte s = (s.file, locus_byte_of s.labels)
 
 -- the file of a label, and the byte index in it at which the label starts
-abbrev pub label_locus_byte : {Id : Type 0} → (Id → FileModel) → LabelInFile Id → FileModel × ℕ
+abbrev pub label_locus_byte : {Id : Type 0} → (Id → FileModel) → LabelInFile Id
+    → FileModel × ℕ
 label_locus_byte file x = (file x.file_id, x.label.start)
 
 module _ {Id : Type 0} (same : Id → Id → Bool) (file : Id → FileModel)

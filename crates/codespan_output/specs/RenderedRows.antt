@@ -27,7 +27,8 @@ rendered_start config padding locus =
     snippet_start_row config.chars padding (locus_view locus) ++ newline
 
 -- a line of the source, with its single-line labels and the lane marks on it
-abbrev pub source_line : ℕ → List ℕ → List SingleLabelTuple → ℕ → List LaneMarkTuple → Line
+abbrev pub source_line : ℕ → List ℕ → List SingleLabelTuple → ℕ → List LaneMarkTuple
+    → Line
 source_line number source labels num_multi_labels lane_marks = record {
   number = number;
   text = text_without_line_end source;
@@ -41,7 +42,8 @@ rendered_source config severity padding line =
     stream_of_rows (context_of config severity padding) (rows_of line)
 
 -- an empty row of a snippet
-abbrev pub rendered_snippet_empty : Config → Severity → ℕ → ℕ → List LaneMarkTuple → Stream
+abbrev pub rendered_snippet_empty : Config → Severity → ℕ → ℕ → List LaneMarkTuple
+    → Stream
 rendered_snippet_empty config severity padding num_multi_labels lane_marks =
     empty_row (context_of config severity padding) (lanes_of num_multi_labels lane_marks) ++ newline
 

@@ -1,5 +1,6 @@
 -- What an output is, and what a rich one means.
-use Rattle.std.specs.Prelude.{◌≡◌, ℕ, ◌≤◌, Bool, List, [], ◌∷◌, ◌++◌, None, Contains, flat_map}
+use Rattle.std.specs.Prelude.{◌≡◌, ℕ, ◌≤◌, Bool, List, [], ◌∷◌, ◌++◌, None}
+use Rattle.std.specs.Prelude.{Contains, flat_map}
 use Rattle.std.specs.List.{AllZip}
 use Rattle.codespan_output.specs.Types.{Config, Diagnostic, DisplayStyle, Rich}
 use Rattle.codespan_core.specs.FileModel.{FileDatabase}
@@ -33,7 +34,8 @@ pub record SnippetMeansLabels (view_config : Config) (context : RowContext)
   pub drawn : RowsAreOfShownLines view_config s
   pub breaks : BreaksReplaceLines view_config s rows
   pub few : SourceRowsAreFew view_config s rows
-  pub pointers : (l : ℕ) → StartsHaveCells (line_at s l).labels (line_metrics context (line_at s l))
+  pub pointers : (l : ℕ) → StartsHaveCells (line_at s l).labels
+      (line_metrics context (line_at s l))
       → PointersAreCells context (line_at s l)
   pub bars : NoneReversed s.labels → BarsAreLabels context.layout s
   pub break_bars : NoneReversed s.labels → BreaksHaveBars view_config context.layout s

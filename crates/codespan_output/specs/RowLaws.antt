@@ -1,5 +1,6 @@
 -- The laws of every row.
-use Rattle.std.specs.Prelude.{◌≡◌, Bool, true, false, [], ◌∷◌, IsTrue, ℕ, not, List, count_by}
+use Rattle.std.specs.Prelude.{◌≡◌, Bool, true, false, [], ◌∷◌, IsTrue, ℕ, not, List}
+use Rattle.std.specs.Prelude.{count_by}
 use Rattle.codespan_output.specs.Types.{Chars}
 use Rattle.codespan_core.specs.Streams.{Stream, Byte, Mark, Slot, text_of}
 use Rattle.codespan_core.specs.declared.term.config.style_mark.StyleMark.{StyleMark}
@@ -45,4 +46,5 @@ ends_reset closed (Slot k ∷ s) = ends_reset closed s
 
 -- the last style mark of a row, if it has one, is a reset
 abbrev pub RowsEndReset : Type 0
-RowsEndReset = (context : RowContext) (row : Row) → IsTrue (ends_reset true (stream_of context row))
+RowsEndReset = (context : RowContext) (row : Row)
+    → IsTrue (ends_reset true (stream_of context row))

@@ -1,8 +1,9 @@
 -- The parts of rows as streams. Those that are unfoldable stay folded in a proof unless it
 -- unfolds them: calls that write one after another then match their parts from left to right.
-use Rattle.std.specs.Prelude.{ℕ, ◌+◌, ◌-◌, Bool, true, ◌||◌, ◌&&◌, ◌==◌, nat_lt, nat_le, max, List}
-use Rattle.std.specs.Prelude.{[], ◌∷◌, ◌++◌, filter, length, fold, flat_map, Option, Some, None}
-use Rattle.std.specs.Prelude.{if◌then◌else◌, codes, decimal}
+use Rattle.std.specs.Prelude.{ℕ, ◌+◌, ◌-◌, Bool, true, ◌||◌, ◌&&◌, ◌==◌}
+use Rattle.std.specs.Prelude.{nat_lt, nat_le, max, List, [], ◌∷◌, ◌++◌, filter, length}
+use Rattle.std.specs.Prelude.{fold, flat_map, Option, Some, None, if◌then◌else◌, codes}
+use Rattle.std.specs.Prelude.{decimal}
 use Rattle.std.specs.List.{list_any, range_with_len}
 use Rattle.codespan_output.specs.Types.{Severity, LabelStyle, Primary, Secondary, Chars}
 use Rattle.codespan_core.specs.Streams.{Stream, style_mark, glyph, byte_stream, spaces, space}
@@ -60,7 +61,8 @@ style_change severity (Some _) (Some style) = style_mark (Label severity style)
 
 -- these characters, each as `shown` shows it and in its style; `previous` is the style before them
 abbrev pub styled : Severity
-    → (Metrics → Option LabelStyle) → (Metrics → Stream) → Option LabelStyle → List Metrics → Stream
+    → (Metrics → Option LabelStyle) → (Metrics → Stream) → Option LabelStyle
+    → List Metrics → Stream
 styled severity style shown previous [] = style_change severity previous None
 styled severity style shown previous (c ∷ cs) =
     style_change severity previous (style c) ++ shown c ++ styled severity style shown (style c) cs
@@ -80,7 +82,8 @@ inner_gutter_column context crossing shape lane_mark =
     (shape_of shape lane_mark)
 
 -- the lanes from left to right
-abbrev pub lanes_in : RowContext → (ℕ → Option LaneMark) → (ℕ → MultiLabel → Shape) → Lanes → Stream
+abbrev pub lanes_in : RowContext → (ℕ → Option LaneMark) → (ℕ → MultiLabel → Shape)
+    → Lanes → Stream
 lanes_in context crossing shape lanes =
     flat_map
     (λ lane.
@@ -165,7 +168,8 @@ pointer_style labels c =
     if list_any (λ x. is_primary x && starts_in c x) labels then Primary else Secondary
 
 -- the pointer under a character with the spaces after it, or spaces where no hanging label starts
-unfoldable pub pointer_at : RowContext → List LabelModel → List LabelModel → Metrics → Stream
+unfoldable pub pointer_at : RowContext → List LabelModel → List LabelModel → Metrics
+    → Stream
 pointer_at context labels hanging_labels c =
     if list_any (starts_in c) hanging_labels then
     label_glyph context.severity (pointer_style hanging_labels c) context.chars.pointer_left

@@ -1,6 +1,7 @@
 -- The stream of each row, and of many. Those that are unfoldable stay folded in a proof unless it
 -- unfolds them: calls that write one after another then match their parts from left to right.
-use Rattle.std.specs.Prelude.{ℕ, List, [], ◌∷◌, ◌++◌, flat_map, Option, Some, None, codes}
+use Rattle.std.specs.Prelude.{ℕ, List, [], ◌∷◌, ◌++◌, flat_map, Option, Some, None}
+use Rattle.std.specs.Prelude.{codes}
 use Rattle.codespan_output.specs.Types.{Severity, Chars}
 use Rattle.codespan_core.specs.Diagnostics.{severity_name}
 use Rattle.codespan_core.specs.Streams.{Stream, style_mark, glyph, byte_stream, space, newline}
@@ -17,8 +18,8 @@ use Rattle.codespan_output.specs.Rows.{SnippetStartRow, EmptyRow, BreakRow, Sour
 use Rattle.codespan_output.specs.Rows.{PointerRow, HangingRow, UnderlineRow, FirstNoteRow}
 use Rattle.codespan_output.specs.Rows.{LaterNoteRow, FinalRow, trailing_label}
 use Rattle.codespan_output.specs.RowParts.{snippet_locus, outer_gutter, outer_gutter_number}
-use Rattle.codespan_output.specs.RowParts.{border_left, border_left_break}
-use Rattle.codespan_output.specs.RowParts.{label_message, inner_gutter, leading_of, line_metrics}
+use Rattle.codespan_output.specs.RowParts.{border_left, border_left_break, label_message}
+use Rattle.codespan_output.specs.RowParts.{inner_gutter, leading_of, line_metrics}
 use Rattle.codespan_output.specs.RowParts.{line_metrics_to_end, colored_text, carets}
 use Rattle.codespan_output.specs.RowParts.{trailing_message, pointers, metrics_before, underline}
 

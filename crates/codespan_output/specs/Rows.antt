@@ -1,6 +1,7 @@
 -- The rows of an output, and what each is rendered from.
-use Rattle.std.specs.Prelude.{ℕ, Bool, true, false, not, ◌&&◌, ◌==◌, List, [], ◌∷◌, ◌++◌, map}
-use Rattle.std.specs.Prelude.{filter, reverse, Option, Some, None, if◌then◌else◌}
+use Rattle.std.specs.Prelude.{ℕ, Bool, true, false, not, ◌&&◌, ◌==◌, List, [], ◌∷◌}
+use Rattle.std.specs.Prelude.{◌++◌, map, filter, reverse, Option, Some, None}
+use Rattle.std.specs.Prelude.{if◌then◌else◌}
 use Rattle.std.specs.List.{list_any, enumerate_from, last_or, remove}
 use Rattle.std.specs.Option.{option_and_then, option_map, option_map_or}
 use Rattle.codespan_output.specs.Types.{Severity, Chars, Layout, Location}
@@ -105,7 +106,8 @@ caret_rows line (x ∷ xs) = CaretRow line ∷ []
 -- where labels hang: the pointers, and a row for each message, that of the last label first
 abbrev pub pointer_and_hanging_rows : Line → List LabelModel → List Row
 pointer_and_hanging_rows line [] = []
-pointer_and_hanging_rows line (x ∷ xs) = PointerRow line ∷ map (HangingRow line) (reverse (x ∷ xs))
+pointer_and_hanging_rows line (x ∷ xs) = PointerRow line ∷ map (HangingRow line)
+    (reverse (x ∷ xs))
 
 -- the underlines, in the order of the lanes
 abbrev pub underline_rows : Line → List Row

@@ -1,5 +1,6 @@
 -- Items in the order of their lines, and what is between two consecutive ones.
-use Rattle.std.specs.Prelude.{ℕ, ◌+◌, ◌==◌, List, [], ◌∷◌, ◌++◌, Option, Some, None, if◌then◌else◌}
+use Rattle.std.specs.Prelude.{ℕ, ◌+◌, ◌==◌, List, [], ◌∷◌, ◌++◌, Option, Some}
+use Rattle.std.specs.Prelude.{None, if◌then◌else◌}
 use Rattle.codespan_output.specs.Lines.{has_break_between}
 
 -- what is between `previous` and a line: nothing where the line is the first one
@@ -10,7 +11,8 @@ before_line between (Some c) d = between c d
 -- the elements of these items, `own` of each, and between those of two consecutive items what is
 -- between their lines, `item_line` of each; `previous` is the line before them all
 abbrev pub in_sequence : {X A : Type 0}
-    → (X → ℕ) → (ℕ → ℕ → List A) → (X → List A) → Option ℕ → List X → List A
+    → (X → ℕ) → (ℕ → ℕ → List A) → (X → List A) → Option ℕ → List X
+    → List A
 in_sequence item_line between own previous [] = []
 in_sequence item_line between own previous (x ∷ xs) =
     before_line between previous (item_line x) ++ own x
@@ -21,6 +23,7 @@ abbrev pub break_between : {A : Type 0} → (ℕ → List A) → ℕ → ℕ →
 break_between of_break c d = if has_break_between c d then of_break d else []
 
 -- between two shown lines: the filled line, where one line is between them, a break, or nothing
-abbrev pub gap_between : {A : Type 0} → (ℕ → List A) → (ℕ → List A) → ℕ → ℕ → List A
+abbrev pub gap_between : {A : Type 0} → (ℕ → List A) → (ℕ → List A) → ℕ → ℕ
+    → List A
 gap_between of_filled of_break c d =
     if d == c + 2 then of_filled (c + 1) else break_between of_break c d

@@ -1,6 +1,7 @@
 -- The rows of an output: of each line, of each file, and of all, with the loci in them.
-use Rattle.std.specs.Prelude.{ℕ, Bool, true, false, ◌||◌, min, List, [], ◌∷◌, ◌++◌, map, filter}
-use Rattle.std.specs.Prelude.{fold, flat_map, Option, Some, None, if◌then◌else◌, length}
+use Rattle.std.specs.Prelude.{ℕ, Bool, true, false, ◌||◌, min, List, [], ◌∷◌, ◌++◌}
+use Rattle.std.specs.Prelude.{map, filter, fold, flat_map, Option, Some, None, if◌then◌else◌}
+use Rattle.std.specs.Prelude.{length}
 use Rattle.std.specs.Str.Lines.{lines}
 use Rattle.codespan_output.specs.Types.{Config}
 use Rattle.codespan_core.specs.FileModel.{FileModel, line_text}
@@ -25,7 +26,8 @@ pub record LabelInFile (Id : Type 0) : Type 0 where
 
 -- one file with its labels
 abbrev pub labeled_file_model : {Id : Type 0}
-    → (Id → Id → Bool) → (Id → FileModel) → List (LabelInFile Id) → Id → LabeledFileModel
+    → (Id → Id → Bool) → (Id → FileModel) → List (LabelInFile Id) → Id
+    → LabeledFileModel
 labeled_file_model {Id} same file labels id = record {
   file = file id;
   labels =
@@ -39,7 +41,8 @@ file_ids {Id} same labels = first_seen same (map (λ (x : LabelInFile Id). x.fil
 
 -- the labels' files in that order, each with its labels
 abbrev pub labeled_file_models : {Id : Type 0}
-    → (Id → Id → Bool) → (Id → FileModel) → List (LabelInFile Id) → List LabeledFileModel
+    → (Id → Id → Bool) → (Id → FileModel) → List (LabelInFile Id)
+    → List LabeledFileModel
 labeled_file_models same file labels =
     map (labeled_file_model same file labels) (file_ids same labels)
 
@@ -134,7 +137,8 @@ abbrev pub note_rows : List (List ℕ) → List Row
 note_rows notes = flat_map (λ note. note_line_rows (lines note)) notes
 
 -- the rows of rich style, where the files' snippets have these loci
-abbrev pub rich_rows : Config → HeaderText → List Locus → List LabeledFileModel → List (List ℕ)
+abbrev pub rich_rows : Config → HeaderText → List Locus → List LabeledFileModel
+    → List (List ℕ)
     → List Row
 rich_rows config header_text loci ss notes =
     (HeaderRow None header_text ∷ snippets config (has_any notes) loci ss)

@@ -1,6 +1,6 @@
 -- The laws of stated names: where the files state their names, an output is the picture.
-use Rattle.std.specs.Prelude.{◌≡◌, List, ◌∷◌, ◌++◌, flat_map, Contains, IsSome, Some, length, take}
-use Rattle.std.specs.Prelude.{Bool, ◌&&◌, map, is_none, take_while}
+use Rattle.std.specs.Prelude.{◌≡◌, List, ◌∷◌, ◌++◌, flat_map, Contains, IsSome}
+use Rattle.std.specs.Prelude.{Some, length, take, Bool, ◌&&◌, map, is_none, take_while}
 use Rattle.codespan_output.specs.Types.{Diagnostic, Error, Config, DisplayStyle, Short}
 use Rattle.codespan_core.specs.FileModel.{FileDatabase}
 use Rattle.codespan_output.specs.Lookups.{AllSucceed, first_error, header_lookups_of, Failures}

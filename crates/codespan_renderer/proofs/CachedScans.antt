@@ -1,7 +1,8 @@
 -- The cached characters of a line and the scan of the others: serves `cache_metrics`, and the
 -- cursors of a cached line.
-use Rattle.codespan_core.proofs.Std.{◌≡◌, ℕ, ◌-◌, ◌<◌, Bool, List, [], ◌∷◌, ◌++◌, take, drop}
-use Rattle.codespan_core.proofs.Std.{length, append_assoc, sym, ap, ◌∙◌, arith, chars}
+use Rattle.codespan_core.proofs.Std.{◌≡◌, ℕ, ◌-◌, ◌<◌, Bool, List, [], ◌∷◌}
+use Rattle.codespan_core.proofs.Std.{◌++◌, take, drop, length, append_assoc, sym, ap, ◌∙◌}
+use Rattle.codespan_core.proofs.Std.{arith, chars}
 use Rattle.std.specs.Str.Iter.{chars_rest}
 use Rattle.codespan_output.specs.declared.char_metrics.Metrics.{Metrics}
 use Rattle.codespan_output.specs.CharMetrics.{metrics_then}

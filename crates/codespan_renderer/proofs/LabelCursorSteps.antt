@@ -1,10 +1,11 @@
 -- For `LabelCursor::advance`, `StartCursor::start_style` and the calls of `CachedCursor`: a cursor
 -- over the labels of a line, which passes them as they start.
-use Rattle.codespan_core.proofs.Std.{◌≡◌, ℕ, ◌+◌, ◌<◌, ◌≤◌, max, Bool, true, false, ◌&&◌, ◌||◌}
-use Rattle.codespan_core.proofs.Std.{nat_lt, nat_le, List, [], ◌∷◌, ◌++◌, length, drop, get_or}
-use Rattle.codespan_core.proofs.Std.{drop-cons, add-one, refl, sym, ap, subst, ◌∙◌, arith, Option}
-use Rattle.codespan_core.proofs.Std.{Some, None, if◌then◌else◌, IfSome, and_parts, nat_tests}
-use Rattle.codespan_core.proofs.Std.{len_utf8, chars, len_utf8_bounds}
+use Rattle.codespan_core.proofs.Std.{◌≡◌, ℕ, ◌+◌, ◌<◌, ◌≤◌, max, Bool, true}
+use Rattle.codespan_core.proofs.Std.{false, ◌&&◌, ◌||◌, nat_lt, nat_le, List, [], ◌∷◌}
+use Rattle.codespan_core.proofs.Std.{◌++◌, length, drop, get_or, drop-cons, add-one, refl, sym}
+use Rattle.codespan_core.proofs.Std.{ap, subst, ◌∙◌, arith, Option, Some, None}
+use Rattle.codespan_core.proofs.Std.{if◌then◌else◌, IfSome, and_parts, nat_tests, len_utf8}
+use Rattle.codespan_core.proofs.Std.{chars, len_utf8_bounds}
 use Rattle.std.proofs.Props.{props}
 use Rattle.std.proofs.Math.Logic.{∥∥₁_elim}
 use Rattle.std.specs.Iterator.{YieldsFirst}
@@ -12,8 +13,8 @@ use Rattle.codespan_core.specs.Labels.{LabelModel}
 use Rattle.codespan_output.specs.declared.char_metrics.Metrics.{Metrics}
 use Rattle.codespan_output.specs.CharMetrics.{metrics_then, placeholder, width_at}
 use Rattle.codespan_output.specs.Carets.{covers}
-use Rattle.codespan_output.specs.Arguments.{SingleLabelTuple, single_label_view}
-use Rattle.codespan_output.specs.Arguments.{single_label_views, starts_from}
+use Rattle.codespan_output.specs.Arguments.{SingleLabelTuple, single_label_view, single_label_views}
+use Rattle.codespan_output.specs.Arguments.{starts_from}
 use Rattle.codespan_output.specs.Private.CharCursors.{AreContiguous, is_covered}
 use Rattle.codespan_renderer.specs.declared.term.renderer.cached.label_cursor.LabelCursor.{LabelCursor}
 use Rattle.codespan_renderer.specs.Private.{after_last, no_more, remaining_from_cache, IsBefore}
@@ -22,7 +23,8 @@ use Rattle.codespan_renderer.specs.declared.term.renderer.cached.cached_metrics.
 
 -- a label that starts before the character's end covers it where the label has a byte and ends past
 -- the byte index of the character
-covers-prefix : (x : LabelModel) (c : Metrics) → x.start < c.byte_index + c.bytes → 1 ≤ c.bytes
+covers-prefix : (x : LabelModel) (c : Metrics) → x.start < c.byte_index + c.bytes
+    → 1 ≤ c.bytes
     → covers x c ≡ (nat_lt x.start x.end && nat_lt c.byte_index x.end)
 covers-prefix x c h some = grind (arith, nat_tests)
 
@@ -81,7 +83,8 @@ or-false true = refl
 or-false false = refl
 
 -- all labels that start before the character's end have been passed
-pub reached-here : (test : LabelModel → Bool) (labels left : List LabelModel) (byte_index end : ℕ)
+pub reached-here : (test : LabelModel → Bool) (labels left : List LabelModel)
+    (byte_index end : ℕ)
     (c : Metrics)
     → c.byte_index + c.bytes ≡ byte_index → 1 ≤ c.bytes
     → starts_from byte_index left ≡ true → IsCoverEnd test labels left byte_index end
@@ -158,7 +161,8 @@ starts-past low ys xs i byte_index d same h late ordered =
 -- ---- characters one after another
 
 -- the characters of a line, and what comes after the last one
-follow-then : (after : ℕ → ℕ → List Metrics) (tab byte_index column : ℕ) (codes : List ℕ)
+follow-then : (after : ℕ → ℕ → List Metrics) (tab byte_index column : ℕ)
+    (codes : List ℕ)
     → ((p q : ℕ) → AreContiguous p (after p q))
     → AreContiguous byte_index (metrics_then after tab byte_index column codes)
 follow-then after tab byte_index column [] last = last byte_index column
@@ -180,7 +184,8 @@ follow-after false tab text = follow-then no_more tab 0 0 (chars text) (λ p q. 
 passed-prop : (byte_index : ℕ) (s : LabelCursor) → IsProp (HasPassedLabels byte_index s)
 passed-prop byte_index s = Prim.hlevel props
 
-passed-later : (s : LabelCursor) (p q : ℕ) → p ≤ q → HasPassedLabels p s → HasPassedLabels q s
+passed-later : (s : LabelCursor) (p q : ℕ) → p ≤ q → HasPassedLabels p s
+    → HasPassedLabels q s
 passed-later s p q h m = record {
   primary = record { is = λ c low some. m.primary.is c (omega arith) some };
   any = record { is = λ c low some. m.any.is c (omega arith) some };
@@ -189,7 +194,8 @@ passed-later s p q h m = record {
 
 -- the characters after some of those that follow one another
 follow-rest : (byte_index : ℕ) (before left : List Metrics)
-    → AreContiguous byte_index (before ++ left) → (q : ℕ) × (byte_index ≤ q) × AreContiguous q left
+    → AreContiguous byte_index (before ++ left)
+    → (q : ℕ) × (byte_index ≤ q) × AreContiguous q left
 follow-rest byte_index [] left follow = (byte_index, omega arith, follow)
 follow-rest byte_index (c ∷ cs) left follow =
     let later = follow-rest (byte_index + c.bytes) cs left follow.2 in
@@ -207,22 +213,23 @@ cursor-start s before left passed follow =
           later.2;
     } ∣₁
 
-module _ (s : LabelCursor) (left rest : List Metrics) (c : Metrics) (step : left ≡ c ∷ rest) where
-  here : (w : IsBefore s left) → AreContiguous w.byte_index (c ∷ rest)
-  here w = rw step at w.contiguous
+module _ (s : LabelCursor) (left rest : List Metrics) (c : Metrics) (step : left ≡ c ∷ rest)
+  where
+    here : (w : IsBefore s left) → AreContiguous w.byte_index (c ∷ rest)
+    here w = rw step at w.contiguous
 
-  -- it returns the next character
-  pub cursor-returns : ∥ IsBefore s left ∥₁ → ∥ HasReturned c s rest ∥₁
-  cursor-returns before_it =
-      ∥∥₁_elim before_it (Prim.hlevel props)
-      (λ w. ∣
-      record {
-        has_byte =
-            (here w).1;
-        passed = rw (here w).0 w.passed;
-        contiguous = rw (here w).0 (here w).2;
-      }
-      ∣₁)
+    -- it returns the next character
+    pub cursor-returns : ∥ IsBefore s left ∥₁ → ∥ HasReturned c s rest ∥₁
+    cursor-returns before_it =
+        ∥∥₁_elim before_it (Prim.hlevel props)
+        (λ w. ∣
+        record {
+          has_byte =
+              (here w).1;
+          passed = rw (here w).0 w.passed;
+          contiguous = rw (here w).0 (here w).2;
+        }
+        ∣₁)
 
 -- and goes on after it, whether or not the style under it was requested
 pub cursor-goes_on : (s : LabelCursor) (rest : List Metrics) (c : Metrics)
@@ -242,7 +249,8 @@ cursor-goes_on s rest c returned =
 
 -- as it does where none is left
 pub cursor-next : (s : LabelCursor) (old new : MetricsFromCache) (r : Option Metrics)
-    → YieldsFirst remaining_from_cache old r new → ∥ IsBefore s (remaining_from_cache old) ∥₁
+    → YieldsFirst remaining_from_cache old r new
+    → ∥ IsBefore s (remaining_from_cache old) ∥₁
     → ∥ IsBefore s (remaining_from_cache new) ∥₁
 cursor-next s old new (Some c) step before_it =
     cursor-goes_on s (remaining_from_cache new) c
@@ -252,14 +260,16 @@ cursor-next s old new None ends before_it =
 
 -- what it has returned
 pub cursor-next_returned : (s : LabelCursor) (old new : MetricsFromCache) (r : Option Metrics)
-    → YieldsFirst remaining_from_cache old r new → ∥ IsBefore s (remaining_from_cache old) ∥₁
+    → YieldsFirst remaining_from_cache old r new
+    → ∥ IsBefore s (remaining_from_cache old) ∥₁
     → IfSome r (λ c. ∥ HasReturned c s (remaining_from_cache new) ∥₁)
 cursor-next_returned s old new (Some c) step before_it =
     cursor-returns s (remaining_from_cache old) (remaining_from_cache new) c step before_it
 cursor-next_returned s old new None ends before_it = tt
 
 pub cursor-passed : (s t : LabelCursor) (rest : List Metrics) (c : Metrics)
-    → ∥ HasReturned c s rest ∥₁ → HasPassedLabels (c.byte_index + c.bytes) t → ∥ IsBefore t rest ∥₁
+    → ∥ HasReturned c s rest ∥₁ → HasPassedLabels (c.byte_index + c.bytes) t
+    → ∥ IsBefore t rest ∥₁
 cursor-passed s t rest c returned passed =
     ∥∥₁_elim returned (Prim.hlevel props)
     (λ g. ∣ record {
@@ -271,7 +281,8 @@ cursor-passed s t rest c returned passed =
 -- the labels that it has passed, and the character that it has returned
 pub returned-passed : (s : LabelCursor) (rest : List Metrics) (c : Metrics)
     → ∥ HasReturned c s rest ∥₁ → HasPassedLabels c.byte_index s
-returned-passed s rest c returned = ∥∥₁_elim returned (passed-prop c.byte_index s) (λ g. g.passed)
+returned-passed s rest c returned = ∥∥₁_elim returned (passed-prop c.byte_index s)
+    (λ g. g.passed)
 
 pub returned-some : (s : LabelCursor) (rest : List Metrics) (c : Metrics)
     → ∥ HasReturned c s rest ∥₁ → 1 ≤ c.bytes

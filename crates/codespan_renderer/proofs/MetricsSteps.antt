@@ -1,15 +1,16 @@
 -- For `CharMetrics::next_metrics` and `width_at`: a step over one character of a line.
-use Rattle.codespan_core.proofs.Std.{◌≡◌, ℕ, ◌+◌, ◌-◌, ◌≤◌, nat_lt, nat_le, ◌==◌, lt-ltb, true}
-use Rattle.codespan_core.proofs.Std.{false, List, [], ◌∷◌, ◌++◌, length, length-append, refl, ap}
-use Rattle.codespan_core.proofs.Std.{◌∙◌, arith, encode_utf8, len_utf8, IsUtf8, chars, ne_eqb}
-use Rattle.codespan_core.proofs.Std.{nat_tests, length-encode}
+use Rattle.codespan_core.proofs.Std.{◌≡◌, ℕ, ◌+◌, ◌-◌, ◌≤◌, nat_lt, nat_le}
+use Rattle.codespan_core.proofs.Std.{◌==◌, lt-ltb, true, false, List, [], ◌∷◌, ◌++◌}
+use Rattle.codespan_core.proofs.Std.{length, length-append, refl, ap, ◌∙◌, arith, encode_utf8}
+use Rattle.codespan_core.proofs.Std.{len_utf8, IsUtf8, chars, ne_eqb, nat_tests, length-encode}
 use Rattle.std.proofs.lemmas.Str.{chars_past_char, chars-nil}
 use Rattle.codespan_output.specs.declared.char_metrics.Metrics.{Metrics}
 use Rattle.codespan_output.specs.CharMetrics.{metrics_then, width_at}
 use Rattle.unicode_width.specs.Width.{char_width}
 
 -- a printable character of ASCII occupies one cell
-pub width_at-printable : (tab column c : ℕ) → 32 ≤ c → c ≤ 126 → 1 ≡ width_at tab column c
+pub width_at-printable : (tab column c : ℕ) → 32 ≤ c → c ≤ 126
+    → 1 ≡ width_at tab column c
 unfolding char_width
 width_at-printable tab column c low high =
     let no_tab : (c == 9) ≡ false = ne_eqb c 9 (λ e. omega (arith, e)) in
@@ -20,7 +21,8 @@ width_at-printable tab column c low high =
 -- the first of the remaining characters
 pub metrics_then-char : (after : ℕ → ℕ → List Metrics) (tab byte_index column : ℕ)
     (bs rest : List ℕ) (c bytes width : ℕ)
-    → IsUtf8 bs → bs ≡ encode_utf8 c ++ rest → bytes ≡ len_utf8 c → width ≡ width_at tab column c
+    → IsUtf8 bs → bs ≡ encode_utf8 c ++ rest → bytes ≡ len_utf8 c
+    → width ≡ width_at tab column c
     → metrics_then after tab byte_index column (chars bs)
     ≡ record {
       ch =
@@ -35,7 +37,8 @@ metrics_then-char after tab byte_index column bs rest c bytes width u e b w =
     ap (metrics_then after tab byte_index column) (chars_past_char bs rest c u e) ∙ rw (b, w) refl
 
 -- none remains
-pub metrics_then-end : (after : ℕ → ℕ → List Metrics) (tab byte_index column : ℕ) (bs : List ℕ)
+pub metrics_then-end : (after : ℕ → ℕ → List Metrics) (tab byte_index column : ℕ)
+    (bs : List ℕ)
     → length bs ≡ 0
     → metrics_then after tab byte_index column (chars bs) ≡ after byte_index column
 metrics_then-end after tab byte_index column [] e =

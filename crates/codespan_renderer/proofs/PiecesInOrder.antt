@@ -1,6 +1,6 @@
 -- For `find_pointers`: prefixes and suffixes of labels in order are in order.
-use Rattle.codespan_core.proofs.Std.{◌≡◌, ℕ, ◌≤◌, true, nat_le, List, [], ◌∷◌, ◌++◌, refl, ap, ◌∙◌}
-use Rattle.codespan_core.proofs.Std.{arith, and_parts, nat_tests}
+use Rattle.codespan_core.proofs.Std.{◌≡◌, ℕ, ◌≤◌, true, nat_le, List, [], ◌∷◌}
+use Rattle.codespan_core.proofs.Std.{◌++◌, refl, ap, ◌∙◌, arith, and_parts, nat_tests}
 use Rattle.std.proofs.Math.Logic.{∥∥₁_elim}
 use Rattle.std.proofs.Props.{props}
 use Rattle.codespan_core.specs.Labels.{LabelModel}

@@ -1,6 +1,7 @@
 -- For `find_pointers` and `next_pointer`: what finds the pointers of a line.
-use Rattle.codespan_core.proofs.Std.{◌≡◌, ℕ, ◌+◌, ◌<◌, ◌≤◌, arith, List, [], ◌∷◌, ◌++◌, Option}
-use Rattle.codespan_core.proofs.Std.{Some, None, refl, ◌∙◌, append_assoc, filter, chars}
+use Rattle.codespan_core.proofs.Std.{◌≡◌, ℕ, ◌+◌, ◌<◌, ◌≤◌, arith, List, []}
+use Rattle.codespan_core.proofs.Std.{◌∷◌, ◌++◌, Option, Some, None, refl, ◌∙◌}
+use Rattle.codespan_core.proofs.Std.{append_assoc, filter, chars}
 use Rattle.std.specs.Str.Iter.{chars_rest}
 use Rattle.codespan_core.specs.Labels.{LabelModel, has_message}
 use Rattle.codespan_output.specs.Types.{LabelStyle}
@@ -46,7 +47,8 @@ pub passing-at : (before after : List SingleLabelTuple) (s t : StartCursor) (cs 
     → cs ≡ c ∷ left → IsPassing before after s t cs
     → IsPassingAt before after s t c left
 passing-at before after s t cs left c step w =
-    let consecutive : AreConsecutive w.byte_index w.column (c ∷ left) = rw step at w.consecutive in
+    let consecutive : AreConsecutive w.byte_index w.column (c ∷ left) = rw step at w.consecutive
+    in
     let here = consecutive.0 in
     let at = consecutive.1 in
     record {
@@ -105,12 +107,14 @@ pub found-none : (labels : List LabelModel) (ps : List Pointer) (cs left : List 
     (c : Metrics)
     → cs ≡ c ∷ left
     → pointer_style_if_any (hanging_labels labels) c ≡ None
-    → ps ++ pointers_in (hanging_labels labels) left ≡ ps ++ pointers_in (hanging_labels labels) cs
+    → ps ++ pointers_in (hanging_labels labels) left ≡ ps
+    ++ pointers_in (hanging_labels labels) cs
 found-none labels ps cs left c step is = rw (step, is) refl
 
 -- both cursors are at the line's start
 pub passing-start : (before after : List SingleLabelTuple) (s t : StartCursor) (cs : List Metrics)
-    → HasPassedStarts 0 s → HasPassedStarts 0 t → s.labels.now ≡ before → t.labels.now ≡ after
+    → HasPassedStarts 0 s → HasPassedStarts 0 t → s.labels.now ≡ before
+    → t.labels.now ≡ after
     → AreConsecutive 0 0 cs → IsPassing before after s t cs
 passing-start before after s t cs early late same_early same_late consecutive = record {
   byte_index = 0;
@@ -132,7 +136,8 @@ pub pointers-past-at : (labels before after : List SingleLabelTuple) (s t : Star
     → greatest_start ≡ max_label_start (single_label_views labels)
     → pointers_in (hanging_labels (single_label_views labels)) cs ≡ []
 pointers-past-at labels before after s t greatest_start cs left c step w past e =
-    let consecutive : AreConsecutive w.byte_index w.column (c ∷ left) = rw step at w.consecutive in
+    let consecutive : AreConsecutive w.byte_index w.column (c ∷ left) = rw step at w.consecutive
+    in
     pointers-past (single_label_views labels) w.byte_index w.column cs w.consecutive
     (omega (arith, e, past, consecutive.0))
 

@@ -1,13 +1,13 @@
 -- For `next_pointer` and `find_pointers`: the style of a pointer.
-use Rattle.codespan_core.proofs.Std.{◌≡◌, ℕ, suc, ◌+◌, ◌<◌, Bool, true, false, cond, ◌==◌, ◌&&◌}
-use Rattle.codespan_core.proofs.Std.{◌||◌, List, [], ◌∷◌, ◌++◌, length, get_or, drop, filter, fold}
-use Rattle.codespan_core.proofs.Std.{Option, Some, None, refl, sym, ap, ◌∙◌, drop-cons, add-one}
-use Rattle.codespan_core.proofs.Std.{not, if◌then◌else◌, list_any, filter-append, fold-append}
+use Rattle.codespan_core.proofs.Std.{◌≡◌, ℕ, suc, ◌+◌, ◌<◌, Bool, true, false, cond}
+use Rattle.codespan_core.proofs.Std.{◌==◌, ◌&&◌, ◌||◌, List, [], ◌∷◌, ◌++◌}
+use Rattle.codespan_core.proofs.Std.{length, get_or, drop, filter, fold, Option, Some, None, refl}
+use Rattle.codespan_core.proofs.Std.{sym, ap, ◌∙◌, drop-cons, add-one, not}
+use Rattle.codespan_core.proofs.Std.{if◌then◌else◌, list_any, filter-append, fold-append}
 use Rattle.codespan_core.specs.Labels.{LabelModel, has_message, is_primary, is_primary_style}
 use Rattle.codespan_output.specs.Types.{LabelStyle, Primary, Secondary}
 use Rattle.codespan_output.specs.declared.char_metrics.Metrics.{Metrics}
-use Rattle.codespan_output.specs.Arguments.{SingleLabelTuple, single_label_view}
-use Rattle.codespan_output.specs.Arguments.{single_label_views}
+use Rattle.codespan_output.specs.Arguments.{SingleLabelTuple, single_label_view, single_label_views}
 use Rattle.codespan_output.specs.Rows.{hanging_labels}
 use Rattle.codespan_output.specs.RowParts.{starts_in, pointer_style}
 use Rattle.codespan_output.specs.Private.PointerLists.{pointer_style_if_any}

@@ -1,6 +1,7 @@
 -- For `style_under` and `start_style`: the style that takes precedence among those of some labels.
-use Rattle.codespan_core.proofs.Std.{◌≡◌, Bool, true, false, cond, List, [], ◌∷◌, filter, fold}
-use Rattle.codespan_core.proofs.Std.{Option, None, Some, refl, ◌&&◌, if◌then◌else◌, list_any}
+use Rattle.codespan_core.proofs.Std.{◌≡◌, Bool, true, false, cond, List, [], ◌∷◌}
+use Rattle.codespan_core.proofs.Std.{filter, fold, Option, None, Some, refl, ◌&&◌}
+use Rattle.codespan_core.proofs.Std.{if◌then◌else◌, list_any}
 use Rattle.codespan_core.specs.Labels.{LabelModel, is_primary}
 use Rattle.codespan_output.specs.Types.{LabelStyle, Primary, Secondary}
 use Rattle.codespan_renderer.specs.Private.{prefer_primary, preferred_style}
@@ -33,7 +34,8 @@ preferred-primary test [] = refl
 preferred-primary test (x ∷ xs) = primary-cons test x xs _ refl (preferred-primary test xs)
 
 -- primary where one of the labels that pass is, else this style
-abbrev primary_or : (LabelModel → Bool) → Option LabelStyle → List LabelModel → Option LabelStyle
+abbrev primary_or : (LabelModel → Bool) → Option LabelStyle → List LabelModel
+    → Option LabelStyle
 primary_or test style xs =
     if list_any (λ x. is_primary x && test x) xs then Some Primary else style
 
@@ -41,7 +43,8 @@ secondary-cons : (test : LabelModel → Bool) (x : LabelModel) (xs : List LabelM
     (s : LabelStyle)
     → test x ≡ b → x.style ≡ s
     → preferred_style test (Some Secondary) xs ≡ primary_or test (Some Secondary) xs
-    → preferred_style test (Some Secondary) (x ∷ xs) ≡ primary_or test (Some Secondary) (x ∷ xs)
+    → preferred_style test (Some Secondary) (x ∷ xs)
+    ≡ primary_or test (Some Secondary) (x ∷ xs)
 secondary-cons test x xs true Primary e q ih = rw (e, q) (preferred-primary test xs)
 secondary-cons test x xs true Secondary e q ih = rw (e, q) ih
 secondary-cons test x xs false Primary e q ih = rw (e, q) ih

@@ -1,6 +1,7 @@
 -- For `Renders` of the `render_` calls: what rows wrote through the row writer came to the
 -- renderer's writer.
-use Rattle.codespan_core.proofs.Std.{◌≡◌, ℕ, List, [], ◌∷◌, ap, sym, ◌∙◌, Result, Ok, Err, IfErr}
+use Rattle.codespan_core.proofs.Std.{◌≡◌, ℕ, List, [], ◌∷◌, ap, sym, ◌∙◌}
+use Rattle.codespan_core.proofs.Std.{Result, Ok, Err, IfErr}
 use Rattle.std.specs.Borrow.{GName}
 use Rattle.codespan_core.specs.Errors.{IsIo}
 use Rattle.codespan_core.specs.Streams.{Stream}
@@ -23,7 +24,8 @@ writes_as s items (Ok x) (Err y) t a p = let clash = a in cc
 writes_as s items (Err x) (Err y) t a p = p
 writes_as s items (Err x) (Ok y) t a p = let clash = a in cc
 
-pub puts_as : {E F : Type 0} (s : Sink) (bs : List ℕ) (r : Result ℕ E) (q : Result ℕ F) (t : Sink)
+pub puts_as : {E F : Type 0} (s : Sink) (bs : List ℕ) (r : Result ℕ E) (q : Result ℕ F)
+    (t : Sink)
     → SameOutcome r q → Puts s bs r t → Puts s bs q t
 puts_as s bs (Ok n) q t a p = rw a p
 puts_as s bs (Err x) (Err y) t a p = p
@@ -61,7 +63,8 @@ same_frame n m s t p = ap frame_before p
 pub same_head : (n m : GName) (s t : Sink)
     → (sink_through m t).frame ≡ (sink_through n s).frame → m ≡ n
 same_head n m s t p =
-    let e : (m ∷ t.frame.borrows) ≡ (n ∷ s.frame.borrows) = ap (λ (f : Frame). f.borrows) p in
+    let e : (m ∷ t.frame.borrows)
+    ≡ (n ∷ s.frame.borrows) = ap (λ (f : Frame). f.borrows) p in
     cc
 
 -- what was written behind a reference was written behind the same one
@@ -70,11 +73,13 @@ pub same_reference : {E : Type 0} (n m : GName) (s : Sink) (items : Stream)
     → Writes (sink_through n s) items r (sink_through m t) → m ≡ n
 same_reference n m s items (Ok x) t p = same_head n m s t p.0
 same_reference n m s items (Err x) t p =
-    let e : (m ∷ t.frame.borrows) ≡ (n ∷ s.frame.borrows) = ap (λ (f : Frame). f.borrows) p.0 in
+    let e : (m ∷ t.frame.borrows)
+    ≡ (n ∷ s.frame.borrows) = ap (λ (f : Frame). f.borrows) p.0 in
     cc
 
 -- equal contexts and equal lines make equal rows
-pub same_rows : (context other : RowContext) (line second : Line) → context ≡ other → line ≡ second
+pub same_rows : (context other : RowContext) (line second : Line) → context ≡ other
+    → line ≡ second
     → stream_of_rows context (rows_of line) ≡ stream_of_rows other (rows_of second)
 same_rows context other line second e h =
     ap (λ (l : RowContext). stream_of_rows l (rows_of line)) e
@@ -84,10 +89,13 @@ same_rows context other line second e h =
 pub renders : {W E : Type 0} (sink : W → Sink) (items others : Stream) (old new : Renderer W)
     (before after : RowWriter W) (name : GName) (r : Result (Unit {0}) E)
     (q : Result (Unit {0}) Error)
-    → items ≡ others → inner_reference before ≡ name → inner_writer before ≡ writer_of old
-    → Writes (row_writer_sink sink before) items r (row_writer_sink sink after) → SameOutcome r q
+    → items ≡ others → inner_reference before ≡ name
+    → inner_writer before ≡ writer_of old
+    → Writes (row_writer_sink sink before) items r (row_writer_sink sink after)
+    → SameOutcome r q
     → IfErr q IsIo
-    → (name ≡ inner_reference after → writer_of new ≡ inner_writer after) → SameRenderer old new
+    → (name ≡ inner_reference after → writer_of new ≡ inner_writer after)
+    → SameRenderer old new
     → Renders sink others old q new
 renders {W} {E} sink items others old new before after name r q equal called previous p same io back
     same_renderer =

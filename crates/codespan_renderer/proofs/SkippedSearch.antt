@@ -1,14 +1,14 @@
 -- For `skipped_before` and `characters_from_labels`: the cached characters of a line before the
 -- first one that its carets need.
-use Rattle.codespan_core.proofs.Std.{◌≡◌, None, Some, ℕ, zero, suc, ◌+◌, ◌<◌, ◌≤◌, true, List, []}
-use Rattle.codespan_core.proofs.Std.{◌∷◌, take, length, get_or, refl, sym, ap, subst, ◌∙◌, arith}
-use Rattle.codespan_core.proofs.Std.{min, fold, add-zero, chars, nat_le, slice_get, and_parts}
-use Rattle.codespan_core.proofs.Std.{nat_tests, sum_by-cons}
+use Rattle.codespan_core.proofs.Std.{◌≡◌, None, Some, ℕ, zero, suc, ◌+◌, ◌<◌}
+use Rattle.codespan_core.proofs.Std.{◌≤◌, true, List, [], ◌∷◌, take, length, get_or}
+use Rattle.codespan_core.proofs.Std.{refl, sym, ap, subst, ◌∙◌, arith, min, fold, add-zero}
+use Rattle.codespan_core.proofs.Std.{chars, nat_le, slice_get, and_parts, nat_tests, sum_by-cons}
 use Rattle.codespan_core.specs.Labels.{LabelModel}
 use Rattle.codespan_output.specs.declared.char_metrics.Metrics.{Metrics}
 use Rattle.codespan_output.specs.CharMetrics.{width_of}
-use Rattle.codespan_output.specs.Arguments.{SingleLabelTuple, single_label_view}
-use Rattle.codespan_output.specs.Arguments.{single_label_views, starts_from, starts_in_order}
+use Rattle.codespan_output.specs.Arguments.{SingleLabelTuple, single_label_view, single_label_views}
+use Rattle.codespan_output.specs.Arguments.{starts_from, starts_in_order}
 use Rattle.codespan_output.specs.Private.LineCharacters.{EndBy}
 use Rattle.codespan_output.specs.Private.RowLabels.{least_start}
 use Rattle.codespan_renderer.specs.declared.term.renderer.char_metrics.CharMetrics.{CharMetrics}
@@ -18,7 +18,8 @@ use Rattle.codespan_renderer.proofs.WidthSearch.{consecutive-front, consecutive-
 
 -- the characters before one that begins at a byte index or before it end by that index
 end-by : (byte_index from column : ℕ) (cs : List Metrics) (n : ℕ) (d : Metrics)
-    → AreConsecutive from column cs → n < length cs → (get_or cs n d).byte_index ≤ byte_index
+    → AreConsecutive from column cs → n < length cs
+    → (get_or cs n d).byte_index ≤ byte_index
     → EndBy byte_index (take n cs)
 end-by byte_index from column [] n d adjacent h low = absurd (omega arith)
 end-by byte_index from column (c ∷ cs) zero d adjacent h low = tt
@@ -71,7 +72,8 @@ least-past low m (x ∷ xs) ordered h =
     ∙ least-past x.start m xs parts.1 (omega arith)
 
 -- it is that of the first one
-least-first : (end : ℕ) (x : LabelModel) (xs : List LabelModel) → starts_in_order (x ∷ xs) ≡ true
+least-first : (end : ℕ) (x : LabelModel) (xs : List LabelModel)
+    → starts_in_order (x ∷ xs) ≡ true
     → min x.start end ≡ least_start end (x ∷ xs)
 least-first end x xs ordered =
     let parts = and_parts (nat_le 0 x.start) (starts_from x.start xs) ordered in

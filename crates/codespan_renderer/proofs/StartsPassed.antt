@@ -1,14 +1,14 @@
 -- For `StartCursor::start_style`: the starts of labels with messages, as a cursor over labels
 -- passes them.
-use Rattle.codespan_core.proofs.Std.{◌≡◌, ℕ, ◌+◌, ◌<◌, ◌≤◌, Bool, true, false, cond, ◌==◌, nat_lt}
-use Rattle.codespan_core.proofs.Std.{nat_le, List, [], ◌∷◌, length, drop, get_or, filter, Option}
-use Rattle.codespan_core.proofs.Std.{refl, sym, ◌∙◌, arith, not, if◌then◌else◌, and_parts}
-use Rattle.codespan_core.proofs.Std.{nat_tests}
+use Rattle.codespan_core.proofs.Std.{◌≡◌, ℕ, ◌+◌, ◌<◌, ◌≤◌, Bool, true, false}
+use Rattle.codespan_core.proofs.Std.{cond, ◌==◌, nat_lt, nat_le, List, [], ◌∷◌, length}
+use Rattle.codespan_core.proofs.Std.{drop, get_or, filter, Option, refl, sym, ◌∙◌, arith, not}
+use Rattle.codespan_core.proofs.Std.{if◌then◌else◌, and_parts, nat_tests}
 use Rattle.codespan_core.specs.Labels.{LabelModel, has_message}
 use Rattle.codespan_output.specs.Types.{LabelStyle}
 use Rattle.codespan_output.specs.declared.char_metrics.Metrics.{Metrics}
-use Rattle.codespan_output.specs.Arguments.{SingleLabelTuple, single_label_view}
-use Rattle.codespan_output.specs.Arguments.{single_label_views, starts_from}
+use Rattle.codespan_output.specs.Arguments.{SingleLabelTuple, single_label_view, single_label_views}
+use Rattle.codespan_output.specs.Arguments.{starts_from}
 use Rattle.codespan_output.specs.RowParts.{starts_in}
 use Rattle.codespan_renderer.specs.Private.{prefer_primary, preferred_style}
 use Rattle.codespan_renderer.proofs.PreferredStyles.{preferred-cons}
@@ -34,7 +34,8 @@ same-found true found = refl
 same-found false found = refl
 
 -- a label that starts before the character
-pub start-before : (c : Metrics) (found : Option LabelStyle) (ys xs : List SingleLabelTuple) (i : ℕ)
+pub start-before : (c : Metrics) (found : Option LabelStyle) (ys xs : List SingleLabelTuple)
+    (i : ℕ)
     (d : SingleLabelTuple) (byte_index : ℕ)
     → ys ≡ xs → i < length xs
     → (get_or xs i d).1.start < byte_index → byte_index ≤ c.byte_index

@@ -1,7 +1,8 @@
 -- For `put` of `Renderer` and `RowWriter`, the `set_` calls and `reset` of `Renderer`, and
 -- `put_mark` of `RowWriter`: a writer behind a reference takes what the writer takes.
-use Rattle.codespan_core.proofs.Std.{◌≡◌, ℕ, Bool, true, false, cond, List, ◌∷◌, length, refl, ap}
-use Rattle.codespan_core.proofs.Std.{◌∙◌, Result, Ok, Err, ◌==◌, ◌&&◌, nat_lt}
+use Rattle.codespan_core.proofs.Std.{◌≡◌, ℕ, Bool, true, false, cond, List, ◌∷◌}
+use Rattle.codespan_core.proofs.Std.{length, refl, ap, ◌∙◌, Result, Ok, Err, ◌==◌}
+use Rattle.codespan_core.proofs.Std.{◌&&◌, nat_lt}
 use Rattle.std.specs.Borrow.{GName}
 use Rattle.codespan_core.specs.Streams.{Stream}
 use Rattle.codespan_core.specs.WriterLaw.{Sink, Frame, is_known, failed_frame, with_written}
@@ -27,15 +28,19 @@ writes_through name s items (Err x) t p =
     (ap (frame_through name) p.0, λ known. prefix_through name s items t (p.1 known))
 
 flag_through : (name : GName) (f : Frame) (b : Bool)
-    → frame_through name (cond b (failed_frame f) f) ≡ cond b (failed_frame (frame_through name f))
+    → frame_through name (cond b (failed_frame f) f)
+    ≡ cond b (failed_frame (frame_through name f))
     (frame_through name f)
 flag_through name f true = refl
 flag_through name f false = refl
 
 -- so has a `put`
-pub puts_through : {E : Type 0} (name : GName) (s : Sink) (bs : List ℕ) (r : Result ℕ E) (t : Sink)
+pub puts_through : {E : Type 0} (name : GName) (s : Sink) (bs : List ℕ) (r : Result ℕ E)
+    (t : Sink)
     → Puts s bs r t → Puts (sink_through name s) bs r (sink_through name t)
 unfolding is_known
-puts_through name s bs (Ok n) t p =
-    (ap (frame_through name) p.0 ∙ flag_through name s.frame (n == 0 && nat_lt 0 (length bs)), p.1)
+puts_through name s bs (Ok n) t p = (
+  ap (frame_through name) p.0 ∙ flag_through name s.frame (n == 0 && nat_lt 0 (length bs)),
+  p.1,
+)
 puts_through name s bs (Err x) t p = (ap (frame_through name) p.0, p.1)

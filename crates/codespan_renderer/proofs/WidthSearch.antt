@@ -1,8 +1,9 @@
 -- The width up to a byte index, by a search among the cached characters of a line: serves
 -- `width_up_to` of a cached line and `column_past` of a scan.
-use Rattle.codespan_core.proofs.Std.{◌≡◌, ℕ, zero, suc, ◌+◌, ◌<◌, ◌≤◌, true, false, List, [], ◌∷◌}
-use Rattle.codespan_core.proofs.Std.{◌++◌, length, get_or, leb, refl, sym, ap, subst, arith, lt-leb}
-use Rattle.codespan_core.proofs.Std.{len_utf8_bounds, len_utf8, nat_le, chars, nat_tests}
+use Rattle.codespan_core.proofs.Std.{◌≡◌, ℕ, zero, suc, ◌+◌, ◌<◌, ◌≤◌, true}
+use Rattle.codespan_core.proofs.Std.{false, List, [], ◌∷◌, ◌++◌, length, get_or, leb}
+use Rattle.codespan_core.proofs.Std.{refl, sym, ap, subst, arith, lt-leb, len_utf8_bounds, len_utf8}
+use Rattle.codespan_core.proofs.Std.{nat_le, chars, nat_tests}
 use Rattle.std.specs.List.Sorted.{IsPartitionPoint}
 use Rattle.std.specs.Str.Iter.{chars_rest}
 use Rattle.codespan_output.specs.declared.char_metrics.Metrics.{Metrics}
@@ -23,9 +24,11 @@ default_metrics = record { ch = 0; byte_index = 0; bytes = 0; column = 0; unicod
 
 -- no character begins before the first byte index
 pub consecutive-low : (byte_index column : ℕ) (cs : List Metrics) (j : ℕ) (d : Metrics)
-    → AreConsecutive byte_index column cs → j < length cs → byte_index ≤ (get_or cs j d).byte_index
+    → AreConsecutive byte_index column cs → j < length cs
+    → byte_index ≤ (get_or cs j d).byte_index
 consecutive-low byte_index column [] j d adjacent h = absurd (omega arith)
-consecutive-low byte_index column (c ∷ cs) zero d adjacent h = let here = adjacent.0 in omega arith
+consecutive-low byte_index column (c ∷ cs) zero d adjacent h = let here = adjacent.0 in omega
+    arith
 consecutive-low byte_index column (c ∷ cs) (suc j) d adjacent h =
     let more = consecutive-low (byte_index + c.bytes) (column + c.unicode_width) cs j d adjacent.3
     (omega arith) in
@@ -34,12 +37,14 @@ consecutive-low byte_index column (c ∷ cs) (suc j) d adjacent h =
 -- they begin one after another
 pub consecutive-ascends : (byte_index column : ℕ) (cs : List Metrics) (d : Metrics)
     → AreConsecutive byte_index column cs
-    → (i j : ℕ) → i ≤ j → j < length cs → (get_or cs i d).byte_index ≤ (get_or cs j d).byte_index
+    → (i j : ℕ) → i ≤ j → j < length cs
+    → (get_or cs i d).byte_index ≤ (get_or cs j d).byte_index
 consecutive-ascends byte_index column [] d adjacent i j low h = absurd (omega arith)
 consecutive-ascends byte_index column (c ∷ cs) d adjacent zero j low h =
     let here = adjacent.0 in
     let more = consecutive-low byte_index column (c ∷ cs) j d adjacent h in omega arith
-consecutive-ascends byte_index column (c ∷ cs) d adjacent (suc i) zero low h = absurd (omega arith)
+consecutive-ascends byte_index column (c ∷ cs) d adjacent (suc i) zero low h = absurd
+    (omega arith)
 consecutive-ascends byte_index column (c ∷ cs) d adjacent (suc i) (suc j) low h =
     consecutive-ascends (byte_index + c.bytes) (column + c.unicode_width) cs d adjacent.3 i j
     (omega arith) (omega arith)
@@ -124,7 +129,8 @@ pub cached-cut : (tab : ℕ) (text : List ℕ) (cached : List Metrics) (rest : C
     → IsPartitionPoint (λ (y : Metrics). leb y.byte_index byte_index ≡ true)
     (λ (y : Metrics). leb y.byte_index byte_index ≡ false) cached count
     → count < length cached
-    → (get_or cached count d).column ≡ width_of (metrics_up_to byte_index (char_metrics tab text))
+    → (get_or cached count d).column
+    ≡ width_of (metrics_up_to byte_index (char_metrics tab text))
 cached-cut tab text cached rest byte_index count d are point h =
     let all : cached ++ metrics_from no_more rest ≡ char_metrics tab text = are no_more in
     let adjacent : AreConsecutive 0 0 (cached ++ metrics_from no_more rest) =
@@ -159,7 +165,8 @@ cached-past tab text cached rest byte_index count d are point h =
 pub cached-ascends : (tab : ℕ) (text : List ℕ) (cached : List Metrics) (rest : CharMetrics)
     → AreCached tab text cached rest
     → (i j : ℕ) → i ≤ j → j < length cached
-    → (get_or cached i default_metrics).byte_index ≤ (get_or cached j default_metrics).byte_index
+    → (get_or cached i default_metrics).byte_index
+    ≤ (get_or cached j default_metrics).byte_index
 cached-ascends tab text cached rest are =
     let adjacent : AreConsecutive 0 0 (cached ++ metrics_from no_more rest) =
     subst (λ (cs : List Metrics). AreConsecutive 0 0 cs) (sym (are no_more))

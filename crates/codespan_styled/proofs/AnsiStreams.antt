@@ -1,6 +1,7 @@
 -- A text for a terminal whose characters are safe, beside what `Ansi` receives: for the clause of
 -- `terminal::laws::safe_runs_are_as_written`.
-use Rattle.std.proofs.Common.{◌≡◌, ℕ, List, [], ◌∷◌, ◌++◌, sym, ap, ◌∙◌, append_assoc, append-nil}
+use Rattle.std.proofs.Common.{◌≡◌, ℕ, List, [], ◌∷◌, ◌++◌, sym, ap, ◌∙◌}
+use Rattle.std.proofs.Common.{append_assoc, append-nil}
 use Rattle.codespan_base.specs.declared.term.config.styles.Styles.{Styles}
 use Rattle.codespan_base.specs.Streams.{Stream, Byte, Mark, Slot, spelled}
 use Rattle.codespan_base.specs.declared.term.config.style_mark.StyleMark.{StyleMark}

@@ -1,7 +1,8 @@
 -- UTF-8 has bytes alone: for the field `runs_are` of `AreRuns`, in the clause of `styled_text`,
 -- where no byte of a text may be taken for the number of a style.
-use Rattle.std.proofs.Common.{◌≡◌, ℕ, ◌+◌, ◌/◌, ◌%◌, ◌<◌, true, List, [], ◌∷◌, ◌++◌, ⊎_elim, subst}
-use Rattle.std.proofs.Common.{arith, encode_utf8_all, map, string_bytes}
+use Rattle.std.proofs.Common.{◌≡◌, ℕ, ◌+◌, ◌/◌, ◌%◌, ◌<◌, true, List, []}
+use Rattle.std.proofs.Common.{◌∷◌, ◌++◌, ⊎_elim, subst, arith, encode_utf8_all, map}
+use Rattle.std.proofs.Common.{string_bytes}
 use Rattle.std.specs.Prelude.{nat_lt, ◌&&◌, Bool}
 use Rattle.std.specs.Char.{IsScalar, encode_utf8}
 use Rattle.std.specs.Str.{IsUtf8, all_scalars}
@@ -21,7 +22,8 @@ AreBytes-append (x ∷ xs) bs a b = (a.0, AreBytes-append xs bs a.1 b)
 -- a Unicode scalar value is less than 0x110000
 below_top : (c : ℕ) → IsScalar c → c < 1114112
 below_top c s =
-    ⊎_elim (λ (h : c < 55296). let e : c < 1114112 = omega arith in e) (λ h. h.1) (scalar_cases c s)
+    ⊎_elim (λ (h : c < 55296). let e : c < 1114112 = omega arith in e) (λ h. h.1)
+    (scalar_cases c s)
 
 -- the bytes of a character
 character-bytes : (c : ℕ) → IsScalar c → AreBytes (encode_utf8 c)

@@ -1,7 +1,7 @@
 -- What the writer of runs holds, read back as runs: for the fields `runs_are` and `text_is` of
 -- `AreRuns`, in the clause of `styled_text`.
-use Rattle.std.proofs.Common.{◌≡◌, ℕ, ◌-◌, ◌<◌, true, List, [], ◌∷◌, ◌++◌, get_or, refl, sym, ap}
-use Rattle.std.proofs.Common.{◌∙◌, append_assoc, append-nil, arith}
+use Rattle.std.proofs.Common.{◌≡◌, ℕ, ◌-◌, ◌<◌, true, List, [], ◌∷◌, ◌++◌}
+use Rattle.std.proofs.Common.{get_or, refl, sym, ap, ◌∙◌, append_assoc, append-nil, arith}
 use Rattle.std.specs.Prelude.{Bool, nat_lt, if◌then◌else◌}
 use Rattle.std.proofs.lemmas.Bool.Decides.{nat_tests}
 use Rattle.codespan_base.specs.declared.diagnostic.LabelStyle.TheVariants.{Primary, Secondary}
@@ -32,7 +32,8 @@ styles =
     ∷ Header Bug ∷ Header Error ∷ Header Warning ∷ Header Note ∷ Header Help
     ∷ Label Bug Primary ∷ Label Error Primary ∷ Label Warning Primary ∷ Label Note Primary
     ∷ Label Help Primary
-    ∷ Label Bug Secondary ∷ Label Error Secondary ∷ Label Warning Secondary ∷ Label Note Secondary
+    ∷ Label Bug Secondary ∷ Label Error Secondary ∷ Label Warning Secondary ∷ Label Note
+    Secondary
     ∷ Label Help Secondary ∷ []
 
 abbrev style_at : ℕ → StyleMark
@@ -104,7 +105,8 @@ bytes-decoded style text (b ∷ bs) rest small =
     ∙ ap (λ t. decoded style t rest) (append_assoc text (b ∷ []) bs)
 
 -- runs that are recorded read back
-contents-decoded : (style : StyleMark) (text : List ℕ) (runs : List RunView) → TextsAreBytes runs
+contents-decoded : (style : StyleMark) (text : List ℕ) (runs : List RunView)
+    → TextsAreBytes runs
     → decoded style text (recorded_runs runs) ≡ run_of style text ∷ runs
 contents-decoded style text [] small = refl
 contents-decoded style text (run ∷ runs) small =
@@ -120,7 +122,8 @@ rest_of (run ∷ runs) = runs
 -- runs that are recorded as a stream is, after the number of the reset, are those of the stream
 pub runs_of_recorded : (runs : List RunView) (s : Stream) → TextsAreBytes runs
     → AreBytes (text_of s)
-    → recorded_runs runs ≡ style_number Reset ∷ spelled style_spelling s → runs ≡ runs_of s
+    → recorded_runs runs ≡ style_number Reset ∷ spelled style_spelling s
+    → runs ≡ runs_of s
 unfolding rest_of
 runs_of_recorded runs s small bytes contents =
     ap rest_of (sym (contents-decoded Reset [] runs small) ∙ ap (decoded Reset []) contents

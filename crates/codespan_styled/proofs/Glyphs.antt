@@ -1,8 +1,9 @@
 -- Glyphs one by one: of which run they are, which cells they take, and in which text they are: for
 -- the clause `document` of `to_svg`.
-use Rattle.std.proofs.Common.{◌≡◌, ◌+◌, ◌-◌, ◌≤◌, ◌<◌, ℕ, List, [], ◌∷◌, ◌++◌, length, length-drop}
-use Rattle.std.proofs.Common.{map, max, take, drop, get_or, codes, false, Some, sym, ◌∙◌, ap}
-use Rattle.std.proofs.Common.{append_assoc, append-nil, arith}
+use Rattle.std.proofs.Common.{◌≡◌, ◌+◌, ◌-◌, ◌≤◌, ◌<◌, ℕ, List, []}
+use Rattle.std.proofs.Common.{◌∷◌, ◌++◌, length, length-drop, map, max, take, drop}
+use Rattle.std.proofs.Common.{get_or, codes, false, Some, sym, ◌∙◌, ap, append_assoc}
+use Rattle.std.proofs.Common.{append-nil, arith}
 use Rattle.std.specs.Prelude.{if◌then◌else◌}
 use Rattle.std.proofs.lemmas.Grind.{flat_map-append}
 use Rattle.std.proofs.lemmas.List.{drop_all, drop_more, map-append, take_all, take_more}
@@ -28,13 +29,15 @@ pub next_glyphs : (styles : Styles) (runs : List Run) (i : ℕ) (run : Run) (old
     → new ≡ old ++ glyphs_of_run styles (run_view run)
     → new ≡ glyphs_of styles (map run_view (take (i + 1) runs))
 next_glyphs styles runs i run old new inside at before is =
-    let more : map run_view (take (i + 1) runs) ≡ map run_view (take i runs) ++ run_view run ∷ [] =
+    let more : map run_view (take (i + 1) runs) ≡ map run_view (take i runs)
+    ++ run_view run ∷ [] =
     ap (map run_view) (take_more runs i run inside ∙ ap (λ r. take i runs ++ r ∷ []) (sym at))
     ∙ map-append run_view (take i runs) (run ∷ []) in
     is ∙ ap (λ gs. gs ++ glyphs_of_run styles (run_view run)) before
     ∙ ap (λ gs. glyphs_of styles (map run_view (take i runs)) ++ gs)
     (sym (append-nil (glyphs_of_run styles (run_view run))))
-    ∙ sym (flat_map-append (glyphs_of_run styles) (map run_view (take i runs)) (run_view run ∷ []))
+    ∙ sym
+    (flat_map-append (glyphs_of_run styles) (map run_view (take i runs)) (run_view run ∷ []))
     ∙ ap (glyphs_of styles) (sym more)
 
 -- ---- extent
@@ -59,7 +62,8 @@ pub all_glyphs : (glyphs : List Glyph) (i : ℕ) (position : CellPosition) (colu
     → record { row = position.row; column = columns } ≡ all
 all_glyphs glyphs i position columns all past reached row column =
     let none : drop i glyphs ≡ [] = drop_all i glyphs past in
-    let rows : position.row ≡ all.row = ap (λ gs. (extent_from position gs).row) (sym none) ∙ row in
+    let rows : position.row ≡ all.row = ap (λ gs. (extent_from position gs).row) (sym none)
+    ∙ row in
     let widest : max columns position.column ≡ all.column =
     ap (λ gs. max columns (extent_from position gs).column) (sym none) ∙ column in
     let columns_are : columns ≡ all.column = omega arith in
@@ -92,7 +96,8 @@ module _ (glyphs : List Glyph) (i : ℕ) (other : Glyph) (inside : i < length gl
       let rest : ℕ = (extent_from next (drop (i + 1) glyphs)).column in
       let wide : next.column ≤ rest = as_wide next (drop (i + 1) glyphs) in
       widest columns position.column next.column rest reached wide
-      ∙ ap (λ p. max columns (max position.column (extent_from p (drop (i + 1) glyphs)).column)) is
+      ∙ ap (λ p. max columns (max position.column (extent_from p (drop (i + 1) glyphs)).column))
+      is
       ∙ ap (λ gs. max columns (extent_from position gs).column) (sym left) ∙ before
 
   -- ---- texts
@@ -140,7 +145,8 @@ regrouped lt size font gt background end texts last = simp append_assoc
 
 -- the whole document
 pub document-written : (glyphs : List Glyph) (extent : CellPosition) (b0 b1 b2 b3 b4 : List ℕ)
-    → b0 ≡ [] → extent ≡ extent_from start glyphs → b1 ≡ b0 ++ codes "<" ++ svg_tag_start extent
+    → b0 ≡ [] → extent ≡ extent_from start glyphs
+    → b1 ≡ b0 ++ codes "<" ++ svg_tag_start extent
     → b2 ≡ b1 ++ (font_attributes ++ codes ">\n<" ++ background_tag_content ++ codes ">\n")
     → b3 ≡ b2 ++ texts_from first_pen glyphs → b4 ≡ b3 ++ codes "</svg>\n"
     → b4 ≡ svg_document glyphs

@@ -1,6 +1,6 @@
 -- Each element that a tag opens is closed: for the clause `balanced` of `to_html`.
-use Rattle.std.proofs.Common.{◌≡◌, ℕ, true, false, List, [], ◌∷◌, ◌++◌, map, codes, Some, refl, ap}
-use Rattle.std.proofs.Common.{◌∙◌, append_assoc}
+use Rattle.std.proofs.Common.{◌≡◌, ℕ, true, false, List, [], ◌∷◌, ◌++◌, map}
+use Rattle.std.proofs.Common.{codes, Some, refl, ap, ◌∙◌, append_assoc}
 use Rattle.std.specs.Prelude.{Bool, if◌then◌else◌}
 use Rattle.std.specs.Char.{encode_utf8}
 use Rattle.std.specs.List.{flat_map}
@@ -24,13 +24,15 @@ keeps-append s t first second rest elements =
     ap (λ (tokens : List Token). open_from tokens elements) (append_assoc s t rest)
     ∙ first (t ++ rest) elements ∙ second rest elements
 
-keeps-all : {A : Type 0} (tokens : A → List Token) → ((x : A) → Keeps (tokens x)) → (xs : List A)
+keeps-all : {A : Type 0} (tokens : A → List Token) → ((x : A) → Keeps (tokens x))
+    → (xs : List A)
     → Keeps (flat_map tokens xs)
 keeps-all tokens each [] rest elements = refl
 keeps-all tokens each (x ∷ xs) rest elements =
     keeps-append (tokens x) (flat_map tokens xs) (each x) (keeps-all tokens each xs) rest elements
 
-keeps-if : (test : Bool) (s t : List Token) → Keeps s → Keeps t → Keeps (if test then s else t)
+keeps-if : (test : Bool) (s t : List Token) → Keeps s → Keeps t
+    → Keeps (if test then s else t)
 keeps-if true s t first second = first
 keeps-if false s t first second = second
 

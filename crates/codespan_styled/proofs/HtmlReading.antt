@@ -1,7 +1,7 @@
 -- An element reads back as its tags and its text: for the clauses `tokens` and `text` of `to_html`.
-use Rattle.std.proofs.Common.{◌≡◌, ℕ, ◌+◌, ◌≤◌, ◌/◌, ◌%◌, true, false, List, [], ◌∷◌, ◌++◌, map}
-use Rattle.std.proofs.Common.{codes, encode_utf8_all, refl, sym, subst, ap, ◌∙◌, append_assoc}
-use Rattle.std.proofs.Common.{append-nil, arith, string_bytes}
+use Rattle.std.proofs.Common.{◌≡◌, ℕ, ◌+◌, ◌≤◌, ◌/◌, ◌%◌, true, false}
+use Rattle.std.proofs.Common.{List, [], ◌∷◌, ◌++◌, map, codes, encode_utf8_all, refl, sym}
+use Rattle.std.proofs.Common.{subst, ap, ◌∙◌, append_assoc, append-nil, arith, string_bytes}
 use Rattle.std.specs.Prelude.{Bool, ◌==◌, ◌&&◌, ◌||◌, nat_lt, if◌then◌else◌}
 use Rattle.std.specs.Char.{encode_utf8}
 use Rattle.std.specs.List.{AllByRecursion, flat_map}
@@ -118,7 +118,8 @@ abbrev Reads : List ℕ → List Token → Type 0
 Reads bs tokens =
     (rest : List ℕ) → tokens_from InText (bs ++ rest) ≡ tokens ++ tokens_from InText rest
 
-reads-append : (a b : List ℕ) (s t : List Token) → Reads a s → Reads b t → Reads (a ++ b) (s ++ t)
+reads-append : (a b : List ℕ) (s t : List Token) → Reads a s → Reads b t
+    → Reads (a ++ b) (s ++ t)
 reads-append a b s t first second rest =
     ap (tokens_from InText) (append_assoc a b rest) ∙ first (b ++ rest)
     ∙ ap (λ (tokens : List Token). s ++ tokens) (second rest)
@@ -143,7 +144,8 @@ reads-if false a b s t first second = second
 abbrev IsClass : List ℕ → Type 0
 IsClass class = Reads (span_tag class) (Tag (span_tag_content class) ∷ [])
 
-span-read : (class content : List ℕ) (tokens : List Token) → IsClass class → Reads content tokens
+span-read : (class content : List ℕ) (tokens : List Token) → IsClass class
+    → Reads content tokens
     → Reads (html_span class content) (span_tokens class tokens)
 span-read class content tokens starts inside =
     let start = Tag (span_tag_content class) ∷ [] in

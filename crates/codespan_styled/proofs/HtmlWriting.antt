@@ -1,7 +1,7 @@
 -- Texts and runs that are appended to an element one by one: for the clause `element` of
 -- `to_html`.
-use Rattle.std.proofs.Common.{◌≡◌, ℕ, List, [], ◌∷◌, ◌++◌, length, map, sym, ap, ◌∙◌, append_assoc}
-use Rattle.std.proofs.Common.{append-nil, arith, codes, refl}
+use Rattle.std.proofs.Common.{◌≡◌, ℕ, List, [], ◌∷◌, ◌++◌, length, map, sym, ap}
+use Rattle.std.proofs.Common.{◌∙◌, append_assoc, append-nil, arith, codes, refl}
 use Rattle.std.specs.Char.{encode_utf8}
 use Rattle.std.specs.List.{flat_map}
 use Rattle.std.specs.Str.{IsUtf8}
@@ -22,7 +22,8 @@ text-more front next whole rest more c u e is before =
     ∙ before
 
 -- no text is left
-pub text-end : (front whole rest : List ℕ) → length rest ≡ 0 → front ++ escaped_text rest ≡ whole
+pub text-end : (front whole rest : List ℕ) → length rest ≡ 0
+    → front ++ escaped_text rest ≡ whole
     → front ≡ whole
 text-end front whole [] none before =
     sym (append-nil front) ∙ ap (λ cs. front ++ flat_map html_cell cs) (sym chars-nil) ∙ before

@@ -1,6 +1,7 @@
 -- What the writer of runs holds after each call: for the law of writers.
-use Rattle.std.proofs.Common.{◌≡◌, ℕ, List, [], ◌∷◌, ◌++◌, map, Some, Result, Ok, Err, IsErr, refl}
-use Rattle.std.proofs.Common.{sym, ◌∙◌, ap, append_assoc, append-nil, string_bytes}
+use Rattle.std.proofs.Common.{◌≡◌, ℕ, List, [], ◌∷◌, ◌++◌, map, Some, Result, Ok}
+use Rattle.std.proofs.Common.{Err, IsErr, refl, sym, ◌∙◌, ap, append_assoc, append-nil}
+use Rattle.std.proofs.Common.{string_bytes}
 use Rattle.std.proofs.lemmas.Grind.{flat_map-append}
 use Rattle.std.proofs.lemmas.List.{map-append}
 use Rattle.codespan_base.specs.WriterLaw.{PrefixAppended, extended, AppendsBytes}
@@ -12,13 +13,15 @@ use Rattle.codespan_styled.specs.Private.Recorded.{recorded, style_number}
 use Rattle.codespan_styled.specs.Runs.{run_view}
 
 -- bytes that the last run takes are recorded last
-pub recorded-bytes : (front : List ℕ) (n : ℕ) (old new bytes : List ℕ) → new ≡ old ++ bytes
+pub recorded-bytes : (front : List ℕ) (n : ℕ) (old new bytes : List ℕ)
+    → new ≡ old ++ bytes
     → front ++ n ∷ new ≡ (front ++ n ∷ old) ++ bytes
 recorded-bytes front n old new bytes is =
     ap (λ t. front ++ n ∷ t) is ∙ sym (append_assoc front (n ∷ old) bytes)
 
 -- the runs of a writer whose last run ends are all that it recorded
-pub contents-ended : (old new : Recorder) (run : Run) → new.runs.items ≡ old.runs.items ++ run ∷ []
+pub contents-ended : (old new : Recorder) (run : Run)
+    → new.runs.items ≡ old.runs.items ++ run ∷ []
     → run.style ≡ old.style → string_bytes run.text ≡ old.text.items
     → recorded_runs (ended_runs new) ≡ recorded old
 contents-ended old new run is style text =
@@ -32,7 +35,8 @@ contents-ended old new run is style text =
 
 -- then a run is started
 pub recorded-started : (old new : Recorder) (next : StyleMark)
-    → recorded_runs (ended_runs new) ≡ recorded old → new.style ≡ next → new.text.items ≡ []
+    → recorded_runs (ended_runs new) ≡ recorded old → new.style ≡ next
+    → new.text.items ≡ []
     → Some (recorded new) ≡ extended (Some (recorded old)) (style_number next ∷ [])
 unfolding extended
 recorded-started old new next ended style empty =

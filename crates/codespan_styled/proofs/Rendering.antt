@@ -1,7 +1,8 @@
 -- The runs that a writer received are those of the output, and which errors are of lookups: for
 -- `styled_text`.
-use Rattle.std.proofs.Common.{◌≡◌, ℕ, true, false, List, [], ◌∷◌, ◌++◌, Some, Result, Ok, Err, inl}
-use Rattle.std.proofs.Common.{inr, ⊎_elim, sym, ap, subst, ◌∙◌, true≢false}
+use Rattle.std.proofs.Common.{◌≡◌, ℕ, true, false, List, [], ◌∷◌, ◌++◌, Some}
+use Rattle.std.proofs.Common.{Result, Ok, Err, inl, inr, ⊎_elim, sym, ap, subst, ◌∙◌}
+use Rattle.std.proofs.Common.{true≢false}
 use Rattle.std.specs.Prelude.{IfErr, IfOk, MatchResult}
 use Rattle.std.specs.Str.{IsUtf8}
 use Rattle.codespan_base.specs.declared.diagnostic.Diagnostic.{Diagnostic}
@@ -29,7 +30,8 @@ use Rattle.codespan_styled.specs.Outputs.{AreRuns, RunsAreUtf8, output_at}
 -- a fresh writer that received a stream holds its bytes last
 bytes_after : (spelling : Spelling) (old new : Sink) (s : Stream) (first last : List ℕ)
     → old ≡ fresh_sink spelling (Some first) → new.contents ≡ Some last
-    → (is_known old ≡ true → new ≡ with_written old s) → last ≡ first ++ spelled spelling s
+    → (is_known old ≡ true → new ≡ with_written old s)
+    → last ≡ first ++ spelled spelling s
 unfolding is_known are_known with_written extended
 bytes_after spelling old new s first last fresh contents written =
     let now = written (ap is_known fresh) ∙ ap (λ (x : Sink). with_written x s) fresh in
@@ -41,7 +43,8 @@ module _ {Id : Type 0} {config : Config} {files : FileDatabase Id} {d : Diagnost
   -- the runs of what was rendered to a fresh writer are those of the output
   pub runs_rendered : {old new : Sink} {last : List ℕ} (text : StyledText)
       → WritesStyled config.display_style config config files d old (Ok tt) new
-      → old ≡ fresh_sink style_spelling (Some (style_number Reset ∷ [])) → new.contents ≡ Some last
+      → old ≡ fresh_sink style_spelling (Some (style_number Reset ∷ []))
+      → new.contents ≡ Some last
       → CharsAreScalars config.chars → ((id : Id) → IsLawful (files.file id))
       → recorded_runs (styled_runs text) ≡ last → AreRuns config files d (styled_runs text)
   runs_rendered {old} {new} {last} text rendered fresh contents characters lawful are =
@@ -66,9 +69,11 @@ module _ {Id : Type 0} {config : Config} {files : FileDatabase Id} {d : Diagnost
   -- the same of what the writer returns
   pub runs_emitted : {old new : Sink} {last : List ℕ} (r : Result StyledText Error)
       → WritesStyled config.display_style config config files d old (Ok tt) new
-      → old ≡ fresh_sink style_spelling (Some (style_number Reset ∷ [])) → new.contents ≡ Some last
+      → old ≡ fresh_sink style_spelling (Some (style_number Reset ∷ []))
+      → new.contents ≡ Some last
       → CharsAreScalars config.chars → ((id : Id) → IsLawful (files.file id))
-      → MatchResult r (λ text. recorded_runs (styled_runs text) ≡ last) (λ e. e ≡ OutOfMemory)
+      → MatchResult r (λ text. recorded_runs (styled_runs text) ≡ last)
+      (λ e. e ≡ OutOfMemory)
       → IfOk r (λ text. AreRuns config files d (styled_runs text))
   runs_emitted (Ok text) rendered fresh contents characters lawful are =
       runs_rendered text rendered fresh contents characters lawful are
@@ -79,7 +84,8 @@ module _ {Id : Type 0} {config : Config} {files : FileDatabase Id} {d : Diagnost
       → WritesStyled config.display_style config config files d old (Err e) new
       → new.frame.failed ≡ false → IsEmitError config files d e
   error_emitted {old} {new} e rendered not_failed =
-      ⊎_elim (λ own. absurd (true≢false (sym (ap (λ (f : Frame). f.failed) own.1) ∙ not_failed)))
+      ⊎_elim
+      (λ own. absurd (true≢false (sym (ap (λ (f : Frame). f.failed) own.1) ∙ not_failed)))
       (λ found. inr found.1) rendered.on_end.error_is
 
 -- where it returns an error instead, that is `OutOfMemory`, which is one of emitting

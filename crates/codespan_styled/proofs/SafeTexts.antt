@@ -1,8 +1,8 @@
 -- A text without its unsafe characters, as it is made: for the clauses of `terminal::push_safe`
 -- and `terminal::push_text`.
-use Rattle.std.proofs.Common.{◌≡◌, ◌≤◌, ◌-◌, ℕ, Bool, true, cond, List, [], ◌∷◌, ◌++◌, drop, get_or}
-use Rattle.std.proofs.Common.{length, map, take, refl, sym, ap, ◌∙◌, append_assoc, append-nil}
-use Rattle.std.proofs.Common.{arith, string_bytes}
+use Rattle.std.proofs.Common.{◌≡◌, ◌≤◌, ◌-◌, ℕ, Bool, true, cond, List, []}
+use Rattle.std.proofs.Common.{◌∷◌, ◌++◌, drop, get_or, length, map, take, refl, sym, ap}
+use Rattle.std.proofs.Common.{◌∙◌, append_assoc, append-nil, arith, string_bytes}
 use Rattle.std.specs.Char.{encode_utf8}
 use Rattle.std.specs.Str.{encode_utf8_all}
 use Rattle.std.proofs.lemmas.List.{take_all}
@@ -17,7 +17,8 @@ use Rattle.codespan_styled.specs.Terminal.{safe_text, terminal_text}
 -- a safe character goes to the end
 pub pushed_safe : (start now next cs : List ℕ) (c : ℕ)
     → now ≡ start ++ encode_utf8_all (safe_characters cs) → is_safe c ≡ true
-    → next ≡ now ++ encode_utf8 c → next ≡ start ++ encode_utf8_all (safe_characters (cs ++ c ∷ []))
+    → next ≡ now ++ encode_utf8 c
+    → next ≡ start ++ encode_utf8_all (safe_characters (cs ++ c ∷ []))
 pushed_safe start now next cs c h safe e =
     let before = encode_utf8_all (safe_characters cs) in
     let kept : safe_characters (cs ++ c ∷ []) ≡ safe_characters cs ++ c ∷ [] =
@@ -35,11 +36,13 @@ map_same [] = refl
 map_same (c ∷ cs) = ap (λ (l : List ℕ). c ∷ l) (map_same cs)
 
 -- all characters were read
-pub all_safe : (start now read cs : List ℕ) → now ≡ start ++ encode_utf8_all (safe_characters read)
+pub all_safe : (start now read cs : List ℕ)
+    → now ≡ start ++ encode_utf8_all (safe_characters read)
     → map (λ (c : ℕ). c) read ≡ cs
     → now ≡ start ++ encode_utf8_all (safe_characters cs)
 all_safe start now read cs h e =
-    h ∙ ap (λ (l : List ℕ). start ++ encode_utf8_all (safe_characters l)) (sym (map_same read) ∙ e)
+    h ∙ ap (λ (l : List ℕ). start ++ encode_utf8_all (safe_characters l))
+    (sym (map_same read) ∙ e)
 
 -- the first run, and the runs after it
 pub first-written : (styles : Styles) (runs : List Run) (first : Run) (old shown : List ℕ)
@@ -54,4 +57,5 @@ first-written styles (run ∷ rest) first old shown some at is =
     let text = λ (r : Run). first_sequences styles r.style ++ safe_text (string_bytes r.text) in
     ap (λ rs. shown ++ runs_bytes styles (map run_view rs))
     (take_all (length (run ∷ rest) - 1) rest (omega arith))
-    ∙ ap (λ s. s ++ more) (is ∙ ap (λ r. old ++ text r) at) ∙ append_assoc old (text run) more
+    ∙ ap (λ s. s ++ more) (is ∙ ap (λ r. old ++ text r) at)
+    ∙ append_assoc old (text run) more

@@ -1,5 +1,6 @@
 -- What a writer of styles holds after one style mark: for the clause of `terminal::sequences`.
-use Rattle.std.proofs.Common.{◌≡◌, ℕ, true, List, [], ◌++◌, Option, Some, sym, ap, ◌∙◌, append-nil}
+use Rattle.std.proofs.Common.{◌≡◌, ℕ, true, List, [], ◌++◌, Option, Some, sym, ap}
+use Rattle.std.proofs.Common.{◌∙◌, append-nil}
 use Rattle.codespan_base.specs.Streams.{Spelling, style_mark, spelled}
 use Rattle.codespan_base.specs.declared.term.config.style_mark.StyleMark.{StyleMark}
 use Rattle.codespan_base.specs.WriterLaw.{Sink, are_known, extended, is_known, with_written}
@@ -13,7 +14,8 @@ pub written_sequences : (spelling : Spelling) (mark : StyleMark) (start end : Si
     → end.contents ≡ Some bytes → bytes ≡ spelling mark
 unfolding with_written extended style_mark is_known are_known
 written_sequences spelling mark start end first bytes fresh empty written contents =
-    let starts : start ≡ fresh_sink spelling (Some []) = fresh ∙ ap (fresh_sink spelling) empty in
+    let starts : start ≡ fresh_sink spelling (Some []) = fresh
+    ∙ ap (fresh_sink spelling) empty in
     let known : is_known start ≡ true = ap is_known starts in
     let bytes_are : Some bytes
     ≡ extended start.contents (spelled start.frame.spelling (style_mark mark)) =

@@ -1,6 +1,7 @@
 -- Rules that are appended to a style sheet one by one: for the clause `css_text` of `html_styles`.
-use Rattle.std.proofs.Common.{◌≡◌, ℕ, ◌+◌, ◌<◌, ◌≤◌, Bool, List, ◌∷◌, ◌++◌, codes, drop, get_or}
-use Rattle.std.proofs.Common.{length, sym, ap, ◌∙◌, append_assoc, append-nil, Some}
+use Rattle.std.proofs.Common.{◌≡◌, ℕ, ◌+◌, ◌<◌, ◌≤◌, Bool, List, ◌∷◌}
+use Rattle.std.proofs.Common.{◌++◌, codes, drop, get_or, length, sym, ap, ◌∙◌}
+use Rattle.std.proofs.Common.{append_assoc, append-nil, Some}
 use Rattle.std.specs.Prelude.{if◌then◌else◌}
 use Rattle.std.specs.List.{flat_map}
 use Rattle.std.proofs.lemmas.List.{drop_all, drop_more}
@@ -15,7 +16,8 @@ use Rattle.codespan_styled.specs.StyleSheet.{weight_declaration}
 
 -- a color
 pub color-written : (property code front b1 b2 b3 : List ℕ) (intense : Bool) (color : Color)
-    → b1 ≡ front ++ property → code ≡ (if intense then bright_color color else normal_color color)
+    → b1 ≡ front ++ property
+    → code ≡ (if intense then bright_color color else normal_color color)
     → b2 ≡ b1 ++ code → b3 ≡ b2 ++ codes "; "
     → b3 ≡ front ++ color_declaration property intense (Some color)
 color-written property code front b1 b2 b3 intense color e1 coded e2 e3 =
@@ -37,8 +39,10 @@ declarations-written spec front b1 b2 b3 e1 e2 e3 =
 pub rule-written : (styles : Styles) (style : StyleMark) (spec : ColorSpec)
     (class front b1 b2 b3 b4 b5 : List ℕ)
     → b1 ≡ front ++ codes ".diagnostic ." → class ≡ style_class style
-    → b2 ≡ b1 ++ class → b3 ≡ b2 ++ codes " { " → spec ≡ color_spec_of_style styles style
-    → b4 ≡ b3 ++ declarations spec → b5 ≡ b4 ++ codes "}\n" → b5 ≡ front ++ rule styles style
+    → b2 ≡ b1 ++ class → b3 ≡ b2 ++ codes " { "
+    → spec ≡ color_spec_of_style styles style
+    → b4 ≡ b3 ++ declarations spec → b5 ≡ b4 ++ codes "}\n"
+    → b5 ≡ front ++ rule styles style
 rule-written styles style spec class front b1 b2 b3 b4 b5 e1 named e2 e3 of e4 e5 =
     e5 ∙ ap (λ b. b ++ codes "}\n") (e4 ∙ ap (λ s. b3 ++ declarations s) of
     ∙ ap (λ b. b ++ declarations (color_spec_of_style styles style))
@@ -66,7 +70,8 @@ rule-written styles style spec class front b1 b2 b3 b4 b5 e1 named e2 e3 of e4 e
 -- a rule of those that are left
 pub rule-more : (styles : Styles) (classed : List StyleMark) (i : ℕ) (style : StyleMark)
     (front next whole : List ℕ)
-    → i < length classed → style ≡ get_or classed i style → next ≡ front ++ rule styles style
+    → i < length classed → style ≡ get_or classed i style
+    → next ≡ front ++ rule styles style
     → front ++ flat_map (rule styles) (drop i classed) ≡ whole
     → next ++ flat_map (rule styles) (drop (i + 1) classed) ≡ whole
 rule-more styles classed i style front next whole inside at is before =
@@ -78,7 +83,8 @@ rule-more styles classed i style front next whole inside at is before =
 
 -- no rule is left
 pub rule-end : (styles : Styles) (classed : List StyleMark) (i : ℕ) (front whole : List ℕ)
-    → length classed ≤ i → front ++ flat_map (rule styles) (drop i classed) ≡ whole → front ≡ whole
+    → length classed ≤ i → front ++ flat_map (rule styles) (drop i classed) ≡ whole
+    → front ≡ whole
 rule-end styles classed i front whole past before =
     sym (append-nil front)
     ∙ ap (λ ss. front ++ flat_map (rule styles) ss) (sym (drop_all i classed past)) ∙ before

@@ -1,7 +1,7 @@
 -- Each character of an SVG document has its cell and its ink: for
 -- `svg::laws::characters_are_in_their_cells`.
-use Rattle.std.proofs.Common.{◌≡◌, ℕ, true, false, List, [], ◌∷◌, ◌++◌, refl, sym, ap, ◌∙◌, None}
-use Rattle.std.proofs.Common.{Some, Option}
+use Rattle.std.proofs.Common.{◌≡◌, ℕ, true, false, List, [], ◌∷◌, ◌++◌, refl, sym}
+use Rattle.std.proofs.Common.{ap, ◌∙◌, None, Some, Option}
 use Rattle.std.specs.Prelude.{Bool, ◌==◌, ◌&&◌, not, if◌then◌else◌}
 use Rattle.std.specs.List.{flat_map}
 use Rattle.codespan_base.specs.declared.term.config.color.Color.{Color}
@@ -43,7 +43,8 @@ color_is (Some Cyan) = refl
 color_is (Some White) = refl
 
 -- colors of one number are one color
-one_color : (x y : Option Color) → optional_color_number x == optional_color_number y ≡ true → y ≡ x
+one_color : (x y : Option Color) → optional_color_number x == optional_color_number y ≡ true
+    → y ≡ x
 one_color x y e = sym (color_is y) ∙ ap color_of (sym (is_code _ _ e)) ∙ color_is x
 
 one_weight : (x y : Bool) → (if x then y else not y) ≡ true → y ≡ x
@@ -93,7 +94,8 @@ left_in glyph position (next ∷ others) =
     (λ _. refl)
 
 cells_by_pieces : (pen : Pen) (glyphs : List Glyph)
-    → characters_from pen.position glyphs ≡ cells_left pen.before pen.position glyphs ++ flat_map
+    → characters_from pen.position glyphs ≡ cells_left pen.before pen.position glyphs
+    ++ flat_map
     piece_characters (pieces_from pen glyphs)
 cells_by_pieces pen [] = refl
 cells_by_pieces pen (glyph ∷ glyphs) = all (cells_by_pieces (next_pen pen glyph) glyphs)
@@ -118,12 +120,14 @@ cells_by_pieces pen (glyph ∷ glyphs) = all (cells_by_pieces (next_pen pen glyp
 
     Rest : Type 0
     Rest =
-        characters_from next.position glyphs ≡ cells_left (Some glyph) next.position glyphs ++ cells
+        characters_from next.position glyphs ≡ cells_left (Some glyph) next.position glyphs
+        ++ cells
 
     whole : Rest → first ∷ characters_from next.position glyphs ≡ own ++ cells
     whole is =
         ap (λ (cs : List CharacterInCell). first ∷ cs)
-        (is ∙ ap (λ (cs : List CharacterInCell). cs ++ cells) (left_in glyph next.position glyphs))
+        (is ∙ ap (λ (cs : List CharacterInCell). cs ++ cells)
+        (left_in glyph next.position glyphs))
 
     character : Rest
         → first ∷ characters_from next.position
@@ -140,7 +144,8 @@ cells_by_pieces pen (glyph ∷ glyphs) = all (cells_by_pieces (next_pen pen glyp
     none_left [] e = refl
     none_left (other ∷ others) e =
         ap
-        (λ t. if t then text_characters other.ink next.position (other ∷ joined_glyphs other others)
+        (λ t. if t then text_characters other.ink next.position
+        (other ∷ joined_glyphs other others)
         else [])
         (white_space_joins glyph other e)
 
@@ -149,7 +154,8 @@ cells_by_pieces pen (glyph ∷ glyphs) = all (cells_by_pieces (next_pen pen glyp
         glyphs ≡ (if follows pen.before glyph then own else []) ++ cells
     white_space is e =
         is ∙ ap (λ (cs : List CharacterInCell). cs ++ cells) (none_left glyphs e)
-        ∙ ap (λ t. (if t then own else []) ++ cells) (sym (follows_white_space pen.before glyph e))
+        ∙ ap (λ t. (if t then own else []) ++ cells)
+        (sym (follows_white_space pen.before glyph e))
 
     all : Rest
         → characters_from pen.position (glyph ∷ glyphs) ≡ cells_left pen.before pen.position

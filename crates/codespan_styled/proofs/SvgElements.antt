@@ -1,8 +1,9 @@
 -- The elements of an SVG document and their numbers read back, and so do its characters: for the
 -- clauses `tokens` and `text` of `to_svg`.
-use Rattle.std.proofs.Common.{◌≡◌, ℕ, ◌+◌, ◌/◌, ◌%◌, true, false, List, [], ◌∷◌, ◌++◌, map, codes}
-use Rattle.std.proofs.Common.{decimal, refl, sym, subst, ap, ◌∙◌, append_assoc, append-nil, ◌*◌}
-use Rattle.std.proofs.Common.{arith, zero, suc, None, Some, Option}
+use Rattle.std.proofs.Common.{◌≡◌, ℕ, ◌+◌, ◌/◌, ◌%◌, true, false, List, []}
+use Rattle.std.proofs.Common.{◌∷◌, ◌++◌, map, codes, decimal, refl, sym, subst, ap}
+use Rattle.std.proofs.Common.{◌∙◌, append_assoc, append-nil, ◌*◌, arith, zero, suc, None}
+use Rattle.std.proofs.Common.{Some, Option}
 use Rattle.std.specs.Prelude.{Bool, ◌==◌, ◌&&◌, ◌||◌, not, nat_lt, if◌then◌else◌}
 use Rattle.std.specs.Char.{encode_utf8}
 use Rattle.std.specs.Fmt.{digit_glyph, digits, digits_onto}
@@ -34,7 +35,8 @@ pub not_true : (b : Bool) → not b ≡ true → b ≡ false
 not_true true e = absurd (cc)
 not_true false e = refl
 
-inside-append : (a b : List ℕ) → is_inside a ≡ true → is_inside b ≡ true → is_inside (a ++ b) ≡ true
+inside-append : (a b : List ℕ) → is_inside a ≡ true → is_inside b ≡ true
+    → is_inside (a ++ b) ≡ true
 inside-append [] b x y = y
 inside-append (c ∷ cs) b x y =
     let both = and_true (not (c == 62)) (is_inside cs) x in
@@ -153,7 +155,8 @@ svg-inside extent = inside-append (svg_tag_start extent) font_attributes (size-i
 
 -- a tag
 pub tag-read : (content rest : List ℕ) → is_inside content ≡ true
-    → tokens_from InText ((codes "<" ++ content ++ codes ">") ++ rest) ≡ Tag content ∷ tokens_from
+    → tokens_from InText ((codes "<" ++ content ++ codes ">") ++ rest)
+    ≡ Tag content ∷ tokens_from
     InText rest
 tag-read content rest h =
     ap (tokens_from (InTag [])) (append_assoc content (codes ">") rest)
@@ -169,7 +172,8 @@ module _ (c : ℕ) (rest : List ℕ) (ends : (c == 10) ≡ false) where
 
   -- bytes read as the character of this code
   by_code : (n : ℕ) (bs : List ℕ)
-      → tokens_from InText (bs ++ rest) ≡ map TextByte (shown_in_svg n) ++ tokens_from InText rest
+      → tokens_from InText (bs ++ rest) ≡ map TextByte (shown_in_svg n)
+      ++ tokens_from InText rest
       → (c == n) ≡ true → ReadsAs bs
   by_code n bs is t =
       subst
@@ -216,7 +220,8 @@ module _ (c : ℕ) (rest : List ℕ) (ends : (c == 10) ≡ false) where
 -- ---- white space
 
 -- what holds of a newline and of a space holds of white space
-of_white_space : (P : ℕ → Type 0) (c : ℕ) → ((c == 10) || (c == 32)) ≡ true → P 10 → P 32 → P c
+of_white_space : (P : ℕ → Type 0) (c : ℕ) → ((c == 10) || (c == 32)) ≡ true → P 10
+    → P 32 → P c
 of_white_space P c e newline space = at (c == 10) refl
   where
     at : (t : Bool) → (c == 10) ≡ t → P c
@@ -229,9 +234,11 @@ pub white-space-read : (c : ℕ) (rest : List ℕ) → ((c == 10) || (c == 32)) 
 unfolding encode_utf8
 white-space-read c rest e =
     of_white_space
-    (λ k. tokens_from InText (encode_utf8 k ++ rest) ≡ TextByte k ∷ tokens_from InText rest) c e
+    (λ k. tokens_from InText (encode_utf8 k ++ rest) ≡ TextByte k ∷ tokens_from InText rest) c
+    e
     refl refl
 
-pub white-space-shown : (c : ℕ) → ((c == 10) || (c == 32)) ≡ true → c ∷ [] ≡ shown_in_svg c
+pub white-space-shown : (c : ℕ) → ((c == 10) || (c == 32)) ≡ true
+    → c ∷ [] ≡ shown_in_svg c
 unfolding encode_utf8
 white-space-shown c e = of_white_space (λ k. k ∷ [] ≡ shown_in_svg k) c e refl refl

@@ -1,7 +1,8 @@
 -- The tokens of glyphs are those of their pieces, and each character has its cell: for the clause
 -- `tokens` of `to_svg`, and for `svg::laws`.
-use Rattle.std.proofs.Common.{◌≡◌, ℕ, ◌+◌, true, false, List, [], ◌∷◌, ◌++◌, map, codes, refl, sym}
-use Rattle.std.proofs.Common.{ap, ◌∙◌, append_assoc, None, Some, Option}
+use Rattle.std.proofs.Common.{◌≡◌, ℕ, ◌+◌, true, false, List, [], ◌∷◌, ◌++◌}
+use Rattle.std.proofs.Common.{map, codes, refl, sym, ap, ◌∙◌, append_assoc, None, Some}
+use Rattle.std.proofs.Common.{Option}
 use Rattle.std.specs.Prelude.{Bool, ◌&&◌, not, nat_le, if◌then◌else◌}
 use Rattle.std.specs.List.{flat_map}
 use Rattle.std.proofs.lemmas.List.{map-append}
@@ -41,7 +42,8 @@ tokens_of_glyphs pen (glyph ∷ glyphs) =
 -- ---- cases
 
 pub two_ifs : {A B : Type 0} (b : Bool) (x y : A) (u v : B) (P : A → B → Type 0)
-    → (b ≡ true → P x u) → (b ≡ false → P y v) → P (if b then x else y) (if b then u else v)
+    → (b ≡ true → P x u) → (b ≡ false → P y v)
+    → P (if b then x else y) (if b then u else v)
 two_ifs true x y u v P t f = t refl
 two_ifs false x y u v P t f = f refl
 
@@ -61,7 +63,8 @@ white_space_joins glyph next e =
     && same_ink glyph.ink next.ink) e
 
 -- and follows nothing
-joins_white_space : (glyph next : Glyph) → is_white_space next ≡ true → joins glyph next ≡ false
+joins_white_space : (glyph next : Glyph) → is_white_space next ≡ true
+    → joins glyph next ≡ false
 joins_white_space glyph next e = at (is_narrow glyph)
   where
     at : (n : Bool) → n && is_narrow next && same_ink glyph.ink next.ink ≡ false

@@ -1,7 +1,7 @@
 -- An SVG document reads back as its tags and its text: for the clauses `tokens` and `text` of
 -- `to_svg`.
-use Rattle.std.proofs.Common.{◌≡◌, ℕ, ◌+◌, true, false, List, [], ◌∷◌, ◌++◌, map, codes, refl, sym}
-use Rattle.std.proofs.Common.{ap, ◌∙◌, append_assoc, append-nil}
+use Rattle.std.proofs.Common.{◌≡◌, ℕ, ◌+◌, true, false, List, [], ◌∷◌, ◌++◌}
+use Rattle.std.proofs.Common.{map, codes, refl, sym, ap, ◌∙◌, append_assoc, append-nil}
 use Rattle.std.specs.Prelude.{Bool, ◌==◌, if◌then◌else◌}
 use Rattle.std.specs.Char.{encode_utf8}
 use Rattle.std.specs.List.{flat_map}
@@ -138,7 +138,8 @@ svg-read glyphs =
     ∙ tag-read head (codes "\n<" ++ background_tag_content ++ codes ">\n" ++ (texts ++ last))
     (svg-inside (extent_from start glyphs))
     ∙ ap
-    (λ (tokens : List Token). Tag head ∷ TextByte 10 ∷ Tag background_tag_content ∷ TextByte 10
+    (λ (tokens : List Token). Tag head ∷ TextByte 10 ∷ Tag background_tag_content ∷ TextByte
+    10
     ∷ tokens)
     inner
 

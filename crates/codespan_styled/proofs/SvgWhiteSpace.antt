@@ -1,5 +1,6 @@
 -- No `text` element of a document shows white space: for `svg::laws::texts_have_no_white_space`.
-use Rattle.std.proofs.Common.{◌≡◌, ℕ, ◌+◌, ◌≤◌, ◌/◌, ◌%◌, true, false, List, [], ◌∷◌, arith, refl}
+use Rattle.std.proofs.Common.{◌≡◌, ℕ, ◌+◌, ◌≤◌, ◌/◌, ◌%◌, true, false}
+use Rattle.std.proofs.Common.{List, [], ◌∷◌, arith, refl}
 use Rattle.std.specs.Prelude.{All, ◌==◌, ◌&&◌, not, nat_le, nat_lt}
 use Rattle.std.specs.Char.{encode_utf8}
 use Rattle.std.specs.List.{AllByRecursion, flat_map}
@@ -54,7 +55,8 @@ encoded-shown c h =
 abbrev AreShown : List ℕ → Type 0
 AreShown bytes = AllByRecursion IsShown bytes
 
-character-shown : (c : ℕ) → (c == 10) ≡ false → (c == 32) ≡ false → AreShown (shown_in_svg c)
+character-shown : (c : ℕ) → (c == 10) ≡ false → (c == 32) ≡ false
+    → AreShown (shown_in_svg c)
 unfolding encode_utf8
 character-shown c newline space =
     cond_both (c == 10) _ _ AreShown (λ t. absurd (both_ways (c == 10) newline t))

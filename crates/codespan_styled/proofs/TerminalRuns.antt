@@ -1,7 +1,7 @@
 -- How runs of text are read on a terminal: for the clause `safe` of `to_terminal`.
-use Rattle.std.proofs.Common.{◌≡◌, ℕ, ◌+◌, ◌<◌, Bool, true, false, ◌&&◌, List, [], ◌∷◌, ◌++◌, map}
-use Rattle.std.proofs.Common.{codes, decimal, Option, Some, None, refl, sym, ap, subst, ◌∙◌}
-use Rattle.std.proofs.Common.{append_assoc, append-nil, arith}
+use Rattle.std.proofs.Common.{◌≡◌, ℕ, ◌+◌, ◌<◌, Bool, true, false, ◌&&◌, List}
+use Rattle.std.proofs.Common.{[], ◌∷◌, ◌++◌, map, codes, decimal, Option, Some, None}
+use Rattle.std.proofs.Common.{refl, sym, ap, subst, ◌∙◌, append_assoc, append-nil, arith}
 use Rattle.std.specs.Fmt.{digits}
 use Rattle.std.specs.List.{list_all}
 use Rattle.std.specs.Str.{IsAscii, chars}
@@ -39,7 +39,8 @@ use Rattle.codespan_styled.proofs.TerminalStates.{ReadsText-ascii, ReadsText-saf
 
 -- ---- the sequences of a style
 
-ascii_parameters : (ps : List ℕ) → list_all is_parameter ps ≡ true → IsAscii (ps ++ 109 ∷ [])
+ascii_parameters : (ps : List ℕ) → list_all is_parameter ps ≡ true
+    → IsAscii (ps ++ 109 ∷ [])
 ascii_parameters [] h = IsAscii-cons 109 [] (omega arith) IsAscii-nil
 ascii_parameters (p ∷ ps) h =
     let parts = and_parts (is_parameter p) (list_all is_parameter ps) h in
@@ -48,7 +49,8 @@ ascii_parameters (p ∷ ps) h =
     IsAscii-cons p (ps ++ 109 ∷ []) small (ascii_parameters ps parts.1)
 
 -- a sequence shows nothing
-ReadsText-escape : (ps : List ℕ) → list_all is_parameter ps ≡ true → ReadsText (escape ps) []
+ReadsText-escape : (ps : List ℕ) → list_all is_parameter ps ≡ true
+    → ReadsText (escape ps) []
 unfolding escape
 ReadsText-escape ps h =
     ReadsText-ascii (0x1b ∷ 91 ∷ (ps ++ 109 ∷ [])) []
@@ -126,7 +128,8 @@ ReadsText-style spec =
     (ReadsText-color (codes "4") spec.intense spec.bg refl)
 
 -- each style mark is spelled by sequences
-pub ReadsText-mark : (styles : Styles) (mark : StyleMark) → ReadsText (ansi_spelling styles mark) []
+pub ReadsText-mark : (styles : Styles) (mark : StyleMark)
+    → ReadsText (ansi_spelling styles mark) []
 ReadsText-mark styles (Header severity) = ReadsText-style (header_color_spec styles severity)
 ReadsText-mark styles HeaderMessage = ReadsText-style styles.header_message
 ReadsText-mark styles LineNumber = ReadsText-style styles.line_number

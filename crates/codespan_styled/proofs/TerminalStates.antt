@@ -1,7 +1,8 @@
 -- How a text for a terminal is read: for the clause `safe` of
 -- `terminal::to_terminal` and that of `terminal::laws::safe_text_is_shown`.
-use Rattle.std.proofs.Common.{◌||◌, ◌≡◌, ℕ, Bool, true, false, cond, ◌&&◌, ◌==◌, List, [], ◌∷◌}
-use Rattle.std.proofs.Common.{◌++◌, refl, sym, ap, subst, ◌∙◌, append_assoc}
+use Rattle.std.proofs.Common.{◌||◌, ◌≡◌, ℕ, Bool, true, false, cond, ◌&&◌, ◌==◌}
+use Rattle.std.proofs.Common.{List, [], ◌∷◌, ◌++◌, refl, sym, ap, subst, ◌∙◌}
+use Rattle.std.proofs.Common.{append_assoc}
 use Rattle.std.specs.List.{list_all}
 use Rattle.std.specs.Char.{is_ascii_digit}
 use Rattle.std.specs.Str.{IsUtf8, IsAscii, chars}
@@ -25,10 +26,12 @@ Reads-nil = record { after = λ rest. refl; shows = λ rest. refl }
 Reads-append : (a s b t : List ℕ) → Reads a s → Reads b t → Reads (a ++ b) (s ++ t)
 Reads-append a s b t p q = record {
   after =
-      λ rest. ap (state_after Text) (append_assoc a b rest) ∙ p.after (b ++ rest) ∙ q.after rest;
+      λ rest. ap (state_after Text) (append_assoc a b rest) ∙ p.after (b ++ rest)
+      ∙ q.after rest;
   shows =
       λ rest. ap (visible Text) (append_assoc a b rest) ∙ p.shows (b ++ rest)
-      ∙ ap (λ (l : List ℕ). s ++ l) (q.shows rest) ∙ sym (append_assoc s t (visible Text rest));
+      ∙ ap (λ (l : List ℕ). s ++ l) (q.shows rest)
+      ∙ sym (append_assoc s t (visible Text rest));
 }
 
 -- a safe character is no escape character
@@ -44,11 +47,13 @@ next_safe c h =
     ∙ ap (λ b. cond b Text Unknown) h
 
 -- it is shown
-Reads-safe : (c : ℕ) (cs s : List ℕ) → is_safe c ≡ true → Reads cs s → Reads (c ∷ cs) (c ∷ s)
+Reads-safe : (c : ℕ) (cs s : List ℕ) → is_safe c ≡ true → Reads cs s
+    → Reads (c ∷ cs) (c ∷ s)
 Reads-safe c cs s h p = record {
   after = λ rest. ap (λ r. state_after r (cs ++ rest)) (next_safe c h) ∙ p.after rest;
   shows = λ rest.
-      ap (λ b. cond b (visible Escape (cs ++ rest)) (c ∷ visible (next_state Text c) (cs ++ rest)))
+      ap (λ b. cond b (visible Escape (cs ++ rest))
+      (c ∷ visible (next_state Text c) (cs ++ rest)))
       (no_escape c h)
       ∙ ap (λ r. c ∷ visible r (cs ++ rest)) (next_safe c h)
       ∙ ap (λ (l : List ℕ). c ∷ l) (p.shows rest);
@@ -73,7 +78,8 @@ is_parameter c = is_ascii_digit c || (c == 59)
 no_end : (c : ℕ) → is_parameter c ≡ true → (c == 109) ≡ false
 no_end c h =
     ne_eqb c 109
-    (λ (e : c ≡ 109). let bad : false ≡ true = subst (λ x. is_parameter x ≡ true) e h in cc bad)
+    (λ (e : c ≡ 109). let bad : false
+    ≡ true = subst (λ x. is_parameter x ≡ true) e h in cc bad)
 
 next_parameter : (c : ℕ) → is_parameter c ≡ true → next_state Parameters c ≡ Parameters
 next_parameter c h =

@@ -1,8 +1,9 @@
 -- A character that is not safe takes no cells, so the others keep their columns: for the clause of
 -- `terminal::laws::columns_stay`.
-use Rattle.std.proofs.Common.{◌≡◌, ℕ, zero, suc, ◌+◌, ◌<◌, ◌≤◌, ◌⊎◌, Bool, true, false, cond, not}
-use Rattle.std.proofs.Common.{◌&&◌, ◌||◌, ◌==◌, nat_le, List, [], ◌∷◌, unwrap_or, refl, sym, ap}
-use Rattle.std.proofs.Common.{subst, ◌∙◌, arith, ⊎_elim, inl, inr, add-zero}
+use Rattle.std.proofs.Common.{◌≡◌, ℕ, zero, suc, ◌+◌, ◌<◌, ◌≤◌, ◌⊎◌}
+use Rattle.std.proofs.Common.{Bool, true, false, cond, not, ◌&&◌, ◌||◌, ◌==◌, nat_le}
+use Rattle.std.proofs.Common.{List, [], ◌∷◌, unwrap_or, refl, sym, ap, subst, ◌∙◌}
+use Rattle.std.proofs.Common.{arith, ⊎_elim, inl, inr, add-zero}
 use Rattle.std.specs.Char.{is_control}
 use Rattle.std.specs.Int.{is_in_range}
 use Rattle.std.proofs.Math.Nat.{eq-or-lt_of_le}
@@ -27,7 +28,8 @@ passes_from p zero a = true
 passes_from p (suc n) a = p a && passes_from p n (suc a)
 
 -- so it passes for each of them
-passes_at : (p : ℕ → Bool) (n a c : ℕ) → passes_from p n a ≡ true → a ≤ c → c < a + n → p c ≡ true
+passes_at : (p : ℕ → Bool) (n a c : ℕ) → passes_from p n a ≡ true → a ≤ c
+    → c < a + n → p c ≡ true
 passes_at p zero a c h low high = absurd (omega arith)
 passes_at p (suc n) a c h low high =
     let parts = and_parts (p a) (passes_from p n (suc a)) h in
@@ -105,7 +107,8 @@ unsafe_cells : (c : ℕ) → is_safe c ≡ false → cells_of c ≡ 0
 unsafe_cells c h =
     let kinds = unsafe_kinds ((c == 9) || (c == 10)) (is_control c) (is_directional_control c) h in
     ⊎_elim (empty_control c)
-    (λ (e : is_directional_control c ≡ true). no_cells (cells_of c) (empty_directional c e)) kinds.1
+    (λ (e : is_directional_control c ≡ true). no_cells (cells_of c) (empty_directional c e))
+    kinds.1
 
 -- the column after it is the same
 unsafe_column : (tab_width column c : ℕ) → is_safe c ≡ false
@@ -126,7 +129,8 @@ columns_step : (tab_width column c : ℕ) (cs : List ℕ) (b : Bool) → is_safe
 columns_step tab_width column c cs true h rest =
     ap (λ (l : List CharacterInColumn). (c, column) ∷ l) (rest (column_after tab_width column c))
 columns_step tab_width column c cs false h rest =
-    rest column ∙ ap (λ at. safe_columns tab_width at cs) (sym (unsafe_column tab_width column c h))
+    rest column ∙ ap (λ at. safe_columns tab_width at cs)
+    (sym (unsafe_column tab_width column c h))
 
 -- the characters that are kept have the columns that they had
 pub columns_stay : (tab_width column : ℕ) (cs : List ℕ)

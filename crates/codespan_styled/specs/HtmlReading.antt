@@ -1,6 +1,6 @@
 -- How an HTML element is read back: its tags, and the text between them.
-use Rattle.std.specs.Prelude.{ℕ, ◌==◌, List, [], ◌∷◌, ◌++◌, map, codes, encode_utf8, Option, None}
-use Rattle.std.specs.Prelude.{Some, option_and_then, if◌then◌else◌}
+use Rattle.std.specs.Prelude.{ℕ, ◌==◌, List, [], ◌∷◌, ◌++◌, map, codes, encode_utf8}
+use Rattle.std.specs.Prelude.{Option, None, Some, option_and_then, if◌then◌else◌}
 use Rattle.std.specs.List.{flat_map}
 use Rattle.std.specs.Str.{bytes_eq, chars}
 use Rattle.codespan_styled.specs.Html.{box_class, is_wide, replaced_character, span_tag_content}
@@ -84,7 +84,8 @@ after_tag (b ∷ tag) elements =
 abbrev pub open_from : List Token → List (List ℕ) → Option (List (List ℕ))
 open_from [] elements = Some elements
 open_from (TextByte b ∷ tokens) elements = open_from tokens elements
-open_from (Tag tag ∷ tokens) elements = option_and_then (open_from tokens) (after_tag tag elements)
+open_from (Tag tag ∷ tokens) elements = option_and_then (open_from tokens)
+    (after_tag tag elements)
 
 -- the elements that are open after tokens; none where an end tag is not that of the innermost
 abbrev pub open_after : List Token → Option (List (List ℕ))

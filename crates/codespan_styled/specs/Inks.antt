@@ -1,5 +1,6 @@
 -- Inks: what a style is in an SVG document.
-use Rattle.std.specs.Prelude.{ℕ, ◌==◌, Bool, not, ◌&&◌, Option, Some, None, if◌then◌else◌}
+use Rattle.std.specs.Prelude.{ℕ, ◌==◌, Bool, not, ◌&&◌, Option, Some, None}
+use Rattle.std.specs.Prelude.{if◌then◌else◌}
 use Rattle.codespan_base.specs.declared.term.config.color.Color.{Color}
 use Rattle.codespan_base.specs.declared.term.config.color.ColorSpec.{ColorSpec}
 use Rattle.codespan_base.specs.Ansi.{color_number}

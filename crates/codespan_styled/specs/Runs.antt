@@ -1,5 +1,6 @@
 -- Styled text: the runs of a stream, which is its text cut at its style marks.
-use Rattle.std.specs.Prelude.{ℕ, Bool, true, false, List, [], ◌∷◌, ◌++◌, map, string_bytes}
+use Rattle.std.specs.Prelude.{ℕ, Bool, true, false, List, [], ◌∷◌, ◌++◌, map}
+use Rattle.std.specs.Prelude.{string_bytes}
 use Rattle.std.specs.List.{AllByRecursion, flat_map}
 use Rattle.std.specs.Str.{IsUtf8, chars}
 use Rattle.codespan_base.specs.Streams.{Stream, Byte, Mark, Slot}

@@ -85,7 +85,8 @@ abbrev pub classed_styles : List StyleMark
 classed_styles =
     Header Bug ∷ Header Error ∷ Header Warning ∷ Header Note ∷ Header Help ∷ HeaderMessage
     ∷ Label Bug Primary ∷ Label Error Primary ∷ Label Warning Primary ∷ Label Note Primary
-    ∷ Label Help Primary ∷ Label Error Secondary ∷ LineNumber ∷ SourceBorder ∷ NoteBullet ∷ []
+    ∷ Label Help Primary ∷ Label Error Secondary ∷ LineNumber ∷ SourceBorder ∷ NoteBullet
+    ∷ []
 
 -- the rules of the boxes of wide characters: as wide as the cells that the characters occupy
 abbrev pub box_rules : List ℕ

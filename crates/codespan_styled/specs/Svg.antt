@@ -1,6 +1,7 @@
 -- SVG documents of styled text.
-use Rattle.std.specs.Prelude.{ℕ, ◌+◌, ◌*◌, ◌==◌, nat_lt, Bool, true, false, ◌||◌, List, [], ◌∷◌}
-use Rattle.std.specs.Prelude.{◌++◌, codes, decimal, Option, Some, None, encode_utf8, if◌then◌else◌}
+use Rattle.std.specs.Prelude.{ℕ, ◌+◌, ◌*◌, ◌==◌, nat_lt, Bool, true, false, ◌||◌}
+use Rattle.std.specs.Prelude.{List, [], ◌∷◌, ◌++◌, codes, decimal, Option, Some, None}
+use Rattle.std.specs.Prelude.{encode_utf8, if◌then◌else◌}
 use Rattle.codespan_base.specs.declared.term.config.color.Color.{Color}
 use Rattle.codespan_base.specs.declared.term.config.color.Color.TheVariants.{Black, Red, Green}
 use Rattle.codespan_base.specs.declared.term.config.color.Color.TheVariants.{Yellow, Blue, Magenta}

@@ -1,7 +1,7 @@
 -- How an SVG document is read back, by the reader of `HtmlReading`: its tags, and the text between
 -- them, and in which cells the characters of its texts are.
-use Rattle.std.specs.Prelude.{ℕ, ◌+◌, ◌==◌, Bool, ◌||◌, List, [], ◌∷◌, ◌++◌, map, codes}
-use Rattle.std.specs.Prelude.{encode_utf8, if◌then◌else◌}
+use Rattle.std.specs.Prelude.{ℕ, ◌+◌, ◌==◌, Bool, ◌||◌, List, [], ◌∷◌, ◌++◌}
+use Rattle.std.specs.Prelude.{map, codes, encode_utf8, if◌then◌else◌}
 use Rattle.std.specs.List.{flat_map}
 use Rattle.codespan_styled.specs.declared.svg.glyph.Glyph.{Glyph}
 use Rattle.codespan_styled.specs.declared.svg.ink.Ink.{Ink}
@@ -99,7 +99,8 @@ text_characters ink position (glyph ∷ glyphs) =
 -- the characters of a piece
 abbrev pub piece_characters : Piece → List CharacterInCell
 piece_characters (WhiteSpace character) = []
-piece_characters (Text position first others) = text_characters first.ink position (first ∷ others)
+piece_characters (Text position first others) = text_characters first.ink position
+    (first ∷ others)
 
 -- the characters of glyphs from a position on but white space, each in its ink and in the cell that
 -- it has among all of them

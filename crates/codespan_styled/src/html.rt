@@ -1,12 +1,11 @@
 //! Styled text as an HTML element.
 
-ghost use Rattle.std.specs.Prelude.{◌≡◌, ◌++◌, [], IfErr, IfOk, OnOk, Some, codes, flat_map};
-ghost use Rattle.std.specs.Prelude.{map, string_bytes};
-ghost use Rattle.codespan_styled.specs.Html.{box_class, escaped_text};
-ghost use Rattle.codespan_styled.specs.Html.{html_cell, html_character, html_element, html_run};
-ghost use Rattle.codespan_styled.specs.Html.{is_forbidden_control, is_noncharacter, is_wide};
-ghost use Rattle.codespan_styled.specs.Html.{replaced_character, shown_text, span_tag};
-ghost use Rattle.codespan_styled.specs.Html.{style_class};
+ghost use Rattle.std.specs.Prelude.{◌≡◌, ◌++◌, [], IfErr, IfOk, OnOk, Some, codes};
+ghost use Rattle.std.specs.Prelude.{flat_map, map, string_bytes};
+ghost use Rattle.codespan_styled.specs.Html.{box_class, escaped_text, html_cell, html_character};
+ghost use Rattle.codespan_styled.specs.Html.{html_element, html_run, is_forbidden_control};
+ghost use Rattle.codespan_styled.specs.Html.{is_noncharacter, is_wide, replaced_character};
+ghost use Rattle.codespan_styled.specs.Html.{shown_text, span_tag, style_class};
 ghost use Rattle.codespan_styled.specs.HtmlReading.{element_tokens, open_after, read_tokens};
 ghost use Rattle.codespan_styled.specs.HtmlReading.{text_of_html};
 ghost use Rattle.codespan_styled.specs.Runs.{joined, run_view, styled_runs};

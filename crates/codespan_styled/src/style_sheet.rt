@@ -1,11 +1,10 @@
 //! The style sheet of HTML elements.
 
-ghost use Rattle.std.specs.Prelude.{◌≡◌, ◌++◌, IfErr, IfOk, OnOk, flat_map, if◌then◌else◌};
-ghost use Rattle.std.specs.Prelude.{string_bytes};
-ghost use Rattle.codespan_styled.specs.StyleSheet.{bright_color, color_declaration};
-ghost use Rattle.codespan_styled.specs.StyleSheet.{declarations, normal_color, rule};
-ghost use Rattle.codespan_styled.specs.StyleSheet.{color_spec_of_style, style_sheet};
-ghost use Rattle.codespan_styled.specs.StyleSheet.{weight_declaration};
+ghost use Rattle.std.specs.Prelude.{◌≡◌, ◌++◌, IfErr, IfOk, OnOk, flat_map};
+ghost use Rattle.std.specs.Prelude.{if◌then◌else◌, string_bytes};
+ghost use Rattle.codespan_styled.specs.StyleSheet.{bright_color, color_declaration, declarations};
+ghost use Rattle.codespan_styled.specs.StyleSheet.{normal_color, rule, color_spec_of_style};
+ghost use Rattle.codespan_styled.specs.StyleSheet.{style_sheet, weight_declaration};
 
 use crate::html::style_class;
 use codespan_base::diagnostic::{LabelStyle, Severity};

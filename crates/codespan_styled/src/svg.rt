@@ -1,14 +1,13 @@
 //! Styled text as an SVG document.
 
-ghost use Rattle.std.specs.Prelude.{◌≡◌, ◌≤◌, ◌++◌, ◌*◌, ◌^◌, ◌<◌, IfErr, IfOk, OnOk, codes};
-ghost use Rattle.std.specs.Prelude.{string_bytes};
+ghost use Rattle.std.specs.Prelude.{◌≡◌, ◌≤◌, ◌++◌, ◌*◌, ◌^◌, ◌<◌};
+ghost use Rattle.std.specs.Prelude.{IfErr, IfOk, OnOk, codes, string_bytes};
 ghost use Rattle.codespan_styled.specs.Glyphs.{glyphs_of};
 ghost use Rattle.codespan_styled.specs.HtmlReading.{read_tokens, text_of_tokens};
 ghost use Rattle.codespan_styled.specs.Runs.{styled_runs};
-ghost use Rattle.codespan_styled.specs.Svg.{color_attribute, first_pen, glyph_text};
-ghost use Rattle.codespan_styled.specs.Svg.{color_on_dark, svg_tag_start, svg_document};
-ghost use Rattle.codespan_styled.specs.Svg.{text_tag, texts_from, weight_attribute};
-ghost use Rattle.codespan_styled.specs.Svg.{xml_character};
+ghost use Rattle.codespan_styled.specs.Svg.{color_attribute, first_pen, glyph_text, color_on_dark};
+ghost use Rattle.codespan_styled.specs.Svg.{svg_tag_start, svg_document, text_tag, texts_from};
+ghost use Rattle.codespan_styled.specs.Svg.{weight_attribute, xml_character};
 ghost use Rattle.codespan_styled.specs.SvgReading.{svg_tokens, shown_svg_text};
 
 mod glyph;

@@ -1,9 +1,10 @@
 -- `lines_from` makes of annotations in order the snippet lines of the lines that have annotations,
 -- from the first on: for the clauses of `render_lines` and `render_snippets`.
-use Rattle.codespan_core.proofs.Std.{nat_le, nat_tests, take-append_seam, length, common_steps, ◌≡◌}
-use Rattle.codespan_core.proofs.Std.{ℕ, zero, suc, ◌+◌, ◌<◌, ◌≤◌, Bool, true, false, cond, ◌==◌}
-use Rattle.codespan_core.proofs.Std.{List, [], ◌∷◌, ◌++◌, take, drop, filter, Option, Some, None}
-use Rattle.codespan_core.proofs.Std.{⊎_elim, refl, sym, ◌∙◌, ap, arith, prefix_len, range_with_len}
+use Rattle.codespan_core.proofs.Std.{nat_le, nat_tests, take-append_seam, length, common_steps}
+use Rattle.codespan_core.proofs.Std.{◌≡◌, ℕ, zero, suc, ◌+◌, ◌<◌, ◌≤◌, Bool}
+use Rattle.codespan_core.proofs.Std.{true, false, cond, ◌==◌, List, [], ◌∷◌, ◌++◌}
+use Rattle.codespan_core.proofs.Std.{take, drop, filter, Option, Some, None, ⊎_elim, refl, sym}
+use Rattle.codespan_core.proofs.Std.{◌∙◌, ap, arith, prefix_len, range_with_len}
 use Rattle.codespan_core.proofs.Std.{AllByRecursion, cases_Bool, eqb-true, eq-eqb}
 use Rattle.std.proofs.Math.Seq.{drop-append_seam}
 use Rattle.codespan_output.specs.Sequences.{before_line, gap_between, in_sequence}
@@ -74,7 +75,8 @@ prefix-append p (x ∷ a) b h k = grind (arith, common_steps, prefix-append p a 
 -- annotations of one line in front of annotations of later lines are a group
 groups-append : (k : ℕ) (g ys : List Annotation) → AllByRecursion (λ e. e.line ≡ k) g
     → AllByRecursion (λ e. k < e.line) ys → (previous : Option ℕ) (hidden : List Annotation)
-    → lines_from previous hidden (groups (g ++ ys)) ≡ lines_from previous hidden (g ∷ groups ys)
+    → lines_from previous hidden (groups (g ++ ys))
+    ≡ lines_from previous hidden (g ∷ groups ys)
 groups-append k [] ys h up previous hidden = refl
 groups-append k (x ∷ g) ys h up previous hidden =
     let front = all-weaker (λ e. e.line ≡ k) (λ e. is_on_line x.line e ≡ true)
@@ -116,7 +118,8 @@ IsHidden m (Some c) a hidden =
     (c < a) × (c + 1 ≡ a → hidden ≡ []) × (c + 2 ≡ a → hidden ≡ m (c + 1))
 
 -- what is before a shown line
-before-shown : (m : ℕ → List Annotation) (previous : Option ℕ) (a : ℕ) (hidden : List Annotation)
+before-shown : (m : ℕ → List Annotation) (previous : Option ℕ) (a : ℕ)
+    (hidden : List Annotation)
     → IsHidden m previous a hidden
     → before_line (lines_between hidden (m a)) previous a ≡ before_line
     (gap_between (λ l. Filled l (m l) ∷ []) (λ d. Break (m d) ∷ [])) previous a
@@ -125,7 +128,8 @@ before-shown m previous a hidden h = grind (arith, common_steps, eqb-true)
 -- the next line's are these, where they are its own if the one before has none
 hidden-next : (m : ℕ → List Annotation) (previous : Option ℕ) (a : ℕ)
     (hidden next : List Annotation)
-    → IsHidden m previous a hidden → (hidden ≡ [] → next ≡ m a) → IsHidden m previous (a + 1) next
+    → IsHidden m previous a hidden → (hidden ≡ [] → next ≡ m a)
+    → IsHidden m previous (a + 1) next
 hidden-next m previous a hidden next h own = grind (arith, common_steps)
 
 -- nothing is hidden after a shown line
@@ -139,7 +143,8 @@ module _ (xs : List Annotation) (up : IsRising (λ e. e.line) xs) where
 
   -- of annotations whose lines do not decrease, from line `a` on, `lines_from` makes the snippet
   -- lines of those that are shown
-  lines_from-lines : (n a : ℕ) → AllByRecursion (λ e. e.line < a + n) xs → (previous : Option ℕ)
+  lines_from-lines : (n a : ℕ) → AllByRecursion (λ e. e.line < a + n) xs
+      → (previous : Option ℕ)
       → (hidden : List Annotation) → IsHidden on_line previous a hidden
       → lines_from previous hidden (groups (from_number (λ e. e.line) a xs))
       ≡ lines_after on_line previous (filter (λ l. are_shown (on_line l)) (range_with_len a n))

@@ -1,8 +1,9 @@
 -- The annotations of all labels on one line of one file, for the clauses of `render_snippets` and
 -- `RichDiagnostic::render`.
-use Rattle.codespan_core.proofs.Std.{common_steps, rules, ◌≡◌, ℕ, ◌+◌, ◌<◌, Bool, true, false, cond}
-use Rattle.codespan_core.proofs.Std.{if◌then◌else◌, ◌==◌, nat_lt, ◌&&◌, ◌||◌, List, [], ◌∷◌, ◌++◌}
-use Rattle.codespan_core.proofs.Std.{length, map, filter, Option, None, ⊎_elim, refl, sym, ◌∙◌, ap}
+use Rattle.codespan_core.proofs.Std.{common_steps, rules, ◌≡◌, ℕ, ◌+◌, ◌<◌, Bool}
+use Rattle.codespan_core.proofs.Std.{true, false, cond, if◌then◌else◌, ◌==◌, nat_lt}
+use Rattle.codespan_core.proofs.Std.{◌&&◌, ◌||◌, List, [], ◌∷◌, ◌++◌, length, map}
+use Rattle.codespan_core.proofs.Std.{filter, Option, None, ⊎_elim, refl, sym, ◌∙◌, ap}
 use Rattle.codespan_core.proofs.Std.{subst, arith, length-append, option_map, list_any}
 use Rattle.codespan_core.proofs.Std.{AllByRecursion, cases_Bool, eqb-true, eq-eqb, ltb-false}
 use Rattle.codespan_core.proofs.Std.{nat_tests, filter-append, list_any-append}
@@ -31,7 +32,8 @@ use Rattle.codespan_output.proofs.ListElements.{filter-nothing}
 use Rattle.codespan_output.proofs.SortedFilters.{Falls}
 use Rattle.codespan_views.proofs.FileLabels.{is_of_range, HasFileIndex}
 
-module _ {Id : Type 0} {same : Id → Id → Bool} {file : Id → FileModel} {ids : List Id} {f : ℕ}
+module _ {Id : Type 0} {same : Id → Id → Bool} {file : Id → FileModel} {ids : List Id}
+    {f : ℕ}
     {id : Id} (here : HasFileIndex same file ids f id) (config : Config) where
   -- the file
   abbrev own_file : FileModel
@@ -91,7 +93,8 @@ module _ {Id : Type 0} {same : Id → Id → Bool} {file : Id → FileModel} {id
     abbrev pub line_annotations_after : List (LabelInFile Id) → List (LabelInFile Id)
         → List Annotation
     line_annotations_after before [] = []
-    line_annotations_after before (x ∷ xs) = line_annotations_of before x ++ line_annotations_after
+    line_annotations_after before (x ∷ xs) = line_annotations_of before x
+        ++ line_annotations_after
         (before ++ x ∷ []) xs
 
     -- a label's annotations of the line of the file
@@ -102,7 +105,8 @@ module _ {Id : Type 0} {same : Id → Id → Bool} {file : Id → FileModel} {id
     one-line_annotations before x =
         ⊎_elim
         (λ (t : same id x.file_id ≡ true).
-        let at : index_of_file same ids x.file_id ≡ f = eqb-true (index_of_file same ids x.file_id)
+        let at : index_of_file same ids x.file_id
+        ≡ f = eqb-true (index_of_file same ids x.file_id)
         f (here.index x.file_id ∙ t) in
         rw (filter-whole (is_of_file f) es (all-weaker _ (λ e. is_of_file f e ≡ true)
         (λ e h. eq-eqb e.file_index f (h ∙ at)) es of))
@@ -157,7 +161,8 @@ module _ {Id : Type 0} {same : Id → Id → Bool} {file : Id → FileModel} {id
 
     -- the annotation of one of them
     one-single : (before : List (LabelInFile Id)) (x : LabelInFile Id)
-        → filter (is_kind 1) (line_annotations_of before x) ≡ cond (same id x.file_id && on x.label)
+        → filter (is_kind 1) (line_annotations_of before x)
+        ≡ cond (same id x.file_id && on x.label)
         (single_label_at (length before) x.label ∷ []) []
     one-single before x = grind (arith, common_steps, nat_lt, single_labels-on_line, on-outside)
 

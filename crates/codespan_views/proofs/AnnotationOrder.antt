@@ -1,8 +1,8 @@
 -- The order of annotations, for the clauses `sorted` of `put_in_order` and `lane_marks_end`, and
 -- that of `are_in_order`.
-use Rattle.codespan_core.proofs.Std.{◌≡◌, ℕ, ◌-◌, ◌<◌, ◌≤◌, Bool, length, get_or, true, false, List}
-use Rattle.codespan_core.proofs.Std.{arith, IsStrictWeakOrder, nat_tests, get_or_default, ranks_by}
-use Rattle.codespan_core.proofs.Std.{IsSortedWithin, common_steps}
+use Rattle.codespan_core.proofs.Std.{◌≡◌, ℕ, ◌-◌, ◌<◌, ◌≤◌, Bool, length}
+use Rattle.codespan_core.proofs.Std.{get_or, true, false, List, arith, IsStrictWeakOrder, nat_tests}
+use Rattle.codespan_core.proofs.Std.{get_or_default, ranks_by, IsSortedWithin, common_steps}
 use Rattle.std.proofs.lemmas.Cmp.{nat_cmp_total, on_total, then_total, back_total}
 use Rattle.codespan_core.specs.Labels.{LaneMark, LabelModel, range_precedes}
 use Rattle.codespan_views.specs.Private.{Annotation, Single, Multi, rank_of, keys_of, IsLaneMarkOn}
@@ -45,7 +45,8 @@ range_rises x y {a = a} {b = b} xs ys e f h = grind (arith, nat_tests)
 -- ---- annotations of one line
 
 -- of labels with equal ranges the one at the greater index comes first
-pub index_below : (f l : ℕ) {p q : ℕ} (x y : LabelModel) → x.start ≡ y.start → x.end ≡ y.end → p < q
+pub index_below : (f l : ℕ) {p q : ℕ} (x y : LabelModel) → x.start ≡ y.start
+    → x.end ≡ y.end → p < q
     → is_before (record { file_index = f; line = l; kind = Single q y })
     (record { file_index = f; line = l; kind = Single p x }) ≡ true
 index_below f l {p} {q} x y s e h = grind (arith, nat_tests)
@@ -61,12 +62,14 @@ lane_below f l x y h = grind (arith, nat_tests)
 
 -- of two lane marks of one line the one in the greater lane does not come first, nor does either of
 -- two in the same lane
-pub mark_rises : (f l n m : ℕ) (x y : Annotation) → IsLaneMarkOn f l n x → IsLaneMarkOn f l m y
+pub mark_rises : (f l n m : ℕ) (x y : Annotation) → IsLaneMarkOn f l n x
+    → IsLaneMarkOn f l m y
     → n ≤ m → is_before y x ≡ false
 mark_rises f l n m x y a b h = grind (arith, nat_tests)
 
 -- a list that is in order up to an index, from there on, and at that index, is in order
-pub sorted-join : {X : Type 0} (lt : X → X → Bool) (xs : List X) (low middle high : ℕ) (x y : X)
+pub sorted-join : {X : Type 0} (lt : X → X → Bool) (xs : List X) (low middle high : ℕ)
+    (x y : X)
     → x ≡ get_or xs (middle - 1) x → y ≡ get_or xs middle y → middle < length xs
     → lt y x ≡ false → IsSortedWithin lt xs low middle → IsSortedWithin lt xs middle high
     → IsSortedWithin lt xs low high

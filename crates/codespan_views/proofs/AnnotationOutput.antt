@@ -1,9 +1,10 @@
 -- From all annotations of a diagnostic in order `lines_of` makes, for each file, the rows of its
 -- snippet: for the clauses of `render_snippets` and `RichDiagnostic::render`.
-use Rattle.codespan_core.proofs.Std.{common_steps, rules, arith, ◌≡◌, ℕ, ◌<◌, Bool, true, ◌==◌}
-use Rattle.codespan_core.proofs.Std.{◌&&◌, List, [], map, filter, reverse, None, refl, sym, ◌∙◌, ap}
-use Rattle.codespan_core.proofs.Std.{list_any, range_with_len, AllByRecursion, eqb-true}
-use Rattle.codespan_core.proofs.Std.{recursion_from_All, All-from_recursion, All-permutation}
+use Rattle.codespan_core.proofs.Std.{common_steps, rules, arith, ◌≡◌, ℕ, ◌<◌, Bool}
+use Rattle.codespan_core.proofs.Std.{true, ◌==◌, ◌&&◌, List, [], map, filter, reverse, None}
+use Rattle.codespan_core.proofs.Std.{refl, sym, ◌∙◌, ap, list_any, range_with_len}
+use Rattle.codespan_core.proofs.Std.{AllByRecursion, eqb-true, recursion_from_All}
+use Rattle.codespan_core.proofs.Std.{All-from_recursion, All-permutation}
 use Rattle.std.proofs.lemmas.List.Sorted.{list_any-IsPermutation}
 use Rattle.codespan_core.specs.FileModel.{FileDatabase, FileModel, line_count}
 use Rattle.codespan_core.specs.Labels.{LaneMark, LabelModel, is_single, first_line, drawn_label}
@@ -97,7 +98,8 @@ module _ {Id : Type 0} {database : FileDatabase Id} (lawful : AreFiles database)
       let inside : AllByRecursion IsInside annotations = recursion_from_All IsInside annotations
       (All-permutation IsInside all annotations known.permutation
       (All-from_recursion IsInside all (annotation_lines.annotations-below here config xs []))) in
-      all-weaker (λ e. (is_of_file f e ≡ true) × IsInside e) (λ e. e.line < line_count (file id))
+      all-weaker (λ e. (is_of_file f e ≡ true) × IsInside e)
+      (λ e. e.line < line_count (file id))
       (λ e h. h.1 h.0) own (search (rules, all-both, all-pass, all-filter, inside))
 
   -- the annotations of a line are of it
@@ -134,7 +136,8 @@ module _ {Id : Type 0} {database : FileDatabase Id} (lawful : AreFiles database)
   -- ---- the labels of a line
 
   -- the labels inside the line
-  single_labels-are : (l : ℕ) → single_labels_in (own_on_line l) ≡ single_labels (file id) s.labels
+  single_labels-are : (l : ℕ)
+      → single_labels_in (own_on_line l) ≡ single_labels (file id) s.labels
       l
   single_labels-are l =
       ascending-same (single_labels_in (own_on_line l)) (sorted reversed)
@@ -171,7 +174,8 @@ module _ {Id : Type 0} {database : FileDatabase Id} (lawful : AreFiles database)
       ranges start end =
           single_labels-of_range start end (own_on_line l)
           ∙ ap single_labels_in (of_picked l (is_of_range start end) annotations
-          ∙ filter-sorted_falls is_before below_order all annotations known.permutation known.sorted
+          ∙ filter-sorted_falls is_before below_order all annotations known.permutation
+          known.sorted
           (picks l (is_of_range start end)) (falls start end)
           ∙ ap (λ (r : List Annotation). reverse r) (all_in_range start end))
           ∙ single_labels-reverse (filter (is_of_range start end) from)
@@ -206,7 +210,8 @@ module _ {Id : Type 0} {database : FileDatabase Id} (lawful : AreFiles database)
       ∙ lane_marks-of_annotations f l (lane_marks l)
 
   -- a line is rendered with what its labels do on it
-  line-is : (l : ℕ) → line_of_group (file id) (num_multi_labels s) l (own_on_line l) ≡ line_at s l
+  line-is : (l : ℕ) → line_of_group (file id) (num_multi_labels s) l (own_on_line l)
+      ≡ line_at s l
   line-is l = grind (arith, common_steps, single_labels-are, lane_marks-are)
 
   -- ---- shown lines
@@ -240,7 +245,8 @@ module _ {Id : Type 0} {database : FileDatabase Id} (lawful : AreFiles database)
   -- ---- the snippet
 
   -- the snippet lines make the rows of the snippet
-  pub snippet-rows : rows_of_lines s.file (num_multi_labels s) (lines_of own) ≡ rows_of_drawn s None
+  pub snippet-rows : rows_of_lines s.file (num_multi_labels s) (lines_of own)
+      ≡ rows_of_drawn s None
       (drawn_lines config s.file s.labels)
   snippet-rows =
       ap (rows_of_lines (file id) (num_multi_labels s)) snippet_lines-are
@@ -263,7 +269,8 @@ module _ {Id : Type 0} {database : FileDatabase Id} (lawful : AreFiles database)
       (rules, ascends-starts, single_labels-ascend, own_on_line-all, own_on_line-rises)
 
   -- its lane marks ascend in the lanes of the file
-  lane_marks-fit : (l : ℕ) → are_lane_marks_in_order (num_multi_labels s) (own_on_line l) ≡ true
+  lane_marks-fit : (l : ℕ) → are_lane_marks_in_order (num_multi_labels s) (own_on_line l)
+      ≡ true
   lane_marks-fit l = rw (lane_marks-are l) (lane_marks-ascend s l)
 
   -- so do those of each snippet line

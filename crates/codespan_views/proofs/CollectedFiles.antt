@@ -1,9 +1,9 @@
 -- The files that were collected: the rows, the lookups and the numbers of the snippet lines that
 -- their annotations make are those of their labels. For the clauses of `RichDiagnostic::render` and
 -- `render_snippets`.
-use Rattle.codespan_core.proofs.Std.{common_steps, ◌≡◌, ℕ, Bool, List, [], ◌∷◌, ◌++◌, map, max}
-use Rattle.codespan_core.proofs.Std.{None, refl, sym, ap, ◌∙◌, arith, flat_map, fold}
-use Rattle.codespan_core.proofs.Std.{AllByRecursion, AllZip, flat_map-map}
+use Rattle.codespan_core.proofs.Std.{common_steps, ◌≡◌, ℕ, Bool, List, [], ◌∷◌}
+use Rattle.codespan_core.proofs.Std.{◌++◌, map, max, None, refl, sym, ap, ◌∙◌, arith}
+use Rattle.codespan_core.proofs.Std.{flat_map, fold, AllByRecursion, AllZip, flat_map-map}
 use Rattle.codespan_core.specs.FileModel.{FileDatabase, FileModel}
 use Rattle.codespan_core.specs.FileModel.Lookup.{LocationAt, Name}
 use Rattle.codespan_output.specs.Types.{Config, Layout, Classic, Unbroken}
@@ -93,7 +93,8 @@ module _ {Id : Type 0} {database : FileDatabase Id} (lawful : AreFiles database)
 
   -- what is made of the snippet lines of each file is made of its labels
   of-labels : {A : Type 0} (image : Id → List SnippetLine → List A) (each : Id → List A)
-      → ((k : ℕ) (id : Id) → IsIdAt (file_ids same xs) k id → image id (lines_at es k) ≡ each id)
+      → ((k : ℕ) (id : Id) → IsIdAt (file_ids same xs) k id
+      → image id (lines_at es k) ≡ each id)
       → of_files image collected ≡ flat_map each (file_ids same xs)
   of-labels image each is = grind (arith, common_steps, ids-of_labels, flat_map_indexed-same)
 
@@ -141,7 +142,8 @@ module _ {Id : Type 0} {database : FileDatabase Id} (lawful : AreFiles database)
   -- the loci of files are those of their snippets
   loci-of_files : (fs : List (RustFile Id)) (ids : List Id)
       → map without_locus fs ≡ map (with_labels same file xs) ids
-      → AllByRecursion (HasLocus file) fs → AllZip IsLocusOfFile (map labeled ids) (loci_view fs)
+      → AllByRecursion (HasLocus file) fs
+      → AllZip IsLocusOfFile (map labeled ids) (loci_view fs)
   loci-of_files [] [] known loci = tt
   loci-of_files [] (id ∷ ids) known loci = absurd (cc known)
   loci-of_files (f ∷ fs) [] known loci = absurd (cc known)

@@ -1,9 +1,9 @@
 -- The annotations of a line of a label, which are added one after another, by the lines on which
 -- the label starts and ends: for the clauses `added`, `padding` and `succeeded` of `push_line` and
 -- `collect_line`.
-use Rattle.codespan_core.proofs.Std.{common_steps, ◌≡◌, ℕ, true, List, [], ◌++◌, Option, Some, None}
-use Rattle.codespan_core.proofs.Std.{arith, Bor, append-nil, append_assoc, map-append, nat_tests}
-use Rattle.codespan_core.proofs.Std.{le-leb}
+use Rattle.codespan_core.proofs.Std.{common_steps, ◌≡◌, ℕ, true, List, [], ◌++◌, Option}
+use Rattle.codespan_core.proofs.Std.{Some, None, arith, Bor, append-nil, append_assoc, map-append}
+use Rattle.codespan_core.proofs.Std.{nat_tests, le-leb}
 use Rattle.codespan_core.specs.Labels.{LabelModel, first_line, last_line}
 use Rattle.codespan_output.specs.Lines.{spans}
 use Rattle.codespan_output.specs.Types.{Config, Label}
@@ -34,7 +34,8 @@ module _ {Id : Type 0} {P : RustAnnotation Id → Type 0} where
       (arith, common_steps, append_assoc, map-append, all-append)
 
   -- the same annotations in other words
-  pub AppendsAnnotations-as : {xs ys : List (RustAnnotation Id)} {es fs : List Annotation} → fs ≡ es
+  pub AppendsAnnotations-as : {xs ys : List (RustAnnotation Id)} {es fs : List Annotation}
+      → fs ≡ es
       → AppendsAnnotations P xs ys es → AppendsAnnotations P xs ys fs
   AppendsAnnotations-as same a = grind (arith, common_steps)
 
@@ -49,7 +50,8 @@ module _ {Id : Type 0} (x : LabelToCollect Id) where
   -- the annotations of a label on a line, and its multi-line label mark on it
   pub annotation_if_any-line : {line : LineInfo} {first last : ℕ}
       {kind lane_mark : Option AnnotationKind}
-      → first_line x.file x.label ≡ first → last_line x.file x.label ≡ last → IsLineOf x.file line
+      → first_line x.file x.label ≡ first → last_line x.file x.label ≡ last
+      → IsLineOf x.file line
       → kind ≡ kind_by_ends x.config x.index first last line.index line.start x.label
       → lane_mark ≡ multi_kind_by_ends x.lane first last line.index line.start x.label
       → line_annotations x.config x.file x.file_index x.index x.lane x.label line.index
@@ -67,15 +69,18 @@ far-kind config index s e l start x far = grind (arith, nat_tests)
 pub far-multi_label : {Id : Type 0} (config : Config) (lane s e l start : ℕ)
     (label : Bor (Label Id))
     → IsFarInside config s e l
-    → Some (kind_view start (rust.Multi label_kind.Left lane label)) ≡ multi_kind_by_ends lane s e l
+    → Some (kind_view start (rust.Multi label_kind.Left lane label))
+    ≡ multi_kind_by_ends lane s e l
     start (label_of label.now).label
 far-multi_label config lane s e l start label far = grind (arith, nat_tests)
 
 -- a line far from both ends is between them
-pub far-spans : (config : Config) (s e l : ℕ) → IsFarInside config s e l → spans s e l ≡ true
+pub far-spans : (config : Config) (s e l : ℕ) → IsFarInside config s e l
+    → spans s e l ≡ true
 far-spans config s e l far = grind (arith, common_steps, or_right, and_from, le-leb)
 
-module _ {Id : Type 0} (x : LabelToCollect Id) (s e l : ℕ) (first : first_line x.file x.label ≡ s)
+module _ {Id : Type 0} (x : LabelToCollect Id) (s e l : ℕ)
+    (first : first_line x.file x.label ≡ s)
     (last : last_line x.file x.label ≡ e) where
   -- a line that the label spans is looked up
   pub looked_up-spanned : spans s e l ≡ true → is_looked_up x.config x.file x.label l ≡ true

@@ -1,9 +1,10 @@
 -- The lines that are looked up for a label, one after another, for the clauses of `collect_lines`.
-use Rattle.codespan_core.proofs.Std.{common_steps, ◌≡◌, ℕ, suc, ◌+◌, ◌-◌, ◌^◌, ◌<◌, ◌≤◌, Bool, true}
-use Rattle.codespan_core.proofs.Std.{false, List, [], ◌∷◌, ◌++◌, length, Option, Some, None, refl}
-use Rattle.codespan_core.proofs.Std.{sym, ap, ◌∙◌, arith, ⊎_elim, if◌then◌else◌, flat_map, fold}
-use Rattle.codespan_core.proofs.Std.{max, min, range_with_len, le-leb, lt-leb, lt-ltb, cases_lt}
-use Rattle.codespan_core.proofs.Std.{append_assoc, not}
+use Rattle.codespan_core.proofs.Std.{common_steps, ◌≡◌, ℕ, suc, ◌+◌, ◌-◌, ◌^◌}
+use Rattle.codespan_core.proofs.Std.{◌<◌, ◌≤◌, Bool, true, false, List, [], ◌∷◌}
+use Rattle.codespan_core.proofs.Std.{◌++◌, length, Option, Some, None, refl, sym, ap, ◌∙◌}
+use Rattle.codespan_core.proofs.Std.{arith, ⊎_elim, if◌then◌else◌, flat_map, fold, max, min}
+use Rattle.codespan_core.proofs.Std.{range_with_len, le-leb, lt-leb, lt-ltb, cases_lt, append_assoc}
+use Rattle.codespan_core.proofs.Std.{not}
 use Rattle.codespan_core.specs.FileModel.{Lookup, line_count, or_failure}
 use Rattle.codespan_core.specs.LawfulFiles.{IsLawful, FailsPastLastLine, IsPastLastLineError}
 use Rattle.codespan_core.specs.FileModel.Lookup.{LineRange, LineNumber}
@@ -14,8 +15,8 @@ use Rattle.codespan_output.specs.Lookups.{ends_context_lines, is_looked_up, line
 use Rattle.codespan_output.specs.Lookups.{lookup_past_end}
 use Rattle.codespan_output.specs.declared.padding.PaddingWidth.{PaddingWidth}
 use Rattle.codespan_views.specs.Private.{LabelToCollect, IsLookedUp, FindsLineAnnotations}
-use Rattle.codespan_views.specs.Private.{FindsLabelAnnotations, WidensPadding}
-use Rattle.codespan_views.specs.Private.{WidensPaddingForLine, lines_failure, failure_if_looked_up}
+use Rattle.codespan_views.specs.Private.{FindsLabelAnnotations, WidensPadding, WidensPaddingForLine}
+use Rattle.codespan_views.specs.Private.{lines_failure, failure_if_looked_up}
 use Rattle.codespan_views.specs.Private.{line_failure_unless_past_end, Annotation}
 use Rattle.codespan_views.specs.Private.{annotations_if_looked_up, lookups_if_looked_up}
 use Rattle.codespan_views.specs.Private.{RustAnnotation, failure_in, AppendsAnnotationsOf}
@@ -86,8 +87,10 @@ module _ {Id : Type 0} (x : LabelToCollect Id) where
 
 module _ {Id : Type 0} {x : LabelToCollect Id} where
   -- no line below the first context line is looked up
-  pub collected-start : {xs : List (RustAnnotation Id)} {width : PaddingWidth} {n : ℕ} → HasEnds x
-      → n ≤ last_line x.file x.label → n ≤ first_line x.file x.label - x.config.before_label_lines
+  pub collected-start : {xs : List (RustAnnotation Id)} {width : PaddingWidth} {n : ℕ}
+      → HasEnds x
+      → n ≤ last_line x.file x.label
+      → n ≤ first_line x.file x.label - x.config.before_label_lines
       → CollectsLines x xs xs width width n
   collected-start {width = width} {n} there low far = record {
     within = within;
@@ -165,7 +168,8 @@ module _ {Id : Type 0} {x : LabelToCollect Id} where
 
     -- the end of the context, or of all indices
     pub collected-reach : first_line x.file x.label < n
-        → min (last_line x.file x.label + x.config.after_label_lines + 1) (2 ^ 64) ≤ n → n ≤ 2 ^ 64
+        → min (last_line x.file x.label + x.config.after_label_lines + 1) (2 ^ 64) ≤ n
+        → n ≤ 2 ^ 64
         → IsLawful x.file → FailsPastLastLine x.file n (x.failure x.file_id (LineRange n))
         → CollectsLabel x xs ys width wider
     collected-reach first far below law past_last_line =
@@ -189,7 +193,8 @@ module _ {Id : Type 0} {x : LabelToCollect Id} where
 
         at_last : n ≡ 2 ^ 64 → CollectsLabel x xs ys width wider
         at_last all =
-            let past : line_count x.file ≤ n = omega (arith, all, lines_have_indices x.file law) in
+            let past : line_count x.file ≤ n = omega (arith, all, lines_have_indices x.file law)
+            in
             collected-context past
             (too_large _ ((past_last_line (is_existing all x.file.exists refl)).1 past))
 
@@ -203,7 +208,8 @@ module _ {Id : Type 0} {x : LabelToCollect Id} where
       where
         by_line : (ends : Bool)
             → (if ends then None else or_failure (x.failure x.file_id (LineRange n))
-            (x.failure x.file_id (LineNumber n))) ≡ Some e → failed x (line_lookups n) ≡ Some e
+            (x.failure x.file_id (LineNumber n))) ≡ Some e
+            → failed x (line_lookups n) ≡ Some e
         by_line true h = cc
         by_line false h = ap (or_failure _) (or_failure-none _) ∙ h
 
@@ -217,7 +223,8 @@ module _ {Id : Type 0} {x : LabelToCollect Id} where
 
         -- the range alone, where the line is past the last one
         by_range : (ends : Bool)
-            → (if ends then None else or_failure (x.failure x.file_id (LineRange n)) None) ≡ Some e
+            → (if ends then None else or_failure (x.failure x.file_id (LineRange n)) None)
+            ≡ Some e
             → failed x (if not ends then LineRange n ∷ [] else []) ≡ Some e
         by_range true h = h
         by_range false h = h

@@ -1,7 +1,7 @@
 -- What fails the lookups before the header: those of the labels, and then those of filled lines and
 -- of loci. For the clause `renders` of `RichDiagnostic::render`.
-use Rattle.codespan_core.proofs.Std.{arith, common_steps, ◌≡◌, List, ◌++◌, Option, Some, None}
-use Rattle.codespan_core.proofs.Std.{append_assoc, flat_map}
+use Rattle.codespan_core.proofs.Std.{arith, common_steps, ◌≡◌, List, ◌++◌, Option, Some}
+use Rattle.codespan_core.proofs.Std.{None, append_assoc, flat_map}
 use Rattle.codespan_core.specs.FileModel.{FileDatabase, Lookup, or_failure}
 use Rattle.codespan_output.specs.Types.{Error, Config}
 use Rattle.codespan_output.specs.Lookups.{early_lookups, first_error, locus_lookups}
@@ -46,5 +46,6 @@ module _ {Id : Type 0} (database : FileDatabase Id) (config : Config)
   labels-failed e known = grind (arith, common_steps, early-is)
 
   -- the labels' lookups succeed, and the files' decide the rest
-  pub labels-succeeded : labels_failure config database xs ≡ None → failed early ≡ later_failure
+  pub labels-succeeded : labels_failure config database xs ≡ None
+      → failed early ≡ later_failure
   labels-succeeded succeeded = grind (arith, common_steps, early-is)

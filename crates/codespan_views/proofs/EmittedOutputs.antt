@@ -1,6 +1,7 @@
 -- Emitting an output as text, for the clauses of `emit_into_string` and `emit_to_io_write`.
-use Rattle.codespan_core.proofs.Std.{◌≡◌, ℕ, true, List, [], ◌∷◌, Option, Some, Ok, Err, Result}
-use Rattle.codespan_core.proofs.Std.{⊎_elim, inl, inr, refl, sym, subst, ap, ◌∙◌, IsUtf8}
+use Rattle.codespan_core.proofs.Std.{◌≡◌, ℕ, true, List, [], ◌∷◌, Option, Some, Ok}
+use Rattle.codespan_core.proofs.Std.{Err, Result, ⊎_elim, inl, inr, refl, sym, subst, ap}
+use Rattle.codespan_core.proofs.Std.{◌∙◌, IsUtf8}
 use Rattle.std.specs.Borrow.{GName}
 use Rattle.codespan_core.specs.FileModel.{FileDatabase}
 use Rattle.codespan_core.specs.LawfulFiles.{IsLawful}
@@ -25,7 +26,8 @@ written_text : {old new : Sink} {bytes : List ℕ} (s : Stream)
 unfolding with_written is_known are_known extended
 written_text {old} {new} {bytes} s fresh contents written =
     let now = written (ap is_known fresh) ∙ ap (λ (x : Sink). with_written x s) fresh in
-    let whole : Some bytes ≡ Some (text_of s) = sym contents ∙ ap (λ (x : Sink). x.contents) now in
+    let whole : Some bytes ≡ Some (text_of s) = sym contents
+    ∙ ap (λ (x : Sink). x.contents) now in
     cc
 
 -- a stream that was written to a writer that spells style marks as nothing was written as its text
@@ -126,7 +128,8 @@ module _ {Id : Type 0} {config : Config} {files : FileDatabase Id} {d : Diagnost
       rendered.on_end.error_is
 
   -- a writer of plain text has received the output's text, or a prefix of it
-  written : (old new : Sink) → old.frame.spelling ≡ plain_spelling → (r : Result (Unit {0}) Error)
+  written : (old new : Sink) → old.frame.spelling ≡ plain_spelling
+      → (r : Result (Unit {0}) Error)
       → WritesStyled config.display_style config config files d old r new
       → WritesText config files d old.contents r new.contents
   unfolding is_known
@@ -159,7 +162,8 @@ module _ {Id : Type 0} {config : Config} {files : FileDatabase Id} {d : Diagnost
       (before after : PlainWriterRef W) {name : GName} {contents : Option (List ℕ)} {x : W}
       {r : Result (Unit {0}) Error}
       → plain_ref_sink contents_of before ≡ fresh_plain_ref_sink name contents
-      → WritesStyled config.display_style config config files d (plain_ref_sink contents_of before)
+      → WritesStyled config.display_style config config files d
+      (plain_ref_sink contents_of before)
       r (plain_ref_sink contents_of after)
       → (name ≡ plain_reference after → x ≡ borrowed_writer after)
       → WritesText config files d contents r (contents_of x)

@@ -1,11 +1,12 @@
 -- Files in the order of their first label, the index of a label's file among them, and the search
 -- for it: for the clauses of `find_file` and `get_or_insert_file`.
-use Rattle.codespan_core.proofs.Std.{common_steps, ◌≡◌, ℕ, zero, suc, ◌<◌, length, get_or, arith}
-use Rattle.codespan_core.proofs.Std.{Bool, true, false, not, List, [], ◌∷◌, ◌++◌, refl, sym, ◌∙◌}
-use Rattle.codespan_core.proofs.Std.{true≢false, filter, map, if◌then◌else◌, IsEquivalence}
-use Rattle.codespan_core.proofs.Std.{AllByRecursion, list_any, append-nil, length-map, map-append}
-use Rattle.codespan_core.proofs.Std.{filter-append, list_any-append, list_any_at, ◌==◌, eqb-true}
-use Rattle.codespan_core.proofs.Std.{eq-eqb, ne_eqb, ◌≢◌, append_assoc, ap}
+use Rattle.codespan_core.proofs.Std.{common_steps, ◌≡◌, ℕ, zero, suc, ◌<◌, length}
+use Rattle.codespan_core.proofs.Std.{get_or, arith, Bool, true, false, not, List, [], ◌∷◌}
+use Rattle.codespan_core.proofs.Std.{◌++◌, refl, sym, ◌∙◌, true≢false, filter, map}
+use Rattle.codespan_core.proofs.Std.{if◌then◌else◌, IsEquivalence, AllByRecursion, list_any}
+use Rattle.codespan_core.proofs.Std.{append-nil, length-map, map-append, filter-append}
+use Rattle.codespan_core.proofs.Std.{list_any-append, list_any_at, ◌==◌, eqb-true, eq-eqb}
+use Rattle.codespan_core.proofs.Std.{ne_eqb, ◌≢◌, append_assoc, ap}
 use Rattle.std.proofs.lemmas.List.Folds.{position_or_len_push}
 use Rattle.codespan_core.specs.Labels.{first_seen}
 use Rattle.codespan_output.specs.Snippets.{LabelInFile, file_ids}
@@ -37,7 +38,8 @@ module _ {Id : Type 0} (same : Id → Id → Bool) (o : IsEquivalence same) wher
   pub first_seen-more : (js : List Id) (i : Id)
       → first_seen same
       (js ++ i ∷ [])
-      ≡ (if has (first_seen same js) i then first_seen same js else first_seen same js ++ i ∷ [])
+      ≡ (if has (first_seen same js) i then first_seen same js else first_seen same js
+      ++ i ∷ [])
   first_seen-more [] i = refl
   first_seen-more (j ∷ js) i = grind
       (arith, common_steps, has-unchanged j i, filter-append, append-nil, first_seen-more js i)
@@ -99,7 +101,8 @@ module _ {Id : Type 0} (same : Id → Id → Bool) (o : IsEquivalence same) wher
   at-all P (j ∷ js) (suc f) id h a = at-all P js f id h.1 a
 
   -- of ids that differ the one at an index is equal to those that have the index
-  index-is : (ids : List Id) (f : ℕ) (id : Id) → AreDistinct same ids → IsIdAt ids f id → (i : Id)
+  index-is : (ids : List Id) (f : ℕ) (id : Id) → AreDistinct same ids → IsIdAt ids f id
+      → (i : Id)
       → (index_of_file same ids i == f) ≡ same id i
   index-is [] f id d a i = absurd a
   index-is (j ∷ js) zero id d a i = grind
@@ -114,7 +117,8 @@ module _ {Id : Type 0} (same : Id → Id → Bool) (o : IsEquivalence same) wher
   index_of_file-at xs f id a i = grind (arith, common_steps, index-is, first_seen-differ)
 
   -- an id that is equal to the one at an index has that index
-  pub same_id-index : (ids : List Id) {k : ℕ} (j i : Id) → AreDistinct same ids → IsIdAt ids k j
+  pub same_id-index : (ids : List Id) {k : ℕ} (j i : Id) → AreDistinct same ids
+      → IsIdAt ids k j
       → same j i ≡ true → k ≡ index_of_file same ids i
   same_id-index ids {k} j i apart at t =
       sym (eqb-true (index_of_file same ids i) k (index-is ids k j apart at i ∙ t))
@@ -139,7 +143,8 @@ module _ {Id : Type 0} (same : Id → Id → Bool) (o : IsEquivalence same) wher
 
   -- the index of an id that is there stays, whichever labels come after these
   pub index-final : (xs ys : List (LabelInFile Id)) (i : Id) → has (file_ids same xs) i ≡ true
-      → index_of_file same (file_ids same (xs ++ ys)) i ≡ index_of_file same (file_ids same xs) i
+      → index_of_file same (file_ids same (xs ++ ys)) i
+      ≡ index_of_file same (file_ids same xs) i
   index-final xs [] i there = ap (λ zs. index_of_file same (file_ids same zs) i) (append-nil xs)
   index-final xs (y ∷ ys) i there =
       let more : has (file_ids same (xs ++ y ∷ [])) i ≡ true =
@@ -151,7 +156,8 @@ module _ {Id : Type 0} (same : Id → Id → Bool) (o : IsEquivalence same) wher
 
 -- ---- a file that is added where it is none of the others
 
-module _ {Id : Type 0} {same : Id → Id → Bool} (o : IsEquivalence same) (files : List (RustFile Id))
+module _ {Id : Type 0} {same : Id → Id → Bool} (o : IsEquivalence same)
+    (files : List (RustFile Id))
     (id : Id) {index : ℕ} (is : index ≡ index_of_file same (ids_view files) id) where
   -- how many ids these are
   ids-length : length (ids_view files) ≡ length files

@@ -1,6 +1,7 @@
 -- The labels of one range, and a file among those of a diagnostic, for the clauses of
 -- `render_snippets` and `RichDiagnostic::render`.
-use Rattle.codespan_core.proofs.Std.{◌≡◌, ℕ, ◌<◌, Bool, true, false, ◌==◌, List, Option, Some, None}
+use Rattle.codespan_core.proofs.Std.{◌≡◌, ℕ, ◌<◌, Bool, true, false, ◌==◌, List}
+use Rattle.codespan_core.proofs.Std.{Option, Some, None}
 use Rattle.codespan_core.specs.FileModel.{FileModel, line_count}
 use Rattle.codespan_core.specs.Labels.{LabelModel}
 use Rattle.codespan_output.specs.Snippets.{LabelInFile}

@@ -1,16 +1,17 @@
 -- The annotations of one file, in order, for the clauses `value` and `requires` of `count_in_file`.
-use Rattle.codespan_core.proofs.Std.{ap, common_steps, ◌≡◌, ℕ, suc, ◌+◌, ◌-◌, ◌<◌, ◌≤◌, Bool, true}
-use Rattle.codespan_core.proofs.Std.{List, [], ◌∷◌, length, take, drop, map, get_or, refl, ◌∙◌}
-use Rattle.codespan_core.proofs.Std.{arith, length-drop, IsStrictWeakOrder, prefix_len, IsSortedBy}
-use Rattle.codespan_core.proofs.Std.{take-length, eq-eqb, get_or_default, get_or-drop, length-map}
-use Rattle.codespan_core.proofs.Std.{sorted_far}
+use Rattle.codespan_core.proofs.Std.{ap, common_steps, ◌≡◌, ℕ, suc, ◌+◌, ◌-◌}
+use Rattle.codespan_core.proofs.Std.{◌<◌, ◌≤◌, Bool, true, List, [], ◌∷◌, length}
+use Rattle.codespan_core.proofs.Std.{take, drop, map, get_or, refl, ◌∙◌, arith, length-drop}
+use Rattle.codespan_core.proofs.Std.{IsStrictWeakOrder, prefix_len, IsSortedBy, take-length, eq-eqb}
+use Rattle.codespan_core.proofs.Std.{get_or_default, get_or-drop, length-map, sorted_far}
 use Rattle.std.proofs.Math.ListN.{get_or-map}
 use Rattle.codespan_views.specs.Private.{RustAnnotation, is_before, is_of_file, annotation_view}
 use Rattle.codespan_views.proofs.AnnotationOrder.{below_order, file_rises}
 
 -- where all pass, all are in front
 prefix_len-all : {X : Type 0} (p : X → Bool) (xs : List X)
-    → ((k : ℕ) (d : X) → k < length xs → p (get_or xs k d) ≡ true) → length xs ≡ prefix_len p xs
+    → ((k : ℕ) (d : X) → k < length xs → p (get_or xs k d) ≡ true)
+    → length xs ≡ prefix_len p xs
 prefix_len-all p [] each = refl
 prefix_len-all p (x ∷ xs) each =
     let rest = prefix_len-all p xs (λ k d l. each (suc k) d (omega arith)) in

@@ -1,10 +1,10 @@
 -- A loop over the files takes the annotations of each file in order, for the clauses of
 -- `find_numbers` and `render_snippets`.
-use Rattle.codespan_core.proofs.Std.{take_rest, common_steps, ◌≡◌, ℕ, ◌+◌, ◌-◌, ◌≤◌, Bool, cond}
-use Rattle.codespan_core.proofs.Std.{nat_le, List, [], ◌∷◌, ◌++◌, length, take, drop, map, filter}
-use Rattle.codespan_core.proofs.Std.{refl, sym, ◌∙◌, ap, arith, length-drop, prefix_len, IsSortedBy}
-use Rattle.codespan_core.proofs.Std.{take-append_seam, ne_eqb, nat_tests, drop-drop, drop-map}
-use Rattle.codespan_core.proofs.Std.{take-map, length-map}
+use Rattle.codespan_core.proofs.Std.{take_rest, common_steps, ◌≡◌, ℕ, ◌+◌, ◌-◌}
+use Rattle.codespan_core.proofs.Std.{◌≤◌, Bool, cond, nat_le, List, [], ◌∷◌, ◌++◌}
+use Rattle.codespan_core.proofs.Std.{length, take, drop, map, filter, refl, sym, ◌∙◌, ap}
+use Rattle.codespan_core.proofs.Std.{arith, length-drop, prefix_len, IsSortedBy, take-append_seam}
+use Rattle.codespan_core.proofs.Std.{ne_eqb, nat_tests, drop-drop, drop-map, take-map, length-map}
 use Rattle.std.proofs.Math.Nat.{add-sub_cancel_left}
 use Rattle.std.proofs.Math.Seq.{drop-append_seam}
 use Rattle.std.proofs.lemmas.Bool.{leb-true}
@@ -78,17 +78,20 @@ pub record IsFileSlice {Id : Type 0} (xs : List (RustAnnotation Id)) (at n f : �
 pub next-file : {Id : Type 0} (xs : List (RustAnnotation Id)) (at n f : ℕ)
     → IsSortedBy is_before (map annotation_view xs) → at ≤ length xs
     → drop at (map annotation_view xs) ≡ from_file f (map annotation_view xs)
-    → n ≡ prefix_len (λ e. is_of_file f (annotation_view e)) (take (length xs - at) (drop at xs))
+    → n ≡ prefix_len (λ e. is_of_file f (annotation_view e))
+    (take (length xs - at) (drop at xs))
     → n ≤ length (take (length xs - at) (drop at xs)) → IsFileSlice xs at n f
 next-file {Id} xs at n f up inside left is low =
     let view : RustAnnotation Id → Annotation = annotation_view in
     let ys = map view xs in
     let a = filter (is_of_file f) ys in
     let rises = files-rise ys (rises-from_sorted is_before below_order ys up) in
-    let here : map view (drop at xs) ≡ a ++ from_file (f + 1) ys = sym (drop-map view at xs) ∙ left
+    let here : map view (drop at xs) ≡ a ++ from_file (f + 1) ys = sym (drop-map view at xs)
+    ∙ left
     ∙ from_number-next (λ (e : Annotation). e.file_index) f ys rises in
     let counted : n ≡ length a = is
-    ∙ rw (take_rest xs at, ← prefix-map view (is_of_file f) (drop at xs), here) (own-len ys f) in
+    ∙ rw (take_rest xs at, ← prefix-map view (is_of_file f) (drop at xs), here) (own-len ys f)
+    in
     let front : map view (next_slice xs at n) ≡ a =
     rw (← take-map view (at + n - at) (drop at xs), here, add-sub_cancel_left at n, counted)
     (take-append_seam a (from_file (f + 1) ys)) in

@@ -1,9 +1,9 @@
 -- The turn of a file in a loop over the files, by the index of its id, for the clauses of
 -- `find_numbers` and `render_snippets`.
-use Rattle.codespan_core.proofs.Std.{common_steps, ◌≡◌, ℕ, suc, ◌+◌, ◌-◌, ◌≤◌, true, List, [], ◌∷◌}
-use Rattle.codespan_core.proofs.Std.{length, take, drop, map, filter, refl, sym, ap, ◌∙◌}
-use Rattle.codespan_core.proofs.Std.{subst, arith, All, flat_map, AllByRecursion, prefix_len}
-use Rattle.codespan_core.proofs.Std.{IsSortedBy, eqb-true}
+use Rattle.codespan_core.proofs.Std.{common_steps, ◌≡◌, ℕ, suc, ◌+◌, ◌-◌, ◌≤◌}
+use Rattle.codespan_core.proofs.Std.{true, List, [], ◌∷◌, length, take, drop, map, filter}
+use Rattle.codespan_core.proofs.Std.{refl, sym, ap, ◌∙◌, subst, arith, All, flat_map}
+use Rattle.codespan_core.proofs.Std.{AllByRecursion, prefix_len, IsSortedBy, eqb-true}
 use Rattle.codespan_core.proofs.Std.{All-from_recursion}
 use Rattle.codespan_core.specs.FileModel.{FileModel}
 use Rattle.codespan_views.specs.Private.{RustAnnotation, RustFile, Annotation, is_before}
@@ -18,7 +18,8 @@ use Rattle.codespan_output.proofs.ListElements.{all-weaker}
 -- ---- ids at their indices
 
 -- ids that have the same at their indices
-pub flat_map_indexed-same : {Id A : Type 0} (image : ℕ → Id → List A) (each : Id → List A) (k : ℕ)
+pub flat_map_indexed-same : {Id A : Type 0} (image : ℕ → Id → List A) (each : Id → List A)
+    (k : ℕ)
     (js : List Id)
     → ((i : ℕ) (id : Id) → IsIdAt js i id → image (k + i) id ≡ each id)
     → flat_map_indexed image k js ≡ flat_map each js
@@ -43,7 +44,8 @@ module _ {Id : Type 0} (file : Id → FileModel) where
       let of_file = all-mapped annotation_view (λ e. is_of_file f e ≡ true) slice
       (rw own (all-pass (is_of_file f) ys)) in
       all-weaker _ _
-      (λ e h. h.1 id (subst (λ k. IsIdAt ids k id) (sym (eqb-true e.file_index f h.0)) is_at)) slice
+      (λ e h. h.1 id (subst (λ k. IsIdAt ids k id) (sym (eqb-true e.file_index f h.0)) is_at))
+      slice
       (all-both _ _ slice of_file (all-slice (IsOfFiles file ids) at n xs lines))
 
 -- ---- the turn of a file
@@ -73,7 +75,8 @@ module _ {Id : Type 0} {files : List (RustFile Id)} {xs : List (RustAnnotation I
     own_annotations = grind (arith, common_steps, own_slice)
 
     -- its lines are the file's
-    pub own_lines : (file : Id → FileModel) → AllByRecursion (IsOfFiles file (ids_view files)) xs
+    pub own_lines : (file : Id → FileModel)
+        → AllByRecursion (IsOfFiles file (ids_view files)) xs
         → All (λ e. IsLineOf (file f.file_id) e.line) (next_slice zs at n)
     own_lines file lines =
         All-from_recursion _ (next_slice zs at n)
@@ -92,4 +95,5 @@ module _ {Id : Type 0} {files : List (RustFile Id)} {xs : List (RustAnnotation I
   -- later files remain there
   pub next_left : drop (at + n) (map annotation_view xs) ≡ from_file (k + 1)
       (map annotation_view xs)
-  next_left = ap (λ i. drop (at + i) (map annotation_view xs)) (sym own_slice.len) ∙ own_slice.rest
+  next_left = ap (λ i. drop (at + i) (map annotation_view xs)) (sym own_slice.len)
+      ∙ own_slice.rest

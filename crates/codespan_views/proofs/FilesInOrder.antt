@@ -1,10 +1,10 @@
 -- The files of an output, by their indices, for the clauses of `render_snippets` and
 -- `find_numbers`.
-use Rattle.codespan_core.proofs.Std.{◌≡◌, ℕ, zero, suc, ◌+◌, ◌<◌, ◌≤◌, Bool, ◌||◌, List, []}
-use Rattle.codespan_core.proofs.Std.{◌∷◌, length, drop, get_or, refl, sym, ap}
-use Rattle.codespan_core.proofs.Std.{map, ◌∙◌, lt-ltb, arith, nat_lt, common_steps, get_or-map}
-use Rattle.codespan_core.proofs.Std.{length-drop, length-map, map-id}
-use Rattle.codespan_core.proofs.Std.{nat_tests, true, false}
+use Rattle.codespan_core.proofs.Std.{◌≡◌, ℕ, zero, suc, ◌+◌, ◌<◌, ◌≤◌, Bool}
+use Rattle.codespan_core.proofs.Std.{◌||◌, List, [], ◌∷◌, length, drop, get_or, refl, sym}
+use Rattle.codespan_core.proofs.Std.{ap, map, ◌∙◌, lt-ltb, arith, nat_lt, common_steps}
+use Rattle.codespan_core.proofs.Std.{get_or-map, length-drop, length-map, map-id, nat_tests, true}
+use Rattle.codespan_core.proofs.Std.{false}
 use Rattle.std.proofs.lemmas.List.Sums.{fails_before_first, passes_at_first}
 use Rattle.std.proofs.lemmas.Simd.{map-map}
 use Rattle.codespan_core.specs.FileModel.{FileModel}
@@ -38,7 +38,8 @@ followed-at has_notes xs k = grind (arith, common_steps, nat_tests, followed-is,
 -- ---- the file at an index
 
 -- there are as many ids as files
-pub ids-count : {Id : Type 0} (files : List (RustFile Id)) → length (ids_view files) ≡ length files
+pub ids-count : {Id : Type 0} (files : List (RustFile Id))
+    → length (ids_view files) ≡ length files
 ids-count {Id} files = length-map files (λ (f : RustFile Id). f.file_id)
 
 -- files with the labels of these ids have these ids
@@ -64,10 +65,12 @@ module _ {Id : Type 0} {files : List (RustFile Id)} {k : ℕ} {f : RustFile Id}
 
   -- ---- an id that is looked for, and is at no index below this one
 
-  module _ (same : Id → Id → Bool) (id : Id) (past : k ≤ index_of_file same (ids_view files) id)
+  module _ (same : Id → Id → Bool) (id : Id)
+      (past : k ≤ index_of_file same (ids_view files) id)
     where
       -- it is not at the index of another one
-      pub index-later : same f.file_id id ≡ false → k + 1 ≤ index_of_file same (ids_view files) id
+      pub index-later : same f.file_id id ≡ false
+          → k + 1 ≤ index_of_file same (ids_view files) id
       index-later apart =
           let not_here : k ≡ index_of_file same (ids_view files) id → ⊥ =
           λ e. grind (
@@ -101,7 +104,8 @@ module _ {Id : Type 0} {files : List (RustFile Id)} {k : ℕ} {f : RustFile Id}
         length-map ids (with_labels same file xs),
       ) in
       let there : without_locus f ≡ with_labels same file xs (get_or ids k f.file_id) =
-      ap without_locus at.is ∙ sym (get_or-map without_locus files k f (without_locus f) at.inside)
+      ap without_locus at.is ∙ sym
+      (get_or-map without_locus files k f (without_locus f) at.inside)
       ∙ ap (λ all. get_or all k (without_locus f)) labeled.are
       ∙ get_or-map (with_labels same file xs) ids k f.file_id (without_locus f)
       (omega (arith, at.inside, long)) in

@@ -1,8 +1,8 @@
 -- The known numbers of filled lines, taken one after another, and what is between two shown lines:
 -- for the clauses of `render_lines` and `render_snippets`.
-use Rattle.codespan_core.proofs.Std.{◌≡◌, ℕ, ◌-◌, ◌<◌, List, [], ◌∷◌, ◌++◌, length, drop, Bor}
-use Rattle.codespan_core.proofs.Std.{Option, None, refl, ap, arith, flat_map, slice_get}
-use Rattle.codespan_core.proofs.Std.{common_steps, nil_from_length}
+use Rattle.codespan_core.proofs.Std.{◌≡◌, ℕ, ◌-◌, ◌<◌, List, [], ◌∷◌}
+use Rattle.codespan_core.proofs.Std.{◌++◌, length, drop, Bor, Option, None, refl, ap, arith}
+use Rattle.codespan_core.proofs.Std.{flat_map, slice_get, common_steps, nil_from_length}
 use Rattle.std.specs.Option.{option_copied}
 use Rattle.std.specs.Slice.Iter.{iter_rest, iter_steps}
 use Rattle.std.specs.declared.slice.Iter.{Iter}
@@ -16,7 +16,8 @@ use Rattle.codespan_views.specs.Private.{lookups_with, Break, Filled, lookups_of
 
 module _ (hidden next : List Annotation) (d : ℕ) where
   -- one line
-  pub gap-filled : (n : ℕ) → n ≡ 1 → gap_lines hidden next d n ≡ Filled (d - 1) hidden ∷ []
+  pub gap-filled : (n : ℕ) → n ≡ 1
+      → gap_lines hidden next d n ≡ Filled (d - 1) hidden ∷ []
   gap-filled n is = ap (gap_lines hidden next d) is
 
   -- more

@@ -1,7 +1,8 @@
 -- The first lookup that fails, and the first error of lookups one after another, for the clauses
 -- `failed` of `collect_lines` and `collect`.
-use Rattle.codespan_core.proofs.Std.{common_steps, ◌≡◌, zero, suc, List, [], ◌∷◌, ◌++◌, Option}
-use Rattle.codespan_core.proofs.Std.{None, Some, refl, sym, ap, ◌∙◌, arith, map-append}
+use Rattle.codespan_core.proofs.Std.{common_steps, ◌≡◌, zero, suc, List, [], ◌∷◌}
+use Rattle.codespan_core.proofs.Std.{◌++◌, Option, None, Some, refl, sym, ap, ◌∙◌, arith}
+use Rattle.codespan_core.proofs.Std.{map-append}
 use Rattle.codespan_core.specs.FileModel.{Lookup, or_failure}
 use Rattle.codespan_output.specs.Types.{Error}
 use Rattle.codespan_output.specs.Lookups.{Failures, lookups_of_file, first_error, AllSucceed}
@@ -13,7 +14,8 @@ pub or_failure-none : (o : Option Error) → or_failure o None ≡ o
 or_failure-none o = grind (arith, common_steps)
 
 -- an error of the first lookups is that of all, whatever is looked up after them
-pub or_failure-some : (o p : Option Error) (e : Error) → o ≡ Some e → or_failure o p ≡ Some e
+pub or_failure-some : (o p : Option Error) (e : Error) → o ≡ Some e
+    → or_failure o p ≡ Some e
 or_failure-some o p e h = ap (λ (x : Option Error). or_failure x p) h
 
 module _ {Id : Type 0} (failure : Failures Id) where
@@ -25,7 +27,8 @@ module _ {Id : Type 0} (failure : Failures Id) where
   first_error-append (l ∷ ls) ms = grind (arith, common_steps, first_error-append ls ms)
 
   -- an error of some lookups is also that of these with more after them
-  pub first_error-some : (ls ms : List (Id × Lookup)) (e : Error) → first_error failure ls ≡ Some e
+  pub first_error-some : (ls ms : List (Id × Lookup)) (e : Error)
+      → first_error failure ls ≡ Some e
       → first_error failure (ls ++ ms) ≡ Some e
   first_error-some ls ms e h = grind (arith, common_steps, first_error-append)
 
@@ -34,7 +37,8 @@ module _ {Id : Type 0} (failure : Failures Id) where
       → first_error failure (ls ++ ms) ≡ first_error failure ms
   first_error-none ls ms h = grind (arith, common_steps, first_error-append)
 
-  first_succeeded : (o p : Option Error) → or_failure o p ≡ None → (o ≡ None) × (p ≡ None)
+  first_succeeded : (o p : Option Error) → or_failure o p ≡ None
+      → (o ≡ None) × (p ≡ None)
   first_succeeded o p h = grind (arith, common_steps)
 
   -- where nothing fails, each lookup succeeds

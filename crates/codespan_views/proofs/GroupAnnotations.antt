@@ -1,13 +1,13 @@
 -- The annotations of a line, for the rows that are made of them and so for the clauses of
 -- `render_snippets` and `RichDiagnostic::render`.
-use Rattle.codespan_core.proofs.Std.{common_steps, ◌≡◌, ℕ, false, ◌==◌, List, [], ◌∷◌, map, filter}
-use Rattle.codespan_core.proofs.Std.{reverse, refl, sym, ◌∙◌, arith, list_any, AllByRecursion}
-use Rattle.codespan_core.proofs.Std.{append-nil, filter_map-append, ◌&&◌}
+use Rattle.codespan_core.proofs.Std.{common_steps, ◌≡◌, ℕ, false, ◌==◌, List, []}
+use Rattle.codespan_core.proofs.Std.{◌∷◌, map, filter, reverse, refl, sym, ◌∙◌, arith}
+use Rattle.codespan_core.proofs.Std.{list_any, AllByRecursion, append-nil, filter_map-append}
+use Rattle.codespan_core.proofs.Std.{◌&&◌}
 use Rattle.std.proofs.lemmas.List.Elements.{filter_agree}
 use Rattle.codespan_core.specs.Labels.{LaneMark}
-use Rattle.codespan_views.specs.Private.{Annotation, AnnotationKind, rank_of, is_before}
-use Rattle.codespan_views.specs.Private.{shows_line, lane_marks_in}
-use Rattle.codespan_views.specs.Private.{single_label_of, single_labels_in}
+use Rattle.codespan_views.specs.Private.{Annotation, AnnotationKind, rank_of, is_before, shows_line}
+use Rattle.codespan_views.specs.Private.{lane_marks_in, single_label_of, single_labels_in}
 use Rattle.codespan_views.proofs.AnnotationGroups.{IsRising, are_shown}
 use Rattle.codespan_views.proofs.FileLabels.{has_label_range, is_of_range}
 use Rattle.codespan_views.proofs.AnnotationOrder.{kind_rises, line_rises, lane_mark_annotation}
@@ -59,14 +59,16 @@ single_labels-reverse (x ∷ xs) = grind
     (arith, common_steps, reverse-cons, filter_map-append, append-nil, single_labels-reverse xs)
 
 -- the first annotation of a line shows it if any does
-pub first-shows : (f l : ℕ) (g : List Annotation) → AllByRecursion (IsOn f l) g → Rises is_before g
+pub first-shows : (f l : ℕ) (g : List Annotation) → AllByRecursion (IsOn f l) g
+    → Rises is_before g
     → are_shown g ≡ list_any shows_line g
 first-shows f l [] on up = refl
 first-shows f l (x ∷ xs) on up = grind (arith, common_steps, any-nothing, later)
   where
     later : shows_line x ≡ false → AllByRecursion (λ y. shows_line y ≡ false) xs
     later t = all-weaker _ _
-        (λ y (h : IsOn f l y × (is_before y x ≡ false)). grind (arith, common_steps, kind_rises))
+        (λ y (h : IsOn f l y × (is_before y x ≡ false)). grind
+        (arith, common_steps, kind_rises))
         xs (all-both _ _ xs on.1 up.0)
 
 -- ---- annotations in order

@@ -1,11 +1,12 @@
 -- Headers of labels, one after another, each after the lookups of its locus, for the clauses
 -- `renders` of `render_headers` and `ShortDiagnostic::render`.
-use Rattle.codespan_core.proofs.Std.{◌≡◌, ◌≢◌, ◌≤◌, ℕ, ◌+◌, Bool, true, false, List, [], ◌∷◌, ◌++◌}
-use Rattle.codespan_core.proofs.Std.{length, map, flat_map, None, Some, Result, Ok, Err, inl, inr}
-use Rattle.codespan_core.proofs.Std.{refl, sym, ap, ◌∙◌, append-nil, append_assoc, arith, IfErr}
-use Rattle.codespan_core.proofs.Std.{AllZip, flat_map-append, length-append, length-map, map-append}
-use Rattle.codespan_core.proofs.Std.{take_all, take-append_seam, if◌then◌else◌, subst, take, drop}
-use Rattle.codespan_core.proofs.Std.{take-append-drop, filter-append}
+use Rattle.codespan_core.proofs.Std.{◌≡◌, ◌≢◌, ◌≤◌, ℕ, ◌+◌, Bool, true}
+use Rattle.codespan_core.proofs.Std.{false, List, [], ◌∷◌, ◌++◌, length, map, flat_map}
+use Rattle.codespan_core.proofs.Std.{None, Some, Result, Ok, Err, inl, inr, refl, sym, ap}
+use Rattle.codespan_core.proofs.Std.{◌∙◌, append-nil, append_assoc, arith, IfErr, AllZip}
+use Rattle.codespan_core.proofs.Std.{flat_map-append, length-append, length-map, map-append}
+use Rattle.codespan_core.proofs.Std.{take_all, take-append_seam, if◌then◌else◌, subst, take}
+use Rattle.codespan_core.proofs.Std.{drop, take-append-drop, filter-append}
 use Rattle.codespan_core.specs.Errors.{IsIo}
 use Rattle.codespan_core.specs.FileModel.{FileDatabase, Lookup}
 use Rattle.codespan_core.specs.Labels.{is_primary}
@@ -20,8 +21,7 @@ use Rattle.codespan_output.specs.OutputStreams.{header_text_of, labels_of}
 use Rattle.codespan_output.specs.Picture.{headers_at, stated_locus}
 use Rattle.codespan_output.specs.Rows.{Locus}
 use Rattle.codespan_output.specs.RowStreams.{stream_of_rows}
-use Rattle.codespan_output.specs.Snippets.{LabelInFile, has_any, note_rows, header_rows}
-use Rattle.codespan_output.specs.Snippets.{primary_of}
+use Rattle.codespan_output.specs.Snippets.{LabelInFile, has_any, note_rows, header_rows, primary_of}
 use Rattle.codespan_views.specs.{style_with_notes, WritesStyled}
 use Rattle.codespan_views.specs.Private.{IsUtf8Locus, header_row_with_newline}
 use Rattle.codespan_core.proofs.Chains.{WroteStream, WrotePrefix, known-after, written-then}
@@ -147,7 +147,8 @@ module _ {Id : Type 0} {config : Config} {files : FileDatabase Id} {d : Diagnost
 
     -- a prefix of its header has been written
     cut : (locus : Locus) {new : Sink}
-        → (is_known mid ≡ true → PrefixWritten mid (header_row_with_newline d (Some locus)) new)
+        → (is_known mid ≡ true
+        → PrefixWritten mid (header_row_with_newline d (Some locus)) new)
         → is_known old ≡ true → PrefixWritten old (short config d (loci_with locus)) new
     cut locus {new} wrote known =
         let now = before.wrote.1 known in
@@ -237,7 +238,8 @@ pub all_written : {Id : Type 0} {config : Config} {files : FileDatabase Id} {d :
     {i : ℕ} {has_header : Bool} {old mid new : Sink} (r : Result (Unit {0}) Error)
     → length d.labels.items ≤ i
     → HeadersWritten config files d (primary_before d i) has_header old mid
-    → Writes mid (if has_header then [] else header_row_with_newline d None) r new → IfErr r IsIo
+    → Writes mid (if has_header then [] else header_row_with_newline d None) r new
+    → IfErr r IsIo
     → WritesStyled Short config config files d old r new
 all_written {config = config} {files} {d} {i} {old = old} {new = new} r past written writes io =
     let all = rw (take_all i d.labels.items past) at written in

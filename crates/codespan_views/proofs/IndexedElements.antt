@@ -1,6 +1,7 @@
 -- Elements of lists at their indices, for the clauses of `collect` and `find_file`.
-use Rattle.codespan_core.proofs.Std.{common_steps, ◌≡◌, ℕ, ◌+◌, ◌<◌, List, [], ◌∷◌, ◌++◌, length}
-use Rattle.codespan_core.proofs.Std.{take, drop, get_or, arith, drop-cons, take_more}
+use Rattle.codespan_core.proofs.Std.{common_steps, ◌≡◌, ℕ, ◌+◌, ◌<◌, List, []}
+use Rattle.codespan_core.proofs.Std.{◌∷◌, ◌++◌, length, take, drop, get_or, arith}
+use Rattle.codespan_core.proofs.Std.{drop-cons, take_more}
 
 -- the element at an index of a list
 pub record IsElementAt {X : Type 0} (xs : List X) (index : ℕ) (x : X) : Type 0 where
@@ -8,7 +9,8 @@ pub record IsElementAt {X : Type 0} (xs : List X) (index : ℕ) (x : X) : Type 0
   pub is : x ≡ get_or xs index x
 
 -- it is there in an equal list
-pub element-equal : {X : Type 0} {ys xs : List X} {index : ℕ} {x : X} → ys ≡ xs → index < length ys
+pub element-equal : {X : Type 0} {ys xs : List X} {index : ℕ} {x : X} → ys ≡ xs
+    → index < length ys
     → x ≡ get_or ys index x → IsElementAt xs index x
 element-equal equal inside is = grind (arith, common_steps)
 
@@ -18,6 +20,7 @@ pub take-at : {X : Type 0} {xs : List X} {index : ℕ} {x : X} → IsElementAt x
 take-at at = grind (arith, common_steps, take_more)
 
 -- the elements from one on: that one, and those after it
-pub drop-one : {X : Type 0} (xs : List X) (k : ℕ) (x : X) → k < length xs → x ≡ get_or xs k x
+pub drop-one : {X : Type 0} (xs : List X) (k : ℕ) (x : X) → k < length xs
+    → x ≡ get_or xs k x
     → drop k xs ≡ x ∷ drop (k + 1) xs
 drop-one {X} xs k x inside is = grind (arith, common_steps, drop-cons, inside, is)

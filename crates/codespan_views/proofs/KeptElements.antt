@@ -1,10 +1,11 @@
 -- The elements of a list that are kept: their numbers pass a test. For the clause `permutation` of
 -- `follow_chains`.
-use Rattle.codespan_core.proofs.Std.{common_steps, ◌≡◌, ℕ, zero, suc, ◌<◌, ◌≤◌, Bool, true, false}
-use Rattle.codespan_core.proofs.Std.{cond, List, [], ◌∷◌, ◌++◌, length, set, get_or, refl, subst}
-use Rattle.codespan_core.proofs.Std.{arith, IsPermutation, append_assoc, length-append}
-use Rattle.codespan_core.proofs.Std.{nil_from_length, IsPermutation-refl, IsPermutation-trans}
-use Rattle.codespan_core.proofs.Std.{IsPermutation-sym, IsPermutation-cons, ◌+◌}
+use Rattle.codespan_core.proofs.Std.{common_steps, ◌≡◌, ℕ, zero, suc, ◌<◌, ◌≤◌}
+use Rattle.codespan_core.proofs.Std.{Bool, true, false, cond, List, [], ◌∷◌, ◌++◌, length}
+use Rattle.codespan_core.proofs.Std.{set, get_or, refl, subst, arith, IsPermutation, append_assoc}
+use Rattle.codespan_core.proofs.Std.{length-append, nil_from_length, IsPermutation-refl}
+use Rattle.codespan_core.proofs.Std.{IsPermutation-trans, IsPermutation-sym, IsPermutation-cons}
+use Rattle.codespan_core.proofs.Std.{◌+◌}
 use Rattle.std.proofs.lemmas.List.Sorted.{IsPermutation-middle, IsPermutation-push_more}
 use Rattle.std.proofs.lemmas.List.Sorted.{length_permutation}
 
@@ -27,7 +28,8 @@ module _ {X : Type 0} (p : ℕ → Bool) where
   )
 
   -- a number that passes takes the index of one that does not: one more is kept
-  pub kept-set : (ns : List ℕ) (xs : List X) (i m : ℕ) (y : X) → i < length ns → i < length xs
+  pub kept-set : (ns : List ℕ) (xs : List X) (i m : ℕ) (y : X) → i < length ns
+      → i < length xs
       → p (get_or ns i 0) ≡ false → p m ≡ true → y ≡ get_or xs i y
       → IsPermutation (y ∷ kept ns xs) (kept (set ns i m) xs)
   kept-set [] xs i m y h k out passes is = absurd (omega arith)
@@ -44,7 +46,8 @@ module _ {X : Type 0} (p : ℕ → Bool) where
   length-kept-le (n ∷ ns) (x ∷ xs) = grind (arith, common_steps, length-kept-le ns xs)
 
   -- where as many are kept as there are, all are
-  pub kept-all : (ns : List ℕ) (xs : List X) → length (kept ns xs) ≡ length xs → kept ns xs ≡ xs
+  pub kept-all : (ns : List ℕ) (xs : List X) → length (kept ns xs) ≡ length xs
+      → kept ns xs ≡ xs
   kept-all [] xs h = grind (arith, common_steps, nil_from_length)
   kept-all (n ∷ ns) [] h = refl
   kept-all (n ∷ ns) (x ∷ xs) h = grind
@@ -61,7 +64,8 @@ module _ {X : Type 0} (p : ℕ → Bool) where
       → AreKept ms (set ns i m) xs (ys ++ y ∷ []) × (length ys < length xs)
   AreKept-more ms ns xs ys i m y h long inside out passes is =
       let more : AreKept ms (set ns i m) xs (ys ++ y ∷ []) =
-      subst (λ zs. IsPermutation zs (kept (set ns i m) xs)) (append_assoc (kept ms xs) ys (y ∷ []))
+      subst (λ zs. IsPermutation zs (kept (set ns i m) xs))
+      (append_assoc (kept ms xs) ys (y ∷ []))
       (IsPermutation-push_more _ _ _ y h
       (kept-set ns xs i m y (omega arith) inside out passes is)) in
       let room : length ys < length xs =
@@ -69,7 +73,8 @@ module _ {X : Type 0} (p : ℕ → Bool) where
       (more, room)
 
   -- where they are as many as xs, they are all of xs
-  pub AreKept-all : (ms ns : List ℕ) (xs ys : List X) → AreKept ms ns xs ys → length ys ≡ length xs
+  pub AreKept-all : (ms ns : List ℕ) (xs ys : List X) → AreKept ms ns xs ys
+      → length ys ≡ length xs
       → IsPermutation xs ys
   AreKept-all ms ns xs ys h long =
       let sizes : length (kept ns xs) ≡ length (kept ms xs) + length ys =

@@ -1,9 +1,9 @@
 -- The annotations of one label on one line, for the clause `collected` of `collect`.
-use Rattle.codespan_core.proofs.Std.{common_steps, rules, ◌≡◌, ℕ, ◌<◌, Bool, false, cond, ◌==◌}
-use Rattle.codespan_core.proofs.Std.{nat_lt, ◌&&◌, List, [], ◌∷◌, filter, None, refl, ◌∙◌, ap}
-use Rattle.codespan_core.proofs.Std.{arith, option_map, list_any, AllByRecursion, append-nil}
-use Rattle.codespan_core.proofs.Std.{filter-append, list_any-append, nat_tests, Option, Some, true}
-use Rattle.codespan_core.proofs.Std.{◌++◌}
+use Rattle.codespan_core.proofs.Std.{common_steps, rules, ◌≡◌, ℕ, ◌<◌, Bool, false}
+use Rattle.codespan_core.proofs.Std.{cond, ◌==◌, nat_lt, ◌&&◌, List, [], ◌∷◌, filter}
+use Rattle.codespan_core.proofs.Std.{None, refl, ◌∙◌, ap, arith, option_map, list_any}
+use Rattle.codespan_core.proofs.Std.{AllByRecursion, append-nil, filter-append, list_any-append}
+use Rattle.codespan_core.proofs.Std.{nat_tests, Option, Some, true, ◌++◌}
 use Rattle.std.proofs.Math.Bool.{and-false}
 use Rattle.codespan_core.specs.FileModel.{FileModel, line_count}
 use Rattle.codespan_core.specs.Labels.{LabelModel, first_line, last_line, is_single, drawn_label}
@@ -100,7 +100,8 @@ module _ (config : Config) (f : FileModel) (file_index index lane : ℕ) (x : La
       (shows config (first_line f x) (last_line f x) l) _
       (own_shown config (first_line f x) (last_line f x) l)
     where
-      by_kind : (single own shown : Bool) (m : Option LaneMark) → (own ≡ true → shown ≡ true)
+      by_kind : (single own shown : Bool) (m : Option LaneMark)
+          → (own ≡ true → shown ≡ true)
           → list_any shows_line
           (annotation_if_any file_index l
           (cond (single && own) (Some (Single index (drawn_label f x)))

@@ -1,8 +1,9 @@
 -- The files of labels, one label after another, and those of the labels up to one: for the clause
 -- `collected` of `collect`.
-use Rattle.codespan_core.proofs.Std.{common_steps, ◌≡◌, Bool, true, false, List, [], ◌∷◌, ◌++◌, map}
-use Rattle.codespan_core.proofs.Std.{arith, sym, ap, ◌∙◌, IsEquivalence, AllByRecursion, map-append}
-use Rattle.codespan_core.proofs.Std.{ℕ, ◌+◌, take, take-append-drop, drop}
+use Rattle.codespan_core.proofs.Std.{common_steps, ◌≡◌, Bool, true, false, List, []}
+use Rattle.codespan_core.proofs.Std.{◌∷◌, ◌++◌, map, arith, sym, ap, ◌∙◌}
+use Rattle.codespan_core.proofs.Std.{IsEquivalence, AllByRecursion, map-append, ℕ, ◌+◌, take}
+use Rattle.codespan_core.proofs.Std.{take-append-drop, drop}
 use Rattle.codespan_output.specs.Types.{Label}
 use Rattle.codespan_output.specs.Snippets.{LabelInFile, file_ids}
 use Rattle.codespan_views.specs.Private.{with_file, index_of_file}
@@ -11,7 +12,8 @@ use Rattle.codespan_views.proofs.FileIndices.{file_ids-last}
 use Rattle.codespan_output.specs.OutputStreams.{label_of}
 use Rattle.codespan_views.proofs.IndexedElements.{IsElementAt, take-at}
 
-module _ {Id : Type 0} {same : Id → Id → Bool} (o : IsEquivalence same) (xs : List (LabelInFile Id))
+module _ {Id : Type 0} {same : Id → Id → Bool} (o : IsEquivalence same)
+    (xs : List (LabelInFile Id))
     (x : LabelInFile Id) where
   -- the files of the labels
   abbrev were : List Id
@@ -25,7 +27,8 @@ module _ {Id : Type 0} {same : Id → Id → Bool} (o : IsEquivalence same) (xs 
   pub known-more : {A : Type 0} {d : A} {known now : List A} (h : Id → A)
       → (AllByRecursion (λ (y : LabelInFile Id). same x.file_id y.file_id ≡ false) xs
       → h x.file_id ≡ d)
-      → known ≡ map h were → now ≡ with_file same were x.file_id known d → now ≡ map h are
+      → known ≡ map h were → now ≡ with_file same were x.file_id known d
+      → now ≡ map h are
   known-more {A} {d} {known} h new was is = grind (
     arith,
     common_steps,

@@ -1,10 +1,11 @@
 -- The files of ids, and the indices and lanes of labels, one label after another, for the clause
 -- `collected` of `collect`.
-use Rattle.codespan_core.proofs.Std.{common_steps, ◌≡◌, ℕ, ◌+◌, ◌<◌, ◌≤◌, Bool, true, false, List}
-use Rattle.codespan_core.proofs.Std.{[], ◌∷◌, ◌++◌, length, get_or, set, map, refl, sym, subst}
-use Rattle.codespan_core.proofs.Std.{arith, true≢false, filter, if◌then◌else◌, IsEquivalence}
-use Rattle.codespan_core.proofs.Std.{AllByRecursion, append-nil, append_assoc, length-append}
-use Rattle.codespan_core.proofs.Std.{length-map, map-append, filter-append, count_by-le-length}
+use Rattle.codespan_core.proofs.Std.{common_steps, ◌≡◌, ℕ, ◌+◌, ◌<◌, ◌≤◌}
+use Rattle.codespan_core.proofs.Std.{Bool, true, false, List, [], ◌∷◌, ◌++◌, length}
+use Rattle.codespan_core.proofs.Std.{get_or, set, map, refl, sym, subst, arith, true≢false}
+use Rattle.codespan_core.proofs.Std.{filter, if◌then◌else◌, IsEquivalence, AllByRecursion}
+use Rattle.codespan_core.proofs.Std.{append-nil, append_assoc, length-append, length-map}
+use Rattle.codespan_core.proofs.Std.{map-append, filter-append, count_by-le-length}
 use Rattle.std.proofs.lemmas.List.Sums.{length-filter}
 use Rattle.codespan_core.specs.FileModel.{FileDatabase, FileModel, line_count}
 use Rattle.codespan_core.specs.LawfulFiles.{IsLawful}
@@ -41,7 +42,8 @@ are-files is equivalence same_file lawful = record {
 abbrev pub label_lanes : FileModel → LabelModel → ℕ
 label_lanes f x = if is_single f x then 0 else 1
 
-module _ {Id A : Type 0} {same : Id → Id → Bool} (o : IsEquivalence same) {i : Id} {h more : Id → A}
+module _ {Id A : Type 0} {same : Id → Id → Bool} (o : IsEquivalence same) {i : Id}
+    {h more : Id → A}
     (others : (j : Id) → same j i ≡ false → more j ≡ h j) where
   -- where what is kept for an id changes, it stays for ids that differ from one that is the same
   others-stay : (j : Id) → same j i ≡ true → (ks : List Id)
@@ -50,7 +52,8 @@ module _ {Id A : Type 0} {same : Id → Id → Bool} (o : IsEquivalence same) {i
   others-stay j t (k ∷ ks) apart = grind (arith, common_steps, others-stay j t ks)
 
   -- so only what is kept at the id's index changes
-  pub set-at : (ids : List Id) (d : Id) (v : A) → AreDistinct same ids → has same o ids i ≡ true
+  pub set-at : (ids : List Id) (d : Id) (v : A) → AreDistinct same ids
+      → has same o ids i ≡ true
       → v ≡ more (get_or ids (index_of_file same ids i) d)
       → set (map h ids) (index_of_file same ids i) v ≡ map more ids
   set-at [] d v differ there is = absurd (true≢false (sym there))
@@ -61,7 +64,8 @@ module _ {Id A : Type 0} {same : Id → Id → Bool} (o : IsEquivalence same) {i
 pub num_multi_labels_of-equal : {Id : Type 0} {database : FileDatabase Id}
     (lawful : AreFiles database) (before : List (LabelInFile Id)) (i j : Id)
     → database.same i j ≡ true
-    → num_multi_labels_of database.same database.file before i ≡ num_multi_labels_of database.same
+    → num_multi_labels_of database.same database.file before i
+    ≡ num_multi_labels_of database.same
     database.file before j
 num_multi_labels_of-equal {Id} lawful before i j t = λ k. num_multi_labels (record {
   file = lawful.one_file i j t k;
@@ -85,7 +89,8 @@ module _ {Id : Type 0} (same : Id → Id → Bool) (file : Id → FileModel) whe
 
   -- the lanes with one more label
   pub num_multi_labels_of-more : (before : List (LabelInFile Id)) (x : LabelInFile Id) (id : Id)
-      → num_multi_labels_of same file (before ++ x ∷ []) id ≡ num_multi_labels_of same file before
+      → num_multi_labels_of same file (before ++ x ∷ []) id
+      ≡ num_multi_labels_of same file before
       id + (if same id x.file_id then label_lanes (file id) x.label else 0)
   num_multi_labels_of-more before x id = grind
       (arith, common_steps, filter-append, map-append, length-append, append-nil)
@@ -121,5 +126,9 @@ module _ {Id : Type 0} (same : Id → Id → Bool) (file : Id → FileModel) whe
       ≡ annotations_after same file config ids before xs
       ++ annotations_of_next same file config ids (before ++ xs) x
   annotations_after-more config ids before [] x = grind (arith, common_steps, append-nil)
-  annotations_after-more config ids before (y ∷ ys) x = grind
-      (arith, common_steps, append_assoc, annotations_after-more config ids (before ++ y ∷ []) ys x)
+  annotations_after-more config ids before (y ∷ ys) x = grind (
+    arith,
+    common_steps,
+    append_assoc,
+    annotations_after-more config ids (before ++ y ∷ []) ys x,
+  )

@@ -1,10 +1,10 @@
 -- The annotations of the labels of a diagnostic, collected one label after another and then put in
 -- order: for the clauses `collected` and `failed` of `collect`.
-use Rattle.codespan_core.proofs.Std.{◌≡◌, ℕ, ◌+◌, ◌<◌, Bool, true, List, [], ◌∷◌, ◌++◌, length}
-use Rattle.codespan_core.proofs.Std.{drop, get_or, set, map, Option, Some, None, refl, sym, ap, ◌∙◌}
-use Rattle.codespan_core.proofs.Std.{subst, ◌^◌, arith, fold, max, IsEquivalence, eq-eqb}
-use Rattle.codespan_core.proofs.Std.{common_steps, flat_map-append, append-nil, length-map}
-use Rattle.codespan_core.proofs.Std.{length-take-le}
+use Rattle.codespan_core.proofs.Std.{◌≡◌, ℕ, ◌+◌, ◌<◌, Bool, true, List, []}
+use Rattle.codespan_core.proofs.Std.{◌∷◌, ◌++◌, length, drop, get_or, set, map, Option}
+use Rattle.codespan_core.proofs.Std.{Some, None, refl, sym, ap, ◌∙◌, subst, ◌^◌, arith}
+use Rattle.codespan_core.proofs.Std.{fold, max, IsEquivalence, eq-eqb, common_steps}
+use Rattle.codespan_core.proofs.Std.{flat_map-append, append-nil, length-map, length-take-le}
 use Rattle.std.proofs.lemmas.List.{map-set}
 use Rattle.codespan_core.specs.FileModel.{FileDatabase, FileModel}
 use Rattle.codespan_core.specs.FileModel.Lookup.{LineIndex}
@@ -49,7 +49,8 @@ pub record AreCollected {Id : Type 0} (database : FileDatabase Id) (config : Con
   pub succeeded : labels_failure config database done ≡ None
 
 -- a label of the files of a database, by the index of its file, its own index, and its lane
-abbrev pub label_to_collect : {Id : Type 0} → FileDatabase Id → Config → ℕ → ℕ → ℕ → Label Id
+abbrev pub label_to_collect : {Id : Type 0} → FileDatabase Id → Config → ℕ → ℕ → ℕ
+    → Label Id
     → LabelToCollect Id
 label_to_collect database config file_index index lane label = record {
   file_id = label.file_id;
@@ -128,7 +129,8 @@ module _ {Id : Type 0} {database : FileDatabase Id} (lawful : AreFiles database)
       (index_of_file same all label.file_id) index lane (label_of label).label
 
   -- where those of the labels before it succeed, its lookups fail with what all up to it do
-  failures-next : (config : Config) → labels_failure config database (before labels index) ≡ None
+  failures-next : (config : Config)
+      → labels_failure config database (before labels index) ≡ None
       → labels_failure config database (before labels index ++ label_of label ∷ [])
       ≡ label_failure database config label
   failures-next config none = grind

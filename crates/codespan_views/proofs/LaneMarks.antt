@@ -1,8 +1,9 @@
 -- The order of the lane marks on a line, for the clauses `in_order` of `render_line` and
 -- `render_break`, and those of `render_snippets` and `RichDiagnostic::render`.
-use Rattle.codespan_core.proofs.Std.{common_steps, ◌≡◌, ℕ, ◌+◌, ◌≤◌, true, ◌&&◌, List, [], ◌∷◌}
-use Rattle.codespan_core.proofs.Std.{length, map, refl, arith, nat_le, nat_lt, AllByRecursion}
-use Rattle.codespan_core.proofs.Std.{enumerate_from, filter_map, nat_tests, and_parts}
+use Rattle.codespan_core.proofs.Std.{common_steps, ◌≡◌, ℕ, ◌+◌, ◌≤◌, true}
+use Rattle.codespan_core.proofs.Std.{◌&&◌, List, [], ◌∷◌, length, map, refl, arith}
+use Rattle.codespan_core.proofs.Std.{nat_le, nat_lt, AllByRecursion, enumerate_from, filter_map}
+use Rattle.codespan_core.proofs.Std.{nat_tests, and_parts}
 use Rattle.codespan_core.specs.FileModel.{FileModel}
 use Rattle.codespan_core.specs.Labels.{LabelModel, LaneMark, lane_mark_of, lane_marks_on}
 use Rattle.codespan_core.specs.Labels.{multi_label_on}
@@ -50,7 +51,8 @@ ascend-above count least (m ∷ ms) up = grind
     (arith, common_steps, nat_tests, and_parts, all-weaker, ascend-above count (m.lane + 1) ms)
 
 -- their annotations ascend
-pub ascend-climbs : (f l count least : ℕ) (ms : List LaneMark) → ascend_from count least ms ≡ true
+pub ascend-climbs : (f l count least : ℕ) (ms : List LaneMark)
+    → ascend_from count least ms ≡ true
     → Climbs is_before (map (lane_mark_annotation f l) ms)
 ascend-climbs f l count least [] up = tt
 ascend-climbs f l count least (m ∷ ms) up =

@@ -1,13 +1,13 @@
 -- The lines of a range, and those that are not looked up for a label, for the clause `collected`
 -- of `collect`.
-use Rattle.codespan_core.proofs.Std.{common_steps, ◌≡◌, ◌≢◌, ℕ, zero, suc, ◌+◌, ◌<◌, Bool, true}
-use Rattle.codespan_core.proofs.Std.{false, cond, ◌==◌, nat_lt, nat_le, ◌&&◌, ◌||◌, List, []}
-use Rattle.codespan_core.proofs.Std.{filter, flat_map, None, arith, range_with_len, AllByRecursion}
-use Rattle.codespan_core.proofs.Std.{eq-eqb, ne_eqb, nat_tests, append-nil, filter-append}
+use Rattle.codespan_core.proofs.Std.{common_steps, ◌≡◌, ◌≢◌, ℕ, zero, suc, ◌+◌}
+use Rattle.codespan_core.proofs.Std.{◌<◌, Bool, true, false, cond, ◌==◌, nat_lt, nat_le}
+use Rattle.codespan_core.proofs.Std.{◌&&◌, ◌||◌, List, [], filter, flat_map, None, arith}
+use Rattle.codespan_core.proofs.Std.{range_with_len, AllByRecursion, eq-eqb, ne_eqb, nat_tests}
+use Rattle.codespan_core.proofs.Std.{append-nil, filter-append}
 use Rattle.codespan_core.specs.Labels.{LabelModel, multi_label_at}
 use Rattle.codespan_output.specs.Types.{Config}
-use Rattle.codespan_output.specs.Lines.{shows}
-use Rattle.codespan_output.specs.Lines.{is_around}
+use Rattle.codespan_output.specs.Lines.{shows, is_around}
 use Rattle.codespan_views.specs.Private.{Annotation, rank_of, is_on_line}
 use Rattle.codespan_output.proofs.ListElements.{all-append, filter-whole, filter-nothing}
 use Rattle.codespan_output.proofs.ListElements.{all-weaker}
@@ -27,13 +27,15 @@ pub among-below : (n l : ℕ) → is_among 0 n l ≡ nat_lt l n
 among-below n l = let e : 0 + n ≡ n = omega arith in grind (arith, nat_tests)
 
 -- what holds of the elements of each line of a range holds of all
-pub all-range : (P : Annotation → Type 0) (g : ℕ → List Annotation) (p : ℕ → Bool) (n a : ℕ)
+pub all-range : (P : Annotation → Type 0) (g : ℕ → List Annotation) (p : ℕ → Bool)
+    (n a : ℕ)
     → ((l : ℕ) → l < a + n → AllByRecursion P (g l))
     → AllByRecursion P (flat_map g (filter p (range_with_len a n)))
 all-range P g p zero a h = tt
 all-range P g p (suc n) a h = grind (arith, common_steps, all-append, all-range P g p n (a + 1))
 
-module _ (g : ℕ → List Annotation) (own : (l : ℕ) → AllByRecursion (λ e. e.line ≡ l) (g l))
+module _ (g : ℕ → List Annotation)
+    (own : (l : ℕ) → AllByRecursion (λ e. e.line ≡ l) (g l))
     (p : ℕ → Bool) where
   -- the elements of a line are kept for it
   keeps-own : (l : ℕ) → filter (is_on_line l) (g l) ≡ g l

@@ -1,8 +1,8 @@
 -- Snippet lines that are rendered one after another, what is written and what is looked up, for the
 -- clauses of `render_lines`.
-use Rattle.codespan_core.proofs.Std.{map-append, ◌≡◌, ℕ, List, [], ◌∷◌, ◌++◌, length, drop, Option}
-use Rattle.codespan_core.proofs.Std.{Ok, Err, refl, ◌∙◌, drop-drop, flat_map-append, append-nil}
-use Rattle.codespan_core.proofs.Std.{arith, common_steps}
+use Rattle.codespan_core.proofs.Std.{map-append, ◌≡◌, ℕ, List, [], ◌∷◌, ◌++◌}
+use Rattle.codespan_core.proofs.Std.{length, drop, Option, Ok, Err, refl, ◌∙◌, drop-drop}
+use Rattle.codespan_core.proofs.Std.{flat_map-append, append-nil, arith, common_steps}
 use Rattle.codespan_core.specs.FileModel.{FileDatabase, or_failure}
 use Rattle.codespan_core.specs.Streams.{Stream}
 use Rattle.codespan_core.specs.WriterLaw.{Sink}
@@ -34,7 +34,8 @@ module _ {F Id Name Source : Type 0} (database : F → FileDatabase Id)
   numbers_after numbers xs = drop (length (filled_lines_of xs)) numbers
 
   -- these snippet lines are left of others, with these numbers, and they have what all have
-  pub record LinesLeft (numbers : List ℕ) (whole : List SnippetLine) (old : Sink) (left : List ℕ)
+  pub record LinesLeft (numbers : List ℕ) (whole : List SnippetLine) (old : Sink)
+      (left : List ℕ)
       (rest : List SnippetLine) (now : Sink) : Type 0 where
     pub is_left : IsLeft (lookups numbers whole) old (rows whole) (lookups left rest) now
         (rows rest)
@@ -42,7 +43,8 @@ module _ {F Id Name Source : Type 0} (database : F → FileDatabase Id)
     pub has : HasLines database snippet left rest
 
   -- the rows of a line, and then of others
-  rows-cons : (x : SnippetLine) (ys : List SnippetLine) → rows (x ∷ ys) ≡ rows (x ∷ []) ++ rows ys
+  rows-cons : (x : SnippetLine) (ys : List SnippetLine)
+      → rows (x ∷ ys) ≡ rows (x ∷ []) ++ rows ys
   rows-cons x ys = grind (arith, common_steps, flat_map-append, append-nil)
 
   -- the lookups

@@ -1,8 +1,8 @@
 -- The loci of files, looked up one after another, each of which its file keeps: for the clauses of
 -- `find_loci`.
-use Rattle.codespan_core.proofs.Std.{◌≡◌, ℕ, ◌+◌, List, [], ◌∷◌, length, take, drop, set, None}
-use Rattle.codespan_core.proofs.Std.{Some, sym, ap, ◌∙◌, AllByRecursion, get_or_default, length-map}
-use Rattle.codespan_core.proofs.Std.{arith, common_steps}
+use Rattle.codespan_core.proofs.Std.{◌≡◌, ℕ, ◌+◌, List, [], ◌∷◌, length, take}
+use Rattle.codespan_core.proofs.Std.{drop, set, None, Some, sym, ap, ◌∙◌, AllByRecursion}
+use Rattle.codespan_core.proofs.Std.{get_or_default, length-map, arith, common_steps}
 use Rattle.std.proofs.Math.Seq.{map-set_same}
 use Rattle.std.proofs.lemmas.List.{drop-set-lt, take_more_set}
 use Rattle.codespan_core.specs.FileModel.{FileModel, Lookup, or_failure}
@@ -46,11 +46,13 @@ module _ {Id : Type 0} {file : Id → FileModel} {failure : Failures Id}
         grind (arith, common_steps, first_error-append)
 
     -- it has its locus
-    pub loci-more : (new : RustFile Id) → without_locus new ≡ without_locus f → HasLocus file new
+    pub loci-more : (new : RustFile Id) → without_locus new ≡ without_locus f
+        → HasLocus file new
         → first_error failure (locus_lookups_of f) ≡ None
         → LociFound file failure old (set now k new) (k + 1)
     loci-more new same locus succeeded = record {
-      kept = map-set_same without_locus now k new f (same ∙ ap without_locus at.is) ∙ found.kept;
+      kept = map-set_same without_locus now k new f (same ∙ ap without_locus at.is)
+          ∙ found.kept;
       loci = grind (arith, common_steps, take_more_set, all-append);
       failed = grind (arith, common_steps, drop-set-lt, own_next);
     }

@@ -1,8 +1,9 @@
 -- Where the snippets of files start, one label after another, for the clause `collected` of
 -- `collect`.
-use Rattle.codespan_core.proofs.Std.{common_steps, rules, arith, ◌≡◌, ℕ, Bool, true, false, List}
-use Rattle.codespan_core.proofs.Std.{[], ◌∷◌, ◌++◌, Some, append-nil, if◌then◌else◌, AllByRecursion}
-use Rattle.codespan_core.proofs.Std.{map-append, filter-append, fold-append, not, ◌&&◌, ◌||◌}
+use Rattle.codespan_core.proofs.Std.{common_steps, rules, arith, ◌≡◌, ℕ, Bool, true, false}
+use Rattle.codespan_core.proofs.Std.{List, [], ◌∷◌, ◌++◌, Some, append-nil}
+use Rattle.codespan_core.proofs.Std.{if◌then◌else◌, AllByRecursion, map-append, filter-append}
+use Rattle.codespan_core.proofs.Std.{fold-append, not, ◌&&◌, ◌||◌}
 use Rattle.codespan_core.specs.Labels.{is_primary}
 use Rattle.codespan_output.specs.Snippets.{LabelInFile}
 use Rattle.codespan_views.specs.Private.{file_least_starts, least_if_any, least_with, no_starts}

@@ -1,8 +1,9 @@
 -- Rendering with lookups on the way, part by part: what has been written, what was looked up, and
 -- what an error cut short. For the clauses of `render`, `render_snippets`, `render_line` and
 -- `render_break`.
-use Rattle.codespan_core.proofs.Std.{ap, ◌≡◌, ◌≢◌, [], ◌++◌, Option, None, Some, Result, Ok, Err}
-use Rattle.codespan_core.proofs.Std.{inl, inr, ⊎_elim, refl, sym, subst, ◌∙◌, IfErr, IsErrOf}
+use Rattle.codespan_core.proofs.Std.{ap, ◌≡◌, ◌≢◌, [], ◌++◌, Option, None, Some}
+use Rattle.codespan_core.proofs.Std.{Result, Ok, Err, inl, inr, ⊎_elim, refl, sym, subst}
+use Rattle.codespan_core.proofs.Std.{◌∙◌, IfErr, IsErrOf}
 use Rattle.codespan_core.specs.Errors.{IsIo}
 use Rattle.codespan_core.specs.FileModel.{or_failure}
 use Rattle.codespan_core.specs.Streams.{Stream}
@@ -17,7 +18,8 @@ use Rattle.codespan_views.proofs.Renderings.{PrefixWritten-none}
 -- ---- one part
 
 -- a lookup that succeeds writes nothing
-pub run_of_lookup : {o : Option Error} {s : Sink} → o ≡ None → WritesWithLookups o s [] (Ok tt) s
+pub run_of_lookup : {o : Option Error} {s : Sink} → o ≡ None
+    → WritesWithLookups o s [] (Ok tt) s
 run_of_lookup {s = s} succeeded =
     record { ends = (succeeded, (refl, λ known. sym (with_written-nil s))) }
 
@@ -86,7 +88,8 @@ run_cut p b {o} {s} {t} {a} {e} part = record {
 }
 
 -- an equal error and an equal stream
-pub run_as : {o p : Option Error} {s t : Sink} {a b : Stream} {r : Result (Unit {0}) Error} → o ≡ p
+pub run_as : {o p : Option Error} {s t : Sink} {a b : Stream} {r : Result (Unit {0}) Error}
+    → o ≡ p
     → a ≡ b → WritesWithLookups o s a r t → WritesWithLookups p s b r t
 run_as same_failure same_stream part = rw (← same_failure, ← same_stream) part
 
@@ -100,7 +103,8 @@ pub record IsLeft (failure : Option Error) (old : Sink) (whole : Stream) (later 
       → WritesWithLookups failure old whole r new
 
 -- the same is left, with an equal error and an equal stream
-pub left_as : {failure o p : Option Error} {old s : Sink} {whole a b : Stream} → o ≡ p → a ≡ b
+pub left_as : {failure o p : Option Error} {old s : Sink} {whole a b : Stream} → o ≡ p
+    → a ≡ b
     → IsLeft failure old whole o s a → IsLeft failure old whole p s b
 left_as same_failure same_stream left =
     record {

@@ -1,7 +1,8 @@
 -- The rows of notes, one note after another, for the clauses of `render_notes` and
 -- `render_closing`.
-use Rattle.codespan_core.proofs.Std.{◌≡◌, ℕ, ◌+◌, List, [], ◌∷◌, ◌++◌, take, drop, map, refl, ap}
-use Rattle.codespan_core.proofs.Std.{flat_map-append, append-nil, map-append, take-append-drop}
+use Rattle.codespan_core.proofs.Std.{◌≡◌, ℕ, ◌+◌, List, [], ◌∷◌, ◌++◌, take}
+use Rattle.codespan_core.proofs.Std.{drop, map, refl, ap, flat_map-append, append-nil, map-append}
+use Rattle.codespan_core.proofs.Std.{take-append-drop}
 use Rattle.std.specs.Str.Lines.{lines}
 use Rattle.codespan_core.specs.Streams.{Stream, newline}
 use Rattle.codespan_output.specs.Rows.{RowContext, FinalRow, LaterNoteRow}
@@ -20,7 +21,8 @@ module _ (context : RowContext) where
 
   -- the rows of a note are its stream
   note-rows : (ps : List (List ℕ))
-      → stream_of_rows context (note_line_rows ps) ≡ note_stream context.chars context.padding ps
+      → stream_of_rows context (note_line_rows ps)
+      ≡ note_stream context.chars context.padding ps
   note-rows [] = refl
   note-rows (p ∷ ps) =
       ap (λ (s : Stream). (first_note_row context.chars context.padding p ++ newline) ++ s)

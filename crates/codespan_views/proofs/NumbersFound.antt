@@ -1,8 +1,8 @@
 -- The numbers of filled lines, looked up one after another, and the padding width: for the clauses
 -- of `find_numbers_of_file` and `find_numbers`.
-use Rattle.codespan_core.proofs.Std.{arith, ◌≡◌, ℕ, zero, suc, ◌+◌, ◌-◌, List, [], ◌∷◌, ◌++◌, drop}
-use Rattle.codespan_core.proofs.Std.{max, Option, None, Some, refl, append_assoc, ◌≢◌, fold}
-use Rattle.codespan_core.proofs.Std.{common_steps}
+use Rattle.codespan_core.proofs.Std.{arith, ◌≡◌, ℕ, zero, suc, ◌+◌, ◌-◌, List, []}
+use Rattle.codespan_core.proofs.Std.{◌∷◌, ◌++◌, drop, max, Option, None, Some, refl}
+use Rattle.codespan_core.proofs.Std.{append_assoc, ◌≢◌, fold, common_steps}
 use Rattle.std.proofs.Math.Nat.{max_comm}
 use Rattle.codespan_core.specs.FileModel.{FileModel, Lookup}
 use Rattle.codespan_core.specs.FileModel.Lookup.{LineNumber}
@@ -43,7 +43,8 @@ module _ {Id : Type 0} {failure : Failures Id} {id : Id} {f : FileModel} {whole 
   left-same same left = rw (← same) left
 
   -- no number is looked up where not one line is between two shown lines
-  pub left-no_gap : {rest : List SnippetLine} (hidden next : List Annotation) (d n : ℕ) → n ≢ 1
+  pub left-no_gap : {rest : List SnippetLine} (hidden next : List Annotation) (d n : ℕ)
+      → n ≢ 1
       → NumbersLeft failure id f whole (gap_lines hidden next d n ++ rest) old now digits widened
       → NumbersLeft failure id f whole rest old now digits widened
   left-no_gap hidden next d zero other left = left
@@ -76,7 +77,8 @@ module _ {Id : Type 0} {failure : Failures Id} {id : Id} {f : FileModel} {whole 
 
   -- the number of a shown line is known
   pub left-shown : {rest : List SnippetLine} (l : ℕ) (own : List Annotation) (number : ℕ)
-      → number ≡ f.line_number l → {wider : ℕ} → wider ≡ max (count_digits number) widened
+      → number ≡ f.line_number l → {wider : ℕ}
+      → wider ≡ max (count_digits number) widened
       → NumbersLeft failure id f whole (Labeled l own ∷ rest) old now digits widened
       → NumbersLeft failure id f whole rest old now digits wider
   left-shown l own number is wide left = record {
@@ -87,27 +89,31 @@ module _ {Id : Type 0} {failure : Failures Id} {id : Id} {f : FileModel} {whole 
 
 -- ---- files
 
-module _ {Id : Type 0} (file : Id → FileModel) (failure : Failures Id) (es : List Annotation) where
-  -- what is made of the snippet lines of these files, whose indices begin here
-  abbrev of_ids : {A : Type 0} → (Id → List SnippetLine → List A) → ℕ → List Id → List A
-  of_ids image k ids = flat_map_indexed (λ i id. image id (lines_at es i)) k ids
+module _ {Id : Type 0} (file : Id → FileModel) (failure : Failures Id) (es : List Annotation)
+  where
+    -- what is made of the snippet lines of these files, whose indices begin here
+    abbrev of_ids : {A : Type 0} → (Id → List SnippetLine → List A) → ℕ → List Id
+        → List A
+    of_ids image k ids = flat_map_indexed (λ i id. image id (lines_at es i)) k ids
 
-  -- their numbers, digit counts and lookups
-  abbrev numbers_from : ℕ → List Id → List ℕ
-  numbers_from = of_ids (λ id xs. numbers_of (file id) (filled_lines_of xs))
+    -- their numbers, digit counts and lookups
+    abbrev numbers_from : ℕ → List Id → List ℕ
+    numbers_from = of_ids (λ id xs. numbers_of (file id) (filled_lines_of xs))
 
-  abbrev digits_from : ℕ → List Id → List ℕ
-  digits_from = of_ids (λ id xs. digit_counts_of (file id) (drawn_lines_of xs))
+    abbrev digits_from : ℕ → List Id → List ℕ
+    digits_from = of_ids (λ id xs. digit_counts_of (file id) (drawn_lines_of xs))
 
-  abbrev pub lookups_from : ℕ → List Id → List (Id × Lookup)
-  lookups_from = of_ids (λ id xs. lookups_of_file id (number_lookups (filled_lines_of xs)))
+    abbrev pub lookups_from : ℕ → List Id → List (Id × Lookup)
+    lookups_from = of_ids (λ id xs. lookups_of_file id (number_lookups (filled_lines_of xs)))
 
-  -- of all files those from this index on are left: theirs end those of all
-  pub record FilesLeft (ids : List Id) (k : ℕ) (old now : List ℕ) (widened : ℕ) : Type 0 where
-    pub numbers : now ++ numbers_from k (drop k ids) ≡ old ++ numbers_from 0 ids
-    pub padding : fold max widened (digits_from k (drop k ids)) ≡ fold max 0 (digits_from 0 ids)
-    pub failed : first_error failure (lookups_from k (drop k ids))
-        ≡ first_error failure (lookups_from 0 ids)
+    -- of all files those from this index on are left: theirs end those of all
+    pub record FilesLeft (ids : List Id) (k : ℕ) (old now : List ℕ) (widened : ℕ) : Type 0
+      where
+        pub numbers : now ++ numbers_from k (drop k ids) ≡ old ++ numbers_from 0 ids
+        pub padding : fold max widened (digits_from k (drop k ids))
+            ≡ fold max 0 (digits_from 0 ids)
+        pub failed : first_error failure (lookups_from k (drop k ids))
+            ≡ first_error failure (lookups_from 0 ids)
 
 module _ {Id : Type 0} {file : Id → FileModel} {failure : Failures Id} {es : List Annotation}
     {files : List (RustFile Id)} {k : ℕ} {f : RustFile Id} {xs : List SnippetLine}

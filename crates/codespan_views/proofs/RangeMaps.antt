@@ -1,9 +1,10 @@
 -- What the numbers of a range have, one after another, and the lines around the two ends of a
 -- label: for the clauses of `collect_lines`.
-use Rattle.codespan_core.proofs.Std.{◌≡◌, ℕ, ◌+◌, ◌<◌, ◌≤◌, Bool, true, false, ◌&&◌, ◌||◌, List, []}
-use Rattle.codespan_core.proofs.Std.{◌∷◌, ◌++◌, refl, arith, nat_lt, nat_le, if◌then◌else◌, filter}
-use Rattle.codespan_core.proofs.Std.{flat_map, common_steps, zero, suc, ◌-◌}
-use Rattle.codespan_core.proofs.Std.{range_with_len, flat_map-append}
+use Rattle.codespan_core.proofs.Std.{◌≡◌, ℕ, ◌+◌, ◌<◌, ◌≤◌, Bool, true, false}
+use Rattle.codespan_core.proofs.Std.{◌&&◌, ◌||◌, List, [], ◌∷◌, ◌++◌, refl, arith}
+use Rattle.codespan_core.proofs.Std.{nat_lt, nat_le, if◌then◌else◌, filter, flat_map}
+use Rattle.codespan_core.proofs.Std.{common_steps, zero, suc, ◌-◌, range_with_len}
+use Rattle.codespan_core.proofs.Std.{flat_map-append}
 use Rattle.codespan_output.specs.Lines.{spans}
 use Rattle.codespan_output.proofs.CaretLemmas.{range_with_len-append}
 
@@ -20,7 +21,8 @@ abbrev pub is_near : ℕ → ℕ → ℕ → ℕ → ℕ → Bool
 is_near s e b a l =
     spans s e l || ((nat_lt l s && nat_le s (l + b)) || (nat_lt e l && nat_le l (e + a)))
 
-pub after_both : (s e b a l : ℕ) → s < l → e < l → l ≤ e + a → is_near s e b a l ≡ true
+pub after_both : (s e b a l : ℕ) → s < l → e < l → l ≤ e + a
+    → is_near s e b a l ≡ true
 after_both s e b a l low high reach = grind (arith, common_steps)
 
 pub above_both : (s e b a l : ℕ) → s < l → e + a < l → is_near s e b a l ≡ false
@@ -29,7 +31,8 @@ above_both s e b a l low high = grind (arith, common_steps)
 pub below_both : (s e b a l : ℕ) → l < e → l + b < s → is_near s e b a l ≡ false
 below_both s e b a l low high = grind (arith, common_steps)
 
-pub near_after : (s e b a l : ℕ) → s < l → e < l → is_near s e b a l ≡ true → l ≤ e + a
+pub near_after : (s e b a l : ℕ) → s < l → e < l → is_near s e b a l ≡ true
+    → l ≤ e + a
 near_after s e b a l low high near = grind (arith, common_steps)
 
 module _ {X : Type 0} (g : ℕ → List X) where

@@ -1,7 +1,7 @@
 -- Calls that render by a renderer, one after another: for the clauses of the views' `render`, of
 -- `render_snippets`, `render_notes`, `render_closing` and `render_headers`.
-use Rattle.codespan_core.proofs.Std.{◌≡◌, List, [], ◌++◌, Option, Result, Ok, Err, inl, inr, refl}
-use Rattle.codespan_core.proofs.Std.{sym, subst, ap, ◌∙◌}
+use Rattle.codespan_core.proofs.Std.{◌≡◌, List, [], ◌++◌, Option, Result, Ok, Err, inl}
+use Rattle.codespan_core.proofs.Std.{inr, refl, sym, subst, ap, ◌∙◌}
 use Rattle.std.specs.Borrow.{GName}
 use Rattle.std.specs.Result.{IsErrAnd}
 use Rattle.codespan_core.specs.Streams.{Stream}

@@ -1,8 +1,9 @@
 -- Rendering in rich style, what has been written for each way to end: for the clause `renders` of
 -- `RichDiagnostic::render`.
-use Rattle.codespan_core.proofs.Std.{◌≡◌, ◌≢◌, ◌<◌, List, [], ◌++◌, length, None, Some, Ok, Err}
-use Rattle.codespan_core.proofs.Std.{Result, inl, inr, refl, sym, ap, ◌∙◌, arith, ⊎_elim}
-use Rattle.codespan_core.proofs.Std.{length-append, IfErr, Option, AllZip}
+use Rattle.codespan_core.proofs.Std.{◌≡◌, ◌≢◌, ◌<◌, List, [], ◌++◌, length}
+use Rattle.codespan_core.proofs.Std.{None, Some, Ok, Err, Result, inl, inr, refl, sym, ap}
+use Rattle.codespan_core.proofs.Std.{◌∙◌, arith, ⊎_elim, length-append, IfErr, Option}
+use Rattle.codespan_core.proofs.Std.{AllZip}
 use Rattle.codespan_core.specs.Errors.{IsIo}
 use Rattle.codespan_core.specs.FileModel.{FileDatabase, Lookup}
 use Rattle.codespan_core.specs.Streams.{Stream}
@@ -26,7 +27,8 @@ use Rattle.codespan_views.proofs.LabelIndexing.{AreFiles}
 use Rattle.codespan_views.proofs.OutputLoci.{file_loci, file_texts}
 
 -- nothing has been written, which is a prefix of everything
-pub PrefixWritten-none : (s : Sink) (items : Stream) (t : Sink) → t ≡ s → PrefixWritten s items t
+pub PrefixWritten-none : (s : Sink) (items : Stream) (t : Sink) → t ≡ s
+    → PrefixWritten s items t
 PrefixWritten-none s items t same = record {
   prefix = [];
   rest = _;
@@ -97,7 +99,8 @@ module _ {Id : Type 0} {renderer_config view_config : Config} {files : FileDatab
     };
   }
 
-  module _ {items : Stream} {old new : Sink} (succeeded : early_failure view_config files d ≡ None)
+  module _ {items : Stream} {old new : Sink}
+      (succeeded : early_failure view_config files d ≡ None)
       (of : IsRichOutput renderer_config view_config files d items) where
     -- the writer failed
     failed_by_writer : {e : Error} → IsIo e → WrotePrefix old items new
@@ -108,7 +111,8 @@ module _ {Id : Type 0} {renderer_config view_config : Config} {files : FileDatab
       received = wrote.1;
       on_end = record {
         error_is = inl (io, wrote.0);
-        early = λ rich p. absurd (some_fails files (before_header view_config files d) succeeded p);
+        early = λ rich p. absurd
+            (some_fails files (before_header view_config files d) succeeded p);
       };
     }
 
@@ -133,7 +137,8 @@ module _ {Id : Type 0} {renderer_config view_config : Config} {files : FileDatab
           ),
           λ h. inr (failed.error_is (λ (m : e ≡ OutOfMemory). two_errors e h m)),
         );
-        early = λ rich p. absurd (some_fails files (before_header view_config files d) succeeded p);
+        early = λ rich p. absurd
+            (some_fails files (before_header view_config files d) succeeded p);
       };
     }
 

@@ -1,8 +1,9 @@
 -- A rich output, rendered part by part, its header, its snippets and its notes: for the clauses
 -- `renders` of `RichDiagnostic::render`.
-use Rattle.codespan_core.proofs.Std.{◌≡◌, ◌≢◌, ◌<◌, ℕ, List, [], ◌∷◌, ◌++◌, length, map, None, Some}
-use Rattle.codespan_core.proofs.Std.{Result, Ok, Err, inl, refl, sym, subst, ap, ◌∙◌, arith, IfErr}
-use Rattle.codespan_core.proofs.Std.{Option, AllZip, flat_map-append, append_assoc, nil_from_length}
+use Rattle.codespan_core.proofs.Std.{◌≡◌, ◌≢◌, ◌<◌, ℕ, List, [], ◌∷◌}
+use Rattle.codespan_core.proofs.Std.{◌++◌, length, map, None, Some, Result, Ok, Err, inl, refl}
+use Rattle.codespan_core.proofs.Std.{sym, subst, ap, ◌∙◌, arith, IfErr, Option, AllZip}
+use Rattle.codespan_core.proofs.Std.{flat_map-append, append_assoc, nil_from_length}
 use Rattle.codespan_core.specs.Errors.{IsIo}
 use Rattle.codespan_core.specs.FileModel.{FileDatabase}
 use Rattle.codespan_core.specs.Streams.{Stream, newline}

@@ -1,7 +1,8 @@
 -- The single-line labels of a line, in the order of their ranges and their starts, for the clauses
 -- of `render_snippets` and `RichDiagnostic::render`.
-use Rattle.codespan_core.proofs.Std.{◌≡◌, ℕ, ◌≤◌, false, true, List, [], ◌∷◌, refl, arith}
-use Rattle.codespan_core.proofs.Std.{AllByRecursion, nat_tests, common_steps, sym, ◌∙◌, cons_option}
+use Rattle.codespan_core.proofs.Std.{◌≡◌, ℕ, ◌≤◌, false, true, List, [], ◌∷◌}
+use Rattle.codespan_core.proofs.Std.{refl, arith, AllByRecursion, nat_tests, common_steps, sym}
+use Rattle.codespan_core.proofs.Std.{◌∙◌, cons_option}
 use Rattle.codespan_core.specs.Labels.{LabelModel, range_precedes}
 use Rattle.codespan_output.specs.Arguments.{starts_from, starts_in_order}
 use Rattle.codespan_output.proofs.OrderSorts.{Ascends}
@@ -17,7 +18,8 @@ later-start : (x z : LabelModel) → range_precedes z x ≡ false → x.start �
 later-start x z h = grind (arith, nat_tests)
 
 starts-from : (low : ℕ) (xs : List LabelModel)
-    → AllByRecursion (λ (z : LabelModel). low ≤ z.start) xs → Ascends xs → starts_from low xs ≡ true
+    → AllByRecursion (λ (z : LabelModel). low ≤ z.start) xs → Ascends xs
+    → starts_from low xs ≡ true
 starts-from low [] far up = refl
 starts-from low (x ∷ xs) far up = grind
     (arith, common_steps, nat_tests, later-start, all-weaker, starts-from x.start xs)

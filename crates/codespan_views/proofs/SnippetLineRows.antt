@@ -1,9 +1,9 @@
 -- The rows of the snippet lines of shown lines, and the lines that they show and fill in, for the
 -- clauses of `render_snippets` and `RichDiagnostic::render`.
-use Rattle.codespan_core.proofs.Std.{rules, map-id, arith, common_steps, ◌≡◌, ℕ, ◌≤◌, Bool, true}
-use Rattle.codespan_core.proofs.Std.{false, not, cond, ◌&&◌, if◌then◌else◌, List, [], ◌∷◌, filter}
-use Rattle.codespan_core.proofs.Std.{flat_map, Option, None, refl, sym, ◌∙◌, range_with_len}
-use Rattle.codespan_core.proofs.Std.{AllByRecursion, append-nil}
+use Rattle.codespan_core.proofs.Std.{rules, map-id, arith, common_steps, ◌≡◌, ℕ, ◌≤◌}
+use Rattle.codespan_core.proofs.Std.{Bool, true, false, not, cond, ◌&&◌, if◌then◌else◌}
+use Rattle.codespan_core.proofs.Std.{List, [], ◌∷◌, filter, flat_map, Option, None, refl, sym}
+use Rattle.codespan_core.proofs.Std.{◌∙◌, range_with_len, AllByRecursion, append-nil}
 use Rattle.std.proofs.lemmas.List.Concat.{flat_map_single}
 use Rattle.codespan_core.specs.FileModel.{FileModel}
 use Rattle.codespan_output.specs.Rows.{Line}
@@ -15,8 +15,8 @@ use Rattle.codespan_views.specs.Private.{filled_lines_of, drawn_line_of, drawn_l
 use Rattle.codespan_views.specs.Private.{are_annotations_in_order, are_lane_marks_in_order}
 use Rattle.codespan_views.specs.Private.{is_line_in_order}
 use Rattle.codespan_output.proofs.Filling.{given, is_drawn_among, lines-shown}
-use Rattle.codespan_output.proofs.Sequences.{all-gap, all-sequence, flat_map-gap}
-use Rattle.codespan_output.proofs.Sequences.{flat_map-sequence, sequence-flat}
+use Rattle.codespan_output.proofs.Sequences.{all-gap, all-sequence, flat_map-gap, flat_map-sequence}
+use Rattle.codespan_output.proofs.Sequences.{sequence-flat}
 use Rattle.codespan_views.proofs.AnnotationGroups.{lines_after}
 
 -- ---- the elements of snippet lines
@@ -49,7 +49,8 @@ module _ (f : FileModel) (count : ℕ) (m : ℕ → List Annotation) where
   line l = line_of_group f count l (m l)
 
   -- the snippet lines of shown lines make the rows of the drawn lines
-  pub snippet_lines-rows : (shown : ℕ → Bool) (n : ℕ) → ((l : ℕ) → n ≤ l → shown l ≡ false)
+  pub snippet_lines-rows : (shown : ℕ → Bool) (n : ℕ)
+      → ((l : ℕ) → n ≤ l → shown l ≡ false)
       → rows_of_lines f count (lines_after m None (filter shown (range_with_len 0 n)))
       ≡ in_sequence (λ l. l) (break_between (break_rows line)) (line_rows line) None
       (filter (is_drawn_among shown) (range_with_len 0 n))

@@ -1,9 +1,10 @@
 -- The snippet lines of annotations as a view has them, group by group, for the clauses
 -- of `render_lines`, `skip_hidden` and `find_numbers_of_file`.
-use Rattle.codespan_core.proofs.Std.{take_rest, Bool, ◌≡◌, ℕ, suc, ◌-◌, ◌<◌, ◌≤◌, true, false, List}
-use Rattle.codespan_core.proofs.Std.{[], ◌∷◌, ◌++◌, map, length, take, drop, Option, Some, None}
-use Rattle.codespan_core.proofs.Std.{refl, sym, ap, subst, arith, common_steps, All, slice_get}
-use Rattle.codespan_core.proofs.Std.{prefix_len, eq-eqb, ◌∙◌, drop-map, length-drop, take-map}
+use Rattle.codespan_core.proofs.Std.{take_rest, Bool, ◌≡◌, ℕ, suc, ◌-◌, ◌<◌}
+use Rattle.codespan_core.proofs.Std.{◌≤◌, true, false, List, [], ◌∷◌, ◌++◌, map}
+use Rattle.codespan_core.proofs.Std.{length, take, drop, Option, Some, None, refl, sym, ap, subst}
+use Rattle.codespan_core.proofs.Std.{arith, common_steps, All, slice_get, prefix_len, eq-eqb}
+use Rattle.codespan_core.proofs.Std.{◌∙◌, drop-map, length-drop, take-map}
 use Rattle.std.proofs.lemmas.List.Elements.{All-drop}
 use Rattle.std.proofs.lemmas.Option.{get_or_from_slice_get, slice_get_within}
 use Rattle.codespan_views.specs.Private.{RustAnnotation, Annotation, is_on_line, shows_line}
@@ -28,7 +29,8 @@ lines_left-none hidden [] previous none = refl
 lines_left-none hidden (x ∷ xs) previous none = absurd (cc none)
 
 -- the annotations from an index on, as a loop takes them
-abbrev pub later_than : {Id : Type 0} → ℕ → List (RustAnnotation Id) → List (RustAnnotation Id)
+abbrev pub later_than : {Id : Type 0} → ℕ → List (RustAnnotation Id)
+    → List (RustAnnotation Id)
 later_than n rest = take (length rest - n) (drop n rest)
 
 -- they are all that are left
@@ -50,7 +52,8 @@ abbrev pub gap_of : {Id : Type 0} → List (RustAnnotation Id) → List (RustAnn
 gap_of hidden rest x n m = gap_lines (views_of hidden) (views_of (take n rest)) x.line.index m
 
 -- the line
-abbrev pub shown_of : {Id : Type 0} → List (RustAnnotation Id) → RustAnnotation Id → ℕ → SnippetLine
+abbrev pub shown_of : {Id : Type 0} → List (RustAnnotation Id) → RustAnnotation Id → ℕ
+    → SnippetLine
 shown_of rest x n = Labeled x.line.index (views_of (take n rest))
 
 -- what is after it
@@ -120,5 +123,6 @@ module _ {Id : Type 0} {rest : List (RustAnnotation Id)} {x : RustAnnotation Id}
 
     -- a hidden line is next: the others
     pub views_of-hidden : shows_line (annotation_view x) ≡ false
-        → lines_left hidden rest previous ≡ lines_left (take n rest) (later_than n rest) previous
+        → lines_left hidden rest previous
+        ≡ lines_left (take n rest) (later_than n rest) previous
     views_of-hidden f = rw (group.groups_are, group.taken, later-are n rest, f) refl

@@ -1,7 +1,7 @@
 -- The byte of a file's locus, by the least starts of its labels, is that of the definitions: for
 -- the clauses of `RichDiagnostic::render`.
-use Rattle.codespan_core.proofs.Std.{common_steps, arith, ◌≡◌, ℕ, Bool, true, false, List, [], ◌∷◌}
-use Rattle.codespan_core.proofs.Std.{map, filter, refl, unwrap_or}
+use Rattle.codespan_core.proofs.Std.{common_steps, arith, ◌≡◌, ℕ, Bool, true, false, List}
+use Rattle.codespan_core.proofs.Std.{[], ◌∷◌, map, filter, refl, unwrap_or}
 use Rattle.codespan_core.specs.FileModel.{FileModel}
 use Rattle.codespan_core.specs.Labels.{LabelModel, is_primary}
 use Rattle.std.proofs.lemmas.Simd.{map-map}

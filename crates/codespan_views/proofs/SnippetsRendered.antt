@@ -1,9 +1,10 @@
 -- The snippets of the files that were collected, one after another, for the clause of
 -- `render_snippets`.
-use Rattle.codespan_core.proofs.Std.{common_steps, ◌≡◌, ℕ, ◌+◌, ◌≤◌, Bool, ◌||◌, List, [], ◌∷◌}
-use Rattle.codespan_core.proofs.Std.{◌++◌, length, drop, map, Option, None, Ok, refl, sym, subst}
-use Rattle.codespan_core.proofs.Std.{ap, ◌∙◌, arith, flat_map, nat_lt, if◌then◌else◌}
-use Rattle.codespan_core.proofs.Std.{flat_map-append, append_assoc}
+use Rattle.codespan_core.proofs.Std.{common_steps, ◌≡◌, ℕ, ◌+◌, ◌≤◌, Bool}
+use Rattle.codespan_core.proofs.Std.{◌||◌, List, [], ◌∷◌, ◌++◌, length, drop, map}
+use Rattle.codespan_core.proofs.Std.{Option, None, Ok, refl, sym, subst, ap, ◌∙◌, arith}
+use Rattle.codespan_core.proofs.Std.{flat_map, nat_lt, if◌then◌else◌, flat_map-append}
+use Rattle.codespan_core.proofs.Std.{append_assoc}
 use Rattle.codespan_core.specs.FileModel.{FileDatabase, FileModel, Lookup, or_failure}
 use Rattle.codespan_core.specs.FileModel.Lookup.{Source}
 use Rattle.codespan_core.specs.Streams.{Stream}
@@ -108,7 +109,8 @@ module _ {Id : Type 0} {database : FileDatabase Id} {view_config : Config} {d : 
   known_of = known_numbers_of_labels view_config database (labels_of d)
 
   -- all files are rendered
-  pub left-end : {files : List (RustFile Id)} → files ≡ collected.files.items → length files ≤ k
+  pub left-end : {files : List (RustFile Id)} → files ≡ collected.files.items
+      → length files ≤ k
       → WritesWithLookups (late_failure view_config database d) old
       (stream_of_rows context (snippet_rows view_config database d collected)) (Ok tt) mid
   left-end {files} equal past =
@@ -171,7 +173,8 @@ module _ {Id : Type 0} {database : FileDatabase Id} {view_config : Config} {d : 
 
       -- what is left is that of its source, and these
       failure-is : failure_left database view_config d collected k
-          ≡ or_failure (database.failure f.file_id Source) (or_failure lines_failure later_failure)
+          ≡ or_failure (database.failure f.file_id Source)
+          (or_failure lines_failure later_failure)
       failure-is =
           rw (
             drop-one ids k f.file_id (id-inside at) (id-at at),

@@ -1,11 +1,12 @@
 -- The padding width for the numbers of the lines that labels span is that of the output in the
 -- classic layout: for the clauses of `RichDiagnostic::render`.
-use Rattle.codespan_core.proofs.Std.{common_steps, ◌≡◌, ℕ, zero, suc, ◌+◌, ◌<◌, ◌≤◌, Bool, true}
-use Rattle.codespan_core.proofs.Std.{◌&&◌, max, List, [], ◌∷◌, length, get_or, map, filter}
-use Rattle.codespan_core.proofs.Std.{flat_map, refl, sym, ◌∙◌, ap, subst, arith, Contains, fold}
-use Rattle.codespan_core.proofs.Std.{IsEquivalence, AllByRecursion, list_any, range_with_len}
-use Rattle.codespan_core.proofs.Std.{and_parts, eq-eqb, true≢false, flat_map-map, list_any_at}
-use Rattle.codespan_core.proofs.Std.{length-map, get_or-map}
+use Rattle.codespan_core.proofs.Std.{common_steps, ◌≡◌, ℕ, zero, suc, ◌+◌, ◌<◌}
+use Rattle.codespan_core.proofs.Std.{◌≤◌, Bool, true, ◌&&◌, max, List, [], ◌∷◌}
+use Rattle.codespan_core.proofs.Std.{length, get_or, map, filter, flat_map, refl, sym, ◌∙◌}
+use Rattle.codespan_core.proofs.Std.{ap, subst, arith, Contains, fold, IsEquivalence}
+use Rattle.codespan_core.proofs.Std.{AllByRecursion, list_any, range_with_len, and_parts, eq-eqb}
+use Rattle.codespan_core.proofs.Std.{true≢false, flat_map-map, list_any_at, length-map}
+use Rattle.codespan_core.proofs.Std.{get_or-map}
 use Rattle.codespan_core.specs.FileModel.{FileModel, line_count}
 use Rattle.codespan_core.specs.Labels.{LabelModel}
 use Rattle.codespan_output.specs.Types.{Config, Classic}
@@ -13,9 +14,8 @@ use Rattle.codespan_output.specs.Padding.{count_digits, digits_of, numbered_line
 use Rattle.codespan_output.specs.Padding.{spanned_lines}
 use Rattle.codespan_output.specs.Snippets.{LabelInFile, LabeledFileModel, labeled_file_model}
 use Rattle.codespan_output.specs.Snippets.{labeled_file_models, file_ids}
-use Rattle.codespan_views.specs.Private.{is_spanned}
-use Rattle.codespan_views.specs.Private.{index_of_file, all_digit_counts, digit_count_if_spanned}
-use Rattle.codespan_views.specs.Private.{label_digit_counts}
+use Rattle.codespan_views.specs.Private.{is_spanned, index_of_file, all_digit_counts}
+use Rattle.codespan_views.specs.Private.{digit_count_if_spanned, label_digit_counts}
 use Rattle.codespan_output.proofs.Greatest.{greatest-any, greatest-append, greatest-same}
 use Rattle.codespan_output.proofs.PaddingLemmas.{contains-filter, contains-range, numbered-fits}
 use Rattle.codespan_output.proofs.RefillLemmas.{any-map}
@@ -45,8 +45,10 @@ all-elements P image (x ∷ xs) h =
 module _ (f : FileModel) (x : LabelModel) where
   -- where each number fits the padding, all do
   digits-fit : (m n a : ℕ)
-      → ((l : ℕ) → l < a + n → is_spanned f x l ≡ true → count_digits (f.line_number l) ≤ m)
-      → AllByRecursion (λ d. d ≤ m) (flat_map (digit_count_if_spanned f x) (range_with_len a n))
+      → ((l : ℕ) → l < a + n → is_spanned f x l ≡ true
+      → count_digits (f.line_number l) ≤ m)
+      → AllByRecursion (λ d. d ≤ m)
+      (flat_map (digit_count_if_spanned f x) (range_with_len a n))
   digits-fit m zero a h = tt
   digits-fit m (suc n) a h = grind (arith, common_steps, all-append, digits-fit m n (a + 1))
 
@@ -60,7 +62,8 @@ module _ (f : FileModel) (x : LabelModel) where
 
 -- ---- all labels
 
-module _ {Id : Type 0} (same : Id → Id → Bool) (file : Id → FileModel) (o : IsEquivalence same)
+module _ {Id : Type 0} (same : Id → Id → Bool) (file : Id → FileModel)
+    (o : IsEquivalence same)
     (one_file : (i j : Id) → same i j ≡ true → file i ≡ file j)
     (config : Config) (xs : List (LabelInFile Id)) (classic : config.layout ≡ Classic) where
   -- the ids of the files
@@ -106,7 +109,8 @@ module _ {Id : Type 0} (same : Id → Id → Bool) (file : Id → FileModel) (o 
       ∙ eq-eqb f f refl in
       let model : file y.file_id ≡ file id = sym (one_file id y.file_id equal) in
       let any = spans-any id l
-      ∙ list_any_at (λ (x : LabelInFile Id). same id x.file_id && is_spanned (file id) x.label l) xs
+      ∙ list_any_at (λ (x : LabelInFile Id). same id x.file_id && is_spanned (file id) x.label l)
+      xs
       k d
       inside (grind (arith, common_steps)) in
       grind (
@@ -148,7 +152,8 @@ module _ {Id : Type 0} (same : Id → Id → Bool) (file : Id → FileModel) (o 
       (flat_map (λ (s : LabeledFileModel). digits_of s (numbered_lines config s))
       (labeled_file_models same file xs))
   lines-counted =
-      let all : List ℕ → Type 0 = AllByRecursion (λ n. n ≤ fold max 0 (all_digit_counts file xs)) in
+      let all : List ℕ → Type 0 = AllByRecursion
+      (λ n. n ≤ fold max 0 (all_digit_counts file xs)) in
       subst all (sym (flat_map-map _ labeled ids))
       (all-elements _ _ ids (λ k d _. subst (λ ls. all (digits_of (labeled (get_or ids k d)) ls))
       (sym (numbered-spanned (labeled (get_or ids k d))))

@@ -1,6 +1,7 @@
 -- What an error of a call that emits a diagnostic means: which lookup failed first, and what has
 -- been written by then.
-use Rattle.std.specs.Prelude.{◌≡◌, ◌⊎◌, List, ◌∷◌, ◌++◌, flat_map, length, take, Some, Contains}
+use Rattle.std.specs.Prelude.{◌≡◌, ◌⊎◌, List, ◌∷◌, ◌++◌, flat_map, length}
+use Rattle.std.specs.Prelude.{take, Some, Contains}
 use Rattle.codespan_output.specs.Types.{Diagnostic, Error, FormatError, Config, DisplayStyle, Rich}
 use Rattle.codespan_output.specs.Types.{Medium, Short}
 use Rattle.codespan_core.specs.Errors.{IsIo}

@@ -1,15 +1,16 @@
 //! The annotations of one label.
 
-ghost use Rattle.std.specs.Prelude.{◌≡◌, ◌≢◌, ◌<◌, true, None, Some, IfErr, OnOk, OnErr, IsErrOf};
+ghost use Rattle.std.specs.Prelude.{◌≡◌, ◌≢◌, ◌<◌, true, None, Some, IfErr, OnOk};
+ghost use Rattle.std.specs.Prelude.{OnErr, IsErrOf};
 ghost use Rattle.std.specs.Option.{option_map};
 ghost use Rattle.codespan_core.specs.FileModel.{line_count};
 ghost use Rattle.codespan_core.specs.LawfulFiles.{FailsBy};
 ghost use Rattle.codespan_views.specs.Private.LabelsToCollect.{FindsLineAnnotations};
-ghost use Rattle.codespan_views.specs.Private.LabelsToCollect.{FindsLabelAnnotations};
-ghost use Rattle.codespan_views.specs.Private.LabelsToCollect.{IfContinues, IfEnded, IsLookedUp};
-ghost use Rattle.codespan_views.specs.Private.LabelsToCollect.{WidensPadding, WidensPaddingForLine};
-ghost use Rattle.codespan_views.specs.Private.LabelsToCollect.{HasLabelLines, label_of_collector};
-ghost use Rattle.codespan_views.specs.Private.LabelsToCollect.{lines_failure, failure_if_looked_up};
+ghost use Rattle.codespan_views.specs.Private.LabelsToCollect.{FindsLabelAnnotations, IfContinues};
+ghost use Rattle.codespan_views.specs.Private.LabelsToCollect.{IfEnded, IsLookedUp, WidensPadding};
+ghost use Rattle.codespan_views.specs.Private.LabelsToCollect.{WidensPaddingForLine, HasLabelLines};
+ghost use Rattle.codespan_views.specs.Private.LabelsToCollect.{label_of_collector, lines_failure};
+ghost use Rattle.codespan_views.specs.Private.LabelsToCollect.{failure_if_looked_up};
 ghost use Rattle.codespan_output.specs.OutputStreams.{label_of};
 ghost use Rattle.codespan_views.specs.Private.LabelAnnotations.{IsFarInside, kind_by_ends};
 ghost use Rattle.codespan_views.specs.Private.LabelAnnotations.{line_annotations};

@@ -2,13 +2,12 @@
 
 ghost use Rattle.codespan_core.specs.Labels.{is_primary};
 ghost use Rattle.codespan_output.specs.OutputStreams.{label_of};
-ghost use Rattle.codespan_views.specs.Private.LabeledFiles.{AreDistinct, index_of_file};
-ghost use Rattle.codespan_views.specs.Private.LabeledFiles.{ids_view, with_file};
-ghost use Rattle.codespan_views.specs.Private.LabeledFiles.{without_locus};
-ghost use Rattle.codespan_views.specs.Private.Loci.{least_starts_with, least_with};
-ghost use Rattle.codespan_views.specs.Private.Loci.{locus_byte, no_starts};
-ghost use Rattle.std.specs.Prelude.{IfOk, IsErrOf, OnErr, OnOk, if◌then◌else◌, map, ◌+◌, ◌<◌, ◌==◌};
-ghost use Rattle.std.specs.Prelude.{◌^◌, ◌≡◌};
+ghost use Rattle.codespan_views.specs.Private.LabeledFiles.{AreDistinct, index_of_file, ids_view};
+ghost use Rattle.codespan_views.specs.Private.LabeledFiles.{with_file, without_locus};
+ghost use Rattle.codespan_views.specs.Private.Loci.{least_starts_with, least_with, locus_byte};
+ghost use Rattle.codespan_views.specs.Private.Loci.{no_starts};
+ghost use Rattle.std.specs.Prelude.{IfOk, IsErrOf, OnErr, OnOk, if◌then◌else◌, map, ◌+◌};
+ghost use Rattle.std.specs.Prelude.{◌<◌, ◌==◌, ◌^◌, ◌≡◌};
 
 use crate::label_span::LabelSpan;
 use codespan_core::diagnostic::{Label, LabelStyle};

@@ -1,7 +1,7 @@
 //! The snippet of a file: its first rows, its lines, and the row after it.
 
-ghost use Rattle.std.specs.Prelude.{◌≡◌, [], ◌∷◌, All, IfSome, IsTrue, OnOk, drop, length, map};
-ghost use Rattle.std.specs.Prelude.{slice_get};
+ghost use Rattle.std.specs.Prelude.{◌≡◌, [], ◌∷◌, All, IfSome, IsTrue, OnOk, drop};
+ghost use Rattle.std.specs.Prelude.{length, map, slice_get};
 ghost use Rattle.std.specs.Slice.Iter.{iter_rest};
 ghost use Rattle.codespan_views.specs.Private.Annotations.{IsLineOf, annotation_view};
 ghost use Rattle.codespan_renderer.specs.Private.RowWriters.{row_writer_sink};

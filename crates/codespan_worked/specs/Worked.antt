@@ -1,7 +1,7 @@
 -- How worked outputs are written down: texts by their characters, outputs row by row.
-use Rattle.std.specs.Prelude.{ℕ, ◌+◌, ◌*◌, ◌/◌, ◌%◌, ◌==◌, if◌then◌else◌, List, [], ◌∷◌, ◌++◌, map}
-use Rattle.std.specs.Prelude.{flat_map, codes, decimal, encode_utf8_all, slice_get, Option, Some}
-use Rattle.std.specs.Prelude.{None}
+use Rattle.std.specs.Prelude.{ℕ, ◌+◌, ◌*◌, ◌/◌, ◌%◌, ◌==◌}
+use Rattle.std.specs.Prelude.{if◌then◌else◌, List, [], ◌∷◌, ◌++◌, map, flat_map}
+use Rattle.std.specs.Prelude.{codes, decimal, encode_utf8_all, slice_get, Option, Some, None}
 use Rattle.std.specs.List.{range_with_len}
 use Rattle.std.specs.Fmt.{digits}
 use Rattle.std.specs.Option.{option_map_or}
@@ -102,11 +102,13 @@ abbrev pub rich : Config → DiagnosticText → List FileModel → List (LabelIn
 rich config diagnostic files labels = worked_output_of Rich config diagnostic files labels
 
 -- in medium style
-abbrev pub medium : Config → DiagnosticText → List FileModel → List (LabelInFile ℕ) → Stream
+abbrev pub medium : Config → DiagnosticText → List FileModel → List (LabelInFile ℕ)
+    → Stream
 medium config diagnostic files labels = worked_output_of Medium config diagnostic files labels
 
 -- in short style
-abbrev pub short : Config → DiagnosticText → List FileModel → List (LabelInFile ℕ) → Stream
+abbrev pub short : Config → DiagnosticText → List FileModel → List (LabelInFile ℕ)
+    → Stream
 short config diagnostic files labels = worked_output_of Short config diagnostic files labels
 
 -- ---- texts of several worked outputs

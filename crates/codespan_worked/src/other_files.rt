@@ -1,7 +1,8 @@
 //! Worked outputs over files with other line numbers, over a missing file, and of many labels in
 //! several orders.
 
-ghost use Rattle.std.specs.Prelude.{◌≡◌, ℕ, List, ◌∷◌, [], ◌++◌, codes, reverse, Some, None};
+ghost use Rattle.std.specs.Prelude.{◌≡◌, ℕ, List, ◌∷◌, [], ◌++◌, codes, reverse};
+ghost use Rattle.std.specs.Prelude.{Some, None};
 ghost use Rattle.codespan_base.specs.Defaults.{default_config};
 ghost use Rattle.codespan_base.specs.MappedModel.{with_set_number};
 ghost use Rattle.codespan_base.specs.SimpleModel.{database_failure};

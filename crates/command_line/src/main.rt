@@ -11,8 +11,8 @@
 //! | 2 | nothing, or a prefix of the error if writing it failed | one line: what is wrong |
 #![tactic(auto)]
 
-ghost use Rattle.std.specs.Prelude.{◌≡◌, ◌≢◌, ◌+◌, ◌<◌, ℕ, List, None, true, false, IfOk, IfSome};
-ghost use Rattle.std.specs.Prelude.{string_bytes};
+ghost use Rattle.std.specs.Prelude.{◌≡◌, ◌≢◌, ◌+◌, ◌<◌, ℕ, List, None, true};
+ghost use Rattle.std.specs.Prelude.{false, IfOk, IfSome, string_bytes};
 ghost use Rattle.command_line.specs.Tabs.{HasTab, IsTab};
 ghost use Rattle.codespan_reporting.specs.Output.{IsRendered};
 ghost use Rattle.codespan_styled.specs.Outputs.{AreRuns};

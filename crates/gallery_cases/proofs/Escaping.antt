@@ -1,7 +1,8 @@
 -- For the clauses of `escape::unescape`, `parse_escape` and `parse_unicode_escape`: what is parsed
 -- of escapes, and of escaped texts.
-use Rattle.std.proofs.Common.{◌≡◌, ◌<◌, ◌≤◌, ℕ, List, length, [], ◌∷◌, ◌++◌, Option, Some, None}
-use Rattle.std.proofs.Common.{refl, sym, ◌∙◌, ap, subst, append_assoc, arith}
+use Rattle.std.proofs.Common.{◌≡◌, ◌<◌, ◌≤◌, ℕ, List, length, [], ◌∷◌}
+use Rattle.std.proofs.Common.{◌++◌, Option, Some, None, refl, sym, ◌∙◌, ap, subst}
+use Rattle.std.proofs.Common.{append_assoc, arith}
 use Rattle.std.specs.Borrow.{Bor}
 use Rattle.std.specs.Prelude.{encode_utf8, IfSome, MatchOption}
 use Rattle.std.specs.Option.{option_map}
@@ -16,24 +17,30 @@ use Rattle.gallery_cases.specs.Escapes.Unescapes.{whole, broken, escaped}
 -- ---- letters
 
 -- no escape begins with another letter
-pub no_letter : (b : ℕ) → (b ≡ 110 → ⊥) → (b ≡ 114 → ⊥) → (b ≡ 116 → ⊥) → (b ≡ 48 → ⊥)
+pub no_letter : (b : ℕ) → (b ≡ 110 → ⊥) → (b ≡ 114 → ⊥) → (b ≡ 116 → ⊥)
+    → (b ≡ 48 → ⊥)
     → (b ≡ 92 → ⊥) → letter_character b ≡ None
 no_letter b newline return tab null backslash = grind (arith, nat_tests)
 
 -- what is parsed of a text that begins with the letter of a character
-pub letter_read : (text next left : List ℕ) (letter c : ℕ) → text ≡ letter ∷ next → left ≡ next
-    → (letter ≡ 117 → ⊥) → letter_character letter ≡ Some c → ParsesEscape text (Some (c, left))
+pub letter_read : (text next left : List ℕ) (letter c : ℕ) → text ≡ letter ∷ next
+    → left ≡ next
+    → (letter ≡ 117 → ⊥) → letter_character letter ≡ Some c
+    → ParsesEscape text (Some (c, left))
 letter_read text next left letter c is same other found =
-    subst (λ t. ParsesEscape t (Some (c, left))) (sym (is ∙ ap (λ rest. letter ∷ rest) (sym same)))
+    subst (λ t. ParsesEscape t (Some (c, left)))
+    (sym (is ∙ ap (λ rest. letter ∷ rest) (sym same)))
     ((λ e. absurd (other e)), λ different. ap (option_map (λ d. (d, left))) (sym found))
 
 -- the text after the letter is shorter
-pub letter_shorter : (text next left : List ℕ) (letter : ℕ) → text ≡ letter ∷ next → left ≡ next
+pub letter_shorter : (text next left : List ℕ) (letter : ℕ) → text ≡ letter ∷ next
+    → left ≡ next
     → length left < length text
 letter_shorter text next left letter is same = omega (arith, ap length is, ap length same)
 
 -- what is parsed of a text that begins with `u`
-pub number_read : (text next left : List ℕ) (read : Option (ℕ × List ℕ)) → text ≡ 117 ∷ next
+pub number_read : (text next left : List ℕ) (read : Option (ℕ × List ℕ))
+    → text ≡ 117 ∷ next
     → left ≡ next → ParsesUnicodeEscape left read → ParsesEscape text read
 number_read text next left read is same number =
     subst (λ t. ParsesEscape t read) (sym (is ∙ ap (λ rest. 117 ∷ rest) (sym same)))
@@ -41,7 +48,8 @@ number_read text next left read is same number =
 
 -- the text after the number is shorter
 pub number_shorter : (text next left : List ℕ) (read : Option (ℕ × Bor (List ℕ)))
-    → text ≡ 117 ∷ next → left ≡ next → IfSome read (λ r. length r.1.now ≤ length left)
+    → text ≡ 117 ∷ next → left ≡ next
+    → IfSome read (λ r. length r.1.now ≤ length left)
     → IfSome read (λ r. length r.1.now < length text)
 number_shorter text next left None is same within = tt
 number_shorter text next left (Some r) is same within =
@@ -49,7 +57,8 @@ number_shorter text next left (Some r) is same within =
 
 -- a text that begins with another character than those of escapes begins with no escape
 pub no_escape : (text left : List ℕ) (letter : ℕ) → text ≡ encode_utf8 letter ++ left
-    → (letter ≡ 110 → ⊥) → (letter ≡ 114 → ⊥) → (letter ≡ 116 → ⊥) → (letter ≡ 48 → ⊥)
+    → (letter ≡ 110 → ⊥) → (letter ≡ 114 → ⊥) → (letter ≡ 116 → ⊥)
+    → (letter ≡ 48 → ⊥)
     → (letter ≡ 92 → ⊥) → (letter ≡ 117 → ⊥) → ParsesEscape text None
 no_escape [] left letter is newline return tab null backslash number = refl
 no_escape (b ∷ bs) left letter is newline return tab null backslash number =
@@ -71,7 +80,8 @@ read_bytes read = option_map (λ r. (r.0, r.1.now)) read
 
 -- a text that does not begin with a brace has no number in braces
 pub unopened : (text : List ℕ) (read : Option (ℕ × Bor (List ℕ))) → read ≡ None
-    → ((left : List ℕ) → text ≡ 123 ∷ left → ⊥) → ParsesUnicodeEscape text (read_bytes read)
+    → ((left : List ℕ) → text ≡ 123 ∷ left → ⊥)
+    → ParsesUnicodeEscape text (read_bytes read)
 unopened text None none not_open = λ digits left c braced numbered. not_open _ braced.0
 unopened text (Some r) none not_open = absurd (cc none)
 
@@ -103,7 +113,8 @@ unnumbered text inner x None none is split no_number =
 unnumbered text inner x (Some r) none is split no_number = absurd (cc none)
 
 -- what is parsed where the number of a character is in the braces
-pub numbered : (text inner : List ℕ) (x : Bor (List ℕ) × Bor (List ℕ)) (c : ℕ) → text ≡ 123 ∷ inner
+pub numbered : (text inner : List ℕ) (x : Bor (List ℕ) × Bor (List ℕ)) (c : ℕ)
+    → text ≡ 123 ∷ inner
     → IsSplitOnceResult 125 inner (Some x) → IsHexCharacter x.0.now c
     → ParsesUnicodeEscape text (Some (c, x.1.now))
 numbered text inner x c is split number =
@@ -126,7 +137,8 @@ none_unescaped text unescaped empty (Some bytes) h =
     subst (λ front. Unescapes text (Some (front ++ bytes))) (sym empty) h
 
 -- one more escape has been unescaped, and the plain text before it
-pub one_more : (text unescaped new rest left : List ℕ) (c : ℕ) (x : Bor (List ℕ) × Bor (List ℕ))
+pub one_more : (text unescaped new rest left : List ℕ) (c : ℕ)
+    (x : Bor (List ℕ) × Bor (List ℕ))
     → ContinuesUnescaped text unescaped rest → IsSplitOnceResult 92 rest (Some x)
     → ParsesEscape x.1.now (Some (c, left)) → new ≡ (unescaped ++ x.0.now) ++ encode_utf8 c
     → ContinuesUnescaped text new left
@@ -140,7 +152,8 @@ one_more text unescaped new rest left c x before split read is outcome h =
   where
     joined : (unescaped plain character new : List ℕ) (outcome : Option (List ℕ))
         → new ≡ (unescaped ++ plain) ++ character
-        → with_prefix unescaped (with_prefix (plain ++ character) outcome) ≡ with_prefix new outcome
+        → with_prefix unescaped (with_prefix (plain ++ character) outcome)
+        ≡ with_prefix new outcome
     joined unescaped plain character new None is = refl
     joined unescaped plain character new (Some bytes) is =
         ap Some (sym (ap (λ front. front ++ bytes) is ∙ simp append_assoc))

@@ -1,8 +1,9 @@
 -- For the clauses of `cases::apply_to_last` and `Case::continue_source`: the last one of several,
 -- and what is done to it.
-use Rattle.std.proofs.Common.{zero, suc, ◌≡◌, ◌+◌, ◌-◌, ◌<◌, ℕ, List, [], ◌∷◌, ◌++◌, length, map}
-use Rattle.std.proofs.Common.{Result, Ok, Err, OnOk, IfErr, refl, sym, ◌∙◌, ap, subst, inl, inr}
-use Rattle.std.proofs.Common.{◌⊎◌, arith, string_bytes, String, Global}
+use Rattle.std.proofs.Common.{zero, suc, ◌≡◌, ◌+◌, ◌-◌, ◌<◌, ℕ, List, []}
+use Rattle.std.proofs.Common.{◌∷◌, ◌++◌, length, map, Result, Ok, Err, OnOk, IfErr, refl}
+use Rattle.std.proofs.Common.{sym, ◌∙◌, ap, subst, inl, inr, ◌⊎◌, arith, string_bytes}
+use Rattle.std.proofs.Common.{String, Global}
 use Rattle.std.proofs.lemmas.List.{map-append}
 use Rattle.std.specs.Prelude.{slice_set, slice_index_or}
 use Rattle.gallery_cases.specs.declared.case.Case.{Case}

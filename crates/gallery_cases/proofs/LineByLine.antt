@@ -1,6 +1,6 @@
 -- For the clauses of `cases::apply_lines`: cases that are parsed line by line.
-use Rattle.std.proofs.Common.{◌≡◌, ◌+◌, ◌<◌, ℕ, Bor, List, [], ◌∷◌, ◌++◌, length, map, take, get_or}
-use Rattle.std.proofs.Common.{Some, refl, sym, ◌∙◌, ap, subst}
+use Rattle.std.proofs.Common.{◌≡◌, ◌+◌, ◌<◌, ℕ, Bor, List, [], ◌∷◌, ◌++◌}
+use Rattle.std.proofs.Common.{length, map, take, get_or, Some, refl, sym, ◌∙◌, ap, subst}
 use Rattle.std.specs.List.{slice_get}
 use Rattle.std.specs.Option.{option_map}
 use Rattle.std.proofs.lemmas.List.{map-append, take-map, take_more}
@@ -12,7 +12,8 @@ use Rattle.gallery_cases.specs.Cases.{AppliesLine, AppliesLines, IsLineError, Is
 use Rattle.program_io.specs.declared.run_error.RunError.TheVariants.{Program}
 
 -- the cases after one more line
-pub AppliesLines-more : (lines : List (List ℕ)) (line : List ℕ) (before between after : List Case)
+pub AppliesLines-more : (lines : List (List ℕ)) (line : List ℕ)
+    (before between after : List Case)
     → AppliesLines lines before between → AppliesLine line between after
     → AppliesLines (lines ++ line ∷ []) before after
 AppliesLines-more [] line before between after none more =
@@ -37,7 +38,8 @@ module _ (lines : List (Bor (List ℕ))) (i : ℕ) (d : Bor (List ℕ)) where
       let longer : texts (take (i + 1) lines) ≡ texts (take i lines) ++ (get_or lines i d).now
       ∷ [] =
       ap texts (take_more lines i d inside)
-      ∙ map-append (λ (line : Bor (List ℕ)). line.now) (take i lines) (get_or lines i d ∷ []) in
+      ∙ map-append (λ (line : Bor (List ℕ)). line.now) (take i lines) (get_or lines i d ∷ [])
+      in
       subst (λ ls. AppliesLines ls [] after) (sym longer)
       (AppliesLines-more (texts (take i lines)) (get_or lines i d).now [] between after
       applied_lines more)

@@ -1,6 +1,7 @@
 -- For the clauses of `rendering::render` and `rendering::runs_of_case`: what holds over the file
 -- database of a case.
-use Rattle.std.proofs.Common.{◌≡◌, ℕ, List, [], map, Result, Ok, Err, OnOk, IfOk, sym, subst}
+use Rattle.std.proofs.Common.{◌≡◌, ℕ, List, [], map, Result, Ok, Err, OnOk, IfOk, sym}
+use Rattle.std.proofs.Common.{subst}
 use Rattle.codespan_base.specs.declared.diagnostic.Diagnostic.{Diagnostic}
 use Rattle.codespan_base.specs.FileModel.{FileDatabase}
 use Rattle.gallery_cases.specs.declared.case.Case.{Case}
@@ -12,8 +13,10 @@ use Rattle.gallery_cases.specs.Database.{BorrowedFile, IsOnlyFile, borrowed_view
 
 -- it holds over all files of a case
 pub over_several : (case : Case) (files : List BorrowedFile) (Holds : Property)
-    → case.database_kind ≡ Several → map borrowed_view files ≡ map file_view case.files.items
-    → Holds ℕ (several_database files) case.diagnostic → HoldsOfCase case.database_kind case Holds
+    → case.database_kind ≡ Several
+    → map borrowed_view files ≡ map file_view case.files.items
+    → Holds ℕ (several_database files) case.diagnostic
+    → HoldsOfCase case.database_kind case Holds
 over_several case files Holds kind same holds =
     let among : HoldsOfAllFiles case Holds = record { files = files; same = same; holds = holds } in
     subst (λ k. HoldsOfCase k case Holds) (sym kind) among

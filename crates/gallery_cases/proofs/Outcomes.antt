@@ -1,6 +1,6 @@
 -- For the clauses of `run::run` and its parts: what the outcome of a run says.
-use Rattle.std.proofs.Common.{IfErr, IfSome, OnOk, IsErrOf, Result, sym, ap, ◌∙◌, ◌≡◌, ◌≢◌, ℕ, List}
-use Rattle.std.proofs.Common.{[], Option, Some, None, Ok, Err, subst}
+use Rattle.std.proofs.Common.{IfErr, IfSome, OnOk, IsErrOf, Result, sym, ap, ◌∙◌, ◌≡◌}
+use Rattle.std.proofs.Common.{◌≢◌, ℕ, List, [], Option, Some, None, Ok, Err, subst}
 use Rattle.std.specs.Option.{ok_or, option_map}
 use Rattle.std.specs.Str.Lines.{lines}
 use Rattle.gallery_cases.specs.declared.case.Case.{Case}
@@ -39,7 +39,8 @@ pub responded : {E : Type 0} (expected : Option GalleryRequestView) (left : Opti
     (request : GalleryRequestView) (text bytes : List ℕ) (cases : List Case)
     (r : Result (Unit {0}) E) (Writes : List ℕ → Type 0)
     → expected ≡ Some request → IfSome left (λ input. text ≡ input)
-    → AppliesLines (lines text) [] cases → IsResponseOf request cases bytes → OnOk r (Writes bytes)
+    → AppliesLines (lines text) [] cases → IsResponseOf request cases bytes
+    → OnOk r (Writes bytes)
     → OnOk r
     (IfSome expected
     (λ a. IfSome left

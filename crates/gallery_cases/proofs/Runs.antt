@@ -1,6 +1,7 @@
 -- For the clauses of `rendering::runs_over` and `rendering::runs_of_case`: the runs of a case are
 -- those of its output.
-use Rattle.std.proofs.Common.{ℕ, List, IsSome, None, Some, Result, Ok, Err, IfOk, refl, ◌∙◌, ap}
+use Rattle.std.proofs.Common.{ℕ, List, IsSome, None, Some, Result, Ok, Err, IfOk, refl, ◌∙◌}
+use Rattle.std.proofs.Common.{ap}
 use Rattle.std.specs.List.{slice_get}
 use Rattle.std.specs.Prelude.{Contains}
 use Rattle.std.specs.Option.{option_map_or}
@@ -35,7 +36,8 @@ module _ {Id : Type 0} (config : Config) (files : FileDatabase Id) (d : Diagnost
   stated_runs runs (Err error) are stated = tt
 
 -- the names of the files of a database are stated
-pub stated_in_database : (files : List BorrowedFile) (diagnostic : Diagnostic ℕ) (x : LabelInFile ℕ)
+pub stated_in_database : (files : List BorrowedFile) (diagnostic : Diagnostic ℕ)
+    (x : LabelInFile ℕ)
     → Contains (labels_of diagnostic) x
     → IsSome (database_file (λ name. Some name.now) (λ source. source.now) files x.file_id).name
 stated_in_database files diagnostic x contains = stated x.file_id

@@ -1,6 +1,7 @@
 -- Cases, as they are parsed line by line.
-use Rattle.std.specs.Prelude.{◌≡◌, ◌⊎◌, ℕ, ◌+◌, List, [], ◌∷◌, ◌++◌, map, take, Option, Some, None}
-use Rattle.std.specs.Prelude.{slice_get, string_bytes, if◌then◌else◌}
+use Rattle.std.specs.Prelude.{◌≡◌, ◌⊎◌, ℕ, ◌+◌, List, [], ◌∷◌, ◌++◌}
+use Rattle.std.specs.Prelude.{map, take, Option, Some, None, slice_get, string_bytes}
+use Rattle.std.specs.Prelude.{if◌then◌else◌}
 use Rattle.std.specs.Str.{bytes_eq}
 use Rattle.codespan_base.specs.declared.diagnostic.Severity.TheVariants as severities
 use Rattle.codespan_base.specs.Defaults.{default_config}
@@ -139,7 +140,8 @@ AppliesLines (line ∷ lines) before after =
 abbrev pub FailsAtLast : Statement → List Case → LineError → Type 0
 FailsAtLast statement before NoCase = before ≡ []
 FailsAtLast statement before NoFile = IsSource statement
-    × ((front : List Case) × (old : Case) × (before ≡ front ++ old ∷ []) × (old.files.items ≡ []))
+    × ((front : List Case) × (old : Case) × (before ≡ front ++ old ∷ [])
+    × (old.files.items ≡ []))
 FailsAtLast statement before OutOfMemory = Unit {0}
 FailsAtLast statement before _ = ⊥
 

@@ -1,6 +1,7 @@
 -- Texts with escapes.
-use Rattle.std.specs.Prelude.{◌≡◌, ◌≢◌, ℕ, ◌==◌, List, [], ◌∷◌, ◌++◌, EachIndex, slice_index}
-use Rattle.std.specs.Prelude.{Option, Some, None, Ok, encode_utf8, if◌then◌else◌}
+use Rattle.std.specs.Prelude.{◌≡◌, ◌≢◌, ℕ, ◌==◌, List, [], ◌∷◌, ◌++◌}
+use Rattle.std.specs.Prelude.{EachIndex, slice_index, Option, Some, None, Ok, encode_utf8}
+use Rattle.std.specs.Prelude.{if◌then◌else◌}
 use Rattle.std.specs.Char.{IsScalar}
 use Rattle.std.specs.Option.{option_map}
 use Rattle.std.specs.Str.Parse.{ParsesUnsigned}
@@ -34,7 +35,8 @@ abbrev pub ParsesUnicodeEscape : List ℕ → Option (ℕ × List ℕ) → Type 
 ParsesUnicodeEscape text (Some (c, left)) =
     (digits : List ℕ) × IsBraced text digits left × IsHexCharacter digits c
 ParsesUnicodeEscape text None =
-    (digits left : List ℕ) (c : ℕ) → IsBraced text digits left → ¬ (IsHexCharacter digits c)
+    (digits left : List ℕ) (c : ℕ) → IsBraced text digits left
+    → ¬ (IsHexCharacter digits c)
 
 -- what is parsed after a backslash: a character, and the remaining text; none if there is no escape
 abbrev pub ParsesEscape : List ℕ → Option (ℕ × List ℕ) → Type 0

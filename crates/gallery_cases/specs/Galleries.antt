@@ -1,6 +1,6 @@
 -- The output of every case, each under its name.
-use Rattle.std.specs.Prelude.{◌≡◌, ℕ, ◌==◌, List, [], ◌∷◌, ◌++◌, codes, Result, Ok, Err, IfSome}
-use Rattle.std.specs.Prelude.{OnOk, if◌then◌else◌}
+use Rattle.std.specs.Prelude.{◌≡◌, ℕ, ◌==◌, List, [], ◌∷◌, ◌++◌, codes}
+use Rattle.std.specs.Prelude.{Result, Ok, Err, IfSome, OnOk, if◌then◌else◌}
 use Rattle.std.specs.List.{flat_map}
 use Rattle.codespan_base.specs.declared.files.Error.{Error}
 use Rattle.codespan_base.specs.ErrorText.{error_text}

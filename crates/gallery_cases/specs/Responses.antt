@@ -39,7 +39,8 @@ IsResponseError request cases _ = ⊥
 
 -- what an error says of the input: that of a line is of the first wrong line, and no case has an
 -- unknown name
-abbrev pub IsGalleryRunError : Option GalleryRequestView → RunError GalleryError → List ℕ → Type 0
+abbrev pub IsGalleryRunError : Option GalleryRequestView → RunError GalleryError → List ℕ
+    → Type 0
 IsGalleryRunError request (Program (Line number line_error)) input =
     IsFirstLineError (lines input) (Program (Line number line_error))
 IsGalleryRunError request (Program (UnknownCase name)) input =

@@ -1,6 +1,6 @@
 -- What a line states.
-use Rattle.std.specs.Prelude.{◌≡◌, ◌≢◌, ◌⊎◌, ℕ, true, false, List, Option, Some, None, IsSomeAnd}
-use Rattle.std.specs.Prelude.{codes, string_bytes}
+use Rattle.std.specs.Prelude.{◌≡◌, ◌≢◌, ◌⊎◌, ℕ, true, false, List, Option, Some}
+use Rattle.std.specs.Prelude.{None, IsSomeAnd, codes, string_bytes}
 use Rattle.codespan_base.specs.declared.diagnostic.Label.{Label}
 use Rattle.codespan_base.specs.declared.diagnostic.LabelStyle.{LabelStyle}
 use Rattle.codespan_base.specs.declared.diagnostic.LabelStyle.TheVariants as styles
@@ -95,7 +95,8 @@ States word rest (statements.Note note) =
 abbrev pub ParsesTo : List ℕ → Line → Type 0
 ParsesTo line Ignored = is_ignored_text line ≡ true
 ParsesTo line (NewCase name) =
-    (is_ignored_text line ≡ false) × (field_of line ≡ codes "case") × (name.now ≡ past_space line)
+    (is_ignored_text line ≡ false) × (field_of line ≡ codes "case")
+    × (name.now ≡ past_space line)
 ParsesTo line (OfLastCase statement) =
     (is_ignored_text line ≡ false)
     × States (case_word_named (field_of line)) (past_space line) statement

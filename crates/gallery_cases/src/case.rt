@@ -1,6 +1,7 @@
 //! A case: a diagnostic, its files, and a configuration.
 
-ghost use Rattle.std.specs.Prelude.{◌≡◌, ◌⊎◌, [], ◌∷◌, ◌++◌, map, OnOk, IfErr, string_bytes};
+ghost use Rattle.std.specs.Prelude.{◌≡◌, ◌⊎◌, [], ◌∷◌, ◌++◌, map, OnOk};
+ghost use Rattle.std.specs.Prelude.{IfErr, string_bytes};
 ghost use Rattle.codespan_base.specs.ConfigEquality.{IsEqualChars};
 ghost use Rattle.gallery_cases.specs.Cases.{IsNew, Applies, IsSource, ContinuesSource, file_view};
 ghost use Rattle.gallery_cases.specs.Words.{chars_of};

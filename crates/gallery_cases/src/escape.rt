@@ -1,12 +1,11 @@
 //! Texts with escapes.
 
-ghost use Rattle.std.specs.Prelude.{◌≡◌, ◌⊎◌, ℕ, ◌≤◌, ◌<◌, length, IfSome, MatchResult, Some, None};
-ghost use Rattle.std.specs.Prelude.{string_bytes};
+ghost use Rattle.std.specs.Prelude.{◌≡◌, ◌⊎◌, ℕ, ◌≤◌, ◌<◌, length, IfSome};
+ghost use Rattle.std.specs.Prelude.{MatchResult, Some, None, string_bytes};
 ghost use Rattle.std.specs.Option.{option_map};
 ghost use Rattle.gallery_cases.specs.Escapes.{Unescapes, ParsesEscape, ParsesUnicodeEscape};
 ghost use Rattle.gallery_cases.specs.Escapes.{IsHexCharacter};
-ghost use Rattle.gallery_cases.specs.declared.errors.LineError.TheVariants.{BadEscape};
-ghost use Rattle.gallery_cases.specs.declared.errors.LineError.TheVariants.{OutOfMemory};
+ghost use Rattle.gallery_cases.specs.declared.errors.LineError.TheVariants.{BadEscape, OutOfMemory};
 
 use crate::errors::LineError;
 use std::alloc::Global;

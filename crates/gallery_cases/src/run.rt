@@ -1,7 +1,8 @@
 //! One run of the program.
 
-ghost use Rattle.std.specs.Prelude.{◌≡◌, ◌≢◌, ◌≤◌, ◌↔◌, ℕ, List, MatchResult, None, OnOk, IfErr};
-ghost use Rattle.std.specs.Prelude.{IfOk, IfSome, IsErrAnd, IsErrOf, IsOkAnd, map, string_bytes};
+ghost use Rattle.std.specs.Prelude.{◌≡◌, ◌≢◌, ◌≤◌, ◌↔◌, ℕ, List};
+ghost use Rattle.std.specs.Prelude.{MatchResult, None, OnOk, IfErr, IfOk, IfSome, IsErrAnd};
+ghost use Rattle.std.specs.Prelude.{IsErrOf, IsOkAnd, map, string_bytes};
 ghost use Rattle.std.specs.Io.KnownBytes.{Appends};
 ghost use Rattle.gallery_cases.specs.Responses.{IsResponse, IsResponseOf, IsGalleryRunError};
 ghost use Rattle.gallery_cases.specs.Responses.{IsResponseError};

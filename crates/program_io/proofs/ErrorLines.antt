@@ -1,6 +1,6 @@
 -- For `RunError::write_line`: the line of a failed output.
-use Rattle.codespan_core.proofs.Std.{◌≡◌, ℕ, List, [], ◌∷◌, ◌++◌, Option, Result, IfSome, OnOk}
-use Rattle.codespan_core.proofs.Std.{codes, append_assoc, sym, subst}
+use Rattle.codespan_core.proofs.Std.{◌≡◌, ℕ, List, [], ◌∷◌, ◌++◌, Option, Result}
+use Rattle.codespan_core.proofs.Std.{IfSome, OnOk, codes, append_assoc, sym, subst}
 use Rattle.std.specs.Fmt.{with_newline}
 use Rattle.std.specs.Io.KnownBytes.{Appends}
 use Rattle.program_io.specs.declared.run_error.RunError.{RunError}
@@ -14,7 +14,8 @@ pub line_of_error : {X E : Type 0} (program usage : List ℕ) (own : X → Optio
     → OnOk r (Appends old new (failed_output_line program))
     → OnOk r (IfSome (with_newline (displayed_error program usage own error)) (Appends old new))
 line_of_error program usage own error old new r is appended =
-    let line : failed_output_line program ≡ (program ++ codes ": cannot write output") ++ 10 ∷ [] =
+    let line : failed_output_line program ≡ (program ++ codes ": cannot write output")
+    ++ 10 ∷ [] =
     sym (append_assoc program (codes ": cannot write output") (10 ∷ [])) in
     subst
     (λ (f : RunError _). OnOk r

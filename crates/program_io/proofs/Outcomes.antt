@@ -1,6 +1,6 @@
 -- For the clauses of the runs of programs: what a status says of an outcome.
-use Rattle.codespan_core.proofs.Std.{◌≡◌, ◌≢◌, ◌≤◌, ◌⊎◌, inl, inr, ℕ, Result, Ok, Err, IsErrOf}
-use Rattle.codespan_core.proofs.Std.{OnOk, refl, subst, arith}
+use Rattle.codespan_core.proofs.Std.{◌≡◌, ◌≢◌, ◌≤◌, ◌⊎◌, inl, inr, ℕ}
+use Rattle.codespan_core.proofs.Std.{Result, Ok, Err, IsErrOf, OnOk, refl, subst, arith}
 use Rattle.program_io.specs.declared.run_error.RunError.{RunError}
 use Rattle.program_io.specs.declared.run_error.RunError.TheVariants.{WrongArguments}
 use Rattle.program_io.specs.declared.run_error.RunError.TheVariants.{CannotReadInput, NotUtf8}
@@ -38,7 +38,8 @@ status_of_wrong (Err error) status is wrong =
     subst (λ (r : Result (Unit {0}) (RunError _)). IsStatusOf r status) wrong is
 
 -- any other error has the status 1
-pub status_of_error : {E : Type 0} (error : RunError E) (status : ℕ) → IsStatusOf (Err error) status
+pub status_of_error : {E : Type 0} (error : RunError E) (status : ℕ)
+    → IsStatusOf (Err error) status
     → error ≢ WrongArguments → status ≡ 1
 status_of_error WrongArguments status is right = absurd (right refl)
 status_of_error CannotReadInput status is right = is

@@ -1,8 +1,9 @@
 -- For the clauses `written` and `prefix` of the writing calls: what a writer has received, where
 -- its bytes are known.
-use Rattle.codespan_core.proofs.Std.{◌≡◌, ℕ, ◌-◌, List, [], ◌∷◌, ◌++◌, length, take, drop, Option}
-use Rattle.codespan_core.proofs.Std.{Result, Ok, Err, OnOk, sym, ap, subst, ◌∙◌, append_assoc}
-use Rattle.codespan_core.proofs.Std.{take-append-drop, take-append_seam, take_rest}
+use Rattle.codespan_core.proofs.Std.{◌≡◌, ℕ, ◌-◌, List, [], ◌∷◌, ◌++◌, length}
+use Rattle.codespan_core.proofs.Std.{take, drop, Option, Result, Ok, Err, OnOk, sym, ap, subst}
+use Rattle.codespan_core.proofs.Std.{◌∙◌, append_assoc, take-append-drop, take-append_seam}
+use Rattle.codespan_core.proofs.Std.{take_rest}
 use Rattle.std.proofs.KnownBytes.{Appends-kept, Appends-trans}
 use Rattle.std.specs.Io.{StartsWith}
 use Rattle.std.specs.Io.KnownBytes.{Appends, Keeps}
@@ -29,7 +30,8 @@ prefix_kept old mid new bs received kept =
     (received.0, received.1, Appends-kept old mid new received.0 received.2 kept)
 
 -- what was received is a prefix, whatever is left
-pub prefix_received : (old new : Option (List ℕ)) (bs done rest : List ℕ) → bs ≡ done ++ rest
+pub prefix_received : (old new : Option (List ℕ)) (bs done rest : List ℕ)
+    → bs ≡ done ++ rest
     → Appends old new done → AppendsPrefix old new bs
 prefix_received old new bs done rest split received = (
   done,
@@ -57,7 +59,8 @@ starts_after [] second front starts = starts
 starts_after (b ∷ first) second front starts =
     ap (λ (bs : List ℕ). b ∷ bs) (starts_after first second front starts)
 
-pub prefix_after : (old mid new : Option (List ℕ)) (first second : List ℕ) → Appends old mid first
+pub prefix_after : (old mid new : Option (List ℕ)) (first second : List ℕ)
+    → Appends old mid first
     → AppendsPrefix mid new second → AppendsPrefix old new (first ++ second)
 prefix_after old mid new first second before after = (
   first

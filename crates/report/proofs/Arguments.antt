@@ -1,7 +1,8 @@
 -- For the clauses of `LabelRequest::from_arguments` and `Request::from_arguments`: what the
 -- arguments request, one by one.
-use Rattle.codespan_core.proofs.Std.{◌≡◌, ℕ, ◌<◌, ◌≤◌, ◌⊎◌, inl, inr, List, [], ◌∷◌, length, get_or}
-use Rattle.codespan_core.proofs.Std.{map, Option, None, refl, ap, sym, ◌∙◌, arith, option_map}
+use Rattle.codespan_core.proofs.Std.{◌≡◌, ℕ, ◌<◌, ◌≤◌, ◌⊎◌, inl, inr, List}
+use Rattle.codespan_core.proofs.Std.{[], ◌∷◌, length, get_or, map, Option, None, refl, ap}
+use Rattle.codespan_core.proofs.Std.{sym, ◌∙◌, arith, option_map}
 use Rattle.codespan_output.specs.Types.{DisplayStyle}
 use Rattle.program_io.specs.Names.{display_style_named}
 use Rattle.report.specs.Requests.{request_of, number_of, label_request_of, label_request_with}
@@ -18,7 +19,8 @@ five_elements (v ∷ w ∷ []) a b c d e least most p q r s t = absurd (omega ar
 five_elements (v ∷ w ∷ x ∷ []) a b c d e least most p q r s t = absurd (omega arith)
 five_elements (v ∷ w ∷ x ∷ y ∷ []) a b c d e least most p q r s t = absurd (omega arith)
 five_elements (v ∷ w ∷ x ∷ y ∷ z ∷ []) a b c d e least most p q r s t = cc
-five_elements (v ∷ w ∷ x ∷ y ∷ z ∷ u ∷ more) a b c d e least most p q r s t = absurd (omega arith)
+five_elements (v ∷ w ∷ x ∷ y ∷ z ∷ u ∷ more) a b c d e least most p q r s t = absurd
+    (omega arith)
 
 -- any other number of arguments is no label request
 pub not_five_arguments : {A : Type 0} (text : A → List ℕ) (xs : List A)
@@ -49,7 +51,8 @@ unfolding label_request_of
 five_arguments text xs style name start end message least most p q r s t named first last x y z =
     let five = five_elements xs style name start end message least most p q r s t in
     let request : label_request_with (text name) (text message) named first last
-    ≡ label_request_of (text style ∷ text name ∷ text start ∷ text end ∷ text message ∷ []) =
+    ≡ label_request_of
+    (text style ∷ text name ∷ text start ∷ text end ∷ text message ∷ []) =
     rw (x, y, z) refl in
     request ∙ ap (λ l. label_request_of (map text l)) (sym five)
 
@@ -62,7 +65,8 @@ two_elements (v ∷ w ∷ []) a b least most p q = cc
 two_elements (v ∷ w ∷ x ∷ more) a b least most p q = absurd (omega arith)
 
 -- the request of two arguments
-pub two_arguments : {A : Type 0} (text : A → List ℕ) (xs : List A) (style name : A) → 2 ≤ length xs
+pub two_arguments : {A : Type 0} (text : A → List ℕ) (xs : List A) (style name : A)
+    → 2 ≤ length xs
     → length xs < 3
     → style ≡ get_or xs 0 style → name ≡ get_or xs 1 name → (named : Option DisplayStyle)
     → named ≡ display_style_named (text style)

@@ -1,11 +1,11 @@
 -- For the clause of `laws::faults_lie_inside`: where the errors of an input that is UTF-8 are.
-use Rattle.codespan_core.proofs.Std.{◌≡◌, ℕ, ◌+◌, ◌-◌, ◌<◌, ◌≤◌, ◌==◌, Bool, true, false, List, []}
-use Rattle.codespan_core.proofs.Std.{◌∷◌, ◌++◌, length, get_or, take, drop, Option, Some, None}
-use Rattle.codespan_core.proofs.Std.{IfSome, IfErr, is_some, IsCharBoundary, IsUtf8, bytes_eq, refl}
-use Rattle.codespan_core.proofs.Std.{sym, ap, ◌∙◌, inl, inr, arith, if◌then◌else◌, eqb-true}
-use Rattle.codespan_core.proofs.Std.{length-append, length-drop, length-take-le, get_or-drop}
-use Rattle.codespan_core.proofs.Std.{AllByRecursion, position_or_len, slice_split, option_map}
-use Rattle.codespan_core.proofs.Std.{cases_lt}
+use Rattle.codespan_core.proofs.Std.{◌≡◌, ℕ, ◌+◌, ◌-◌, ◌<◌, ◌≤◌, ◌==◌}
+use Rattle.codespan_core.proofs.Std.{Bool, true, false, List, [], ◌∷◌, ◌++◌, length}
+use Rattle.codespan_core.proofs.Std.{get_or, take, drop, Option, Some, None, IfSome, IfErr, is_some}
+use Rattle.codespan_core.proofs.Std.{IsCharBoundary, IsUtf8, bytes_eq, refl, sym, ap, ◌∙◌}
+use Rattle.codespan_core.proofs.Std.{inl, inr, arith, if◌then◌else◌, eqb-true, length-append}
+use Rattle.codespan_core.proofs.Std.{length-drop, length-take-le, get_or-drop, AllByRecursion}
+use Rattle.codespan_core.proofs.Std.{position_or_len, slice_split, option_map, cases_lt}
 use Rattle.std.proofs.Common.{get_or-take}
 use Rattle.std.specs.List.{join_with_byte}
 use Rattle.std.specs.Str.Lines.{strip_carriage_return}
@@ -95,7 +95,8 @@ field_at input at text is_at =
     record {
       starts = is_at.starts;
       ends = rw long (elim (cases_lt n (length text)) [
-        | inl some ↦ let is_space_byte : get_or input (at + n) 0 ≡ 32 = space_in_input input at text
+        | inl some ↦ let is_space_byte : get_or input (at + n) 0
+            ≡ 32 = space_in_input input at text
             is_at some in
             IsCharBoundary-before_ascii input (at + n) (omega arith) (omega arith)
         | inr none ↦ let whole : n ≡ length text = omega arith in rw whole is_at.ends
@@ -110,7 +111,8 @@ has_last [] is = absurd (omega arith)
 has_last (x ∷ xs) is = omega arith
 
 -- a newline in what is left of an input is inside the input
-goes_past : (input : List ℕ) (start : ℕ) (piece rest : List ℕ) → drop start input ≡ piece ++ 10
+goes_past : (input : List ℕ) (start : ℕ) (piece rest : List ℕ)
+    → drop start input ≡ piece ++ 10
     ∷ rest → start + length piece < length input
 goes_past input start piece rest is =
     let long : length (drop start input) ≡ length piece + length (10 ∷ rest) = ap length is
@@ -118,7 +120,8 @@ goes_past input start piece rest is =
     omega (arith, long, length-drop start input)
 
 -- and the input has it there
-newline_after : (input : List ℕ) (start : ℕ) (piece rest : List ℕ) → drop start input ≡ piece ++ 10
+newline_after : (input : List ℕ) (start : ℕ) (piece rest : List ℕ)
+    → drop start input ≡ piece ++ 10
     ∷ rest → get_or input (start + length piece) 0 ≡ 10
 newline_after input start piece rest is =
     sym (get_or-drop start input (length piece) 0) ∙ ap (λ xs. get_or xs (length piece) 0) is
@@ -141,7 +144,8 @@ module _ (input : List ℕ) (utf8 : IsUtf8 input) where
       + length text = omega (arith, long) in
       record {
         starts = elim (cases_lt n (length text)) [
-          | inl some ↦ let is_space_byte : get_or input (at + n) 0 ≡ 32 = space_in_input input at
+          | inl some ↦ let is_space_byte : get_or input (at + n) 0
+              ≡ 32 = space_in_input input at
               text is_at some in
               let after : at + length text - length (drop (n + 1) text) ≡ at + n
               + 1 = omega (arith, long) in
@@ -173,7 +177,8 @@ module _ (input : List ℕ) (utf8 : IsUtf8 input) where
           let some : 0 < length piece = has_last piece last in
           let long : length (take (length piece - 1) piece) ≡ length piece
           - 1 = length-take-le (length piece - 1) piece (omega arith) in
-          let return : get_or input (at + (length piece - 1)) 0 ≡ 13 = is_at.same (length piece - 1)
+          let return : get_or input (at + (length piece - 1)) 0
+          ≡ 13 = is_at.same (length piece - 1)
           (omega arith) ∙ last in
           let within : at + length piece ≤ length input = is_at.ends.0 in
           record {
@@ -283,7 +288,8 @@ module _ (input : List ℕ) (utf8 : IsUtf8 input) where
   one_range kind range inside = record { inside = inside; first = tt }
 
   -- the first line of a word is one of the lines
-  line_of_word_at : (word : List ℕ) (lines : List ScriptLineView) → AllByRecursion IsLineAt lines
+  line_of_word_at : (word : List ℕ) (lines : List ScriptLineView)
+      → AllByRecursion IsLineAt lines
       → IfSome (line_of_word word lines) IsLineAt
   line_of_word_at word [] all = tt
   line_of_word_at word (line ∷ lines) all = some_if IsLineAt (bytes_eq (word_of line) word)

@@ -1,7 +1,7 @@
 -- For the clause of `diagnostics::diagnostic_of_label_request`: the diagnostic of a label request,
 -- as its fields are set.
-use Rattle.codespan_core.proofs.Std.{◌≡◌, [], ◌∷◌, ◌++◌, ap, ◌∙◌, refl, string_bytes, None, Result}
-use Rattle.codespan_core.proofs.Std.{Ok, Err, IfOk}
+use Rattle.codespan_core.proofs.Std.{◌≡◌, [], ◌∷◌, ◌++◌, ap, ◌∙◌, refl}
+use Rattle.codespan_core.proofs.Std.{string_bytes, None, Result, Ok, Err, IfOk}
 use Rattle.codespan_core.specs.Diagnostics.{diagnostic_view}
 use Rattle.codespan_output.specs.Types.{Diagnostic, Label, Primary}
 use Rattle.report.specs.ReportDiagnostics.{label_request_diagnostic}
@@ -28,7 +28,8 @@ stated label_request (Ok d) new_label label new error style range label_is label
     code labels notes error_is message added others =
     let severity_of : d.severity ≡ severities.Error =
     ap (λ x. x.severity) others ∙ ap (λ x. x.severity) error_is ∙ severity in
-    let code_of : d.code ≡ None = ap (λ x. x.code) others ∙ ap (λ x. x.code) error_is ∙ code in
+    let code_of : d.code ≡ None = ap (λ x. x.code) others ∙ ap (λ x. x.code) error_is
+    ∙ code in
     let message_of : string_bytes d.message ≡ label_request.message =
     ap (λ x. string_bytes x.message) others ∙ message in
     let labels_of : d.labels.items ≡ label ∷ [] =

@@ -1,7 +1,8 @@
 -- For the clause of `request::parse_number`: `parse` returns the number of digits alone.
-use Rattle.codespan_core.proofs.Std.{◌≡◌, ℕ, ◌<◌, ◌^◌, ◌&&◌, nat_lt, true, false, List, [], ◌∷◌}
-use Rattle.codespan_core.proofs.Std.{length, get_or, decimal, Option, Some, None, Result, Ok, Err}
-use Rattle.codespan_core.proofs.Std.{refl, ap, sym, ◌∙◌, if◌then◌else◌, arith, nat_tests}
+use Rattle.codespan_core.proofs.Std.{◌≡◌, ℕ, ◌<◌, ◌^◌, ◌&&◌, nat_lt, true}
+use Rattle.codespan_core.proofs.Std.{false, List, [], ◌∷◌, length, get_or, decimal, Option}
+use Rattle.codespan_core.proofs.Std.{Some, None, Result, Ok, Err, refl, ap, sym, ◌∙◌}
+use Rattle.codespan_core.proofs.Std.{if◌then◌else◌, arith, nat_tests}
 use Rattle.std.specs.Char.{is_ascii_digit}
 use Rattle.std.specs.Int.{IsInRange}
 use Rattle.std.specs.List.{list_all}
@@ -25,7 +26,8 @@ pub number_of-others : (bs : List ℕ) → all_ascii_digits bs ≡ false → Non
 unfolding number_of
 number_of-others [] others = refl
 number_of-others (d ∷ ds) others =
-    ap (λ b. if b && nat_lt (digits_value 10 (d ∷ ds)) (2 ^ 64) then Some (digits_value 10 (d ∷ ds))
+    ap (λ b. if b && nat_lt (digits_value 10 (d ∷ ds)) (2 ^ 64) then Some
+    (digits_value 10 (d ∷ ds))
     else None) (sym others)
 
 -- what std's lemmas call digits and their value
@@ -33,7 +35,8 @@ decimals : IsNumeralModel (λ ds. all_ascii_digits ds ≡ true) (digits_value 10
 decimals = numerals_by_value (λ ds. all_ascii_digits ds ≡ true) tells_all_ascii_digits
 
 -- the number, where it fits
-fitting : (v n : ℕ) → v < 2 ^ 64 → n ≡ v → Some n ≡ (if nat_lt v (2 ^ 64) then Some v else None)
+fitting : (v n : ℕ) → v < 2 ^ 64 → n ≡ v
+    → Some n ≡ (if nat_lt v (2 ^ 64) then Some v else None)
 fitting v n fits is = grind (arith, nat_tests)
 
 -- none, where it does not
@@ -47,7 +50,8 @@ of_digits : {E : Type 0} (d : ℕ) (ds : List ℕ) (r : Result ℕ E)
     (digits_value 10 (d ∷ ds))
     → result_ok
     r
-    ≡ (if nat_lt (digits_value 10 (d ∷ ds)) (2 ^ 64) then Some (digits_value 10 (d ∷ ds)) else None)
+    ≡ (if nat_lt (digits_value 10 (d ∷ ds)) (2 ^ 64) then Some (digits_value 10 (d ∷ ds))
+    else None)
 of_digits d ds (Ok n) read = fitting (digits_value 10 (d ∷ ds)) n read.0.1 read.1
 of_digits d ds (Err e) unread =
     too_large (digits_value 10 (d ∷ ds)) (λ fits. unread (omega arith, fits))
@@ -60,7 +64,8 @@ of_nothing (Ok n) read = absurd (omega arith)
 of_nothing (Err e) unread = refl
 
 -- what is parsed of digits alone
-pub number_of-parsed : {E : Type 0} (bs : List ℕ) (r : Result ℕ E) → all_ascii_digits bs ≡ true
+pub number_of-parsed : {E : Type 0} (bs : List ℕ) (r : Result ℕ E)
+    → all_ascii_digits bs ≡ true
     → ParsesUnsigned 64 10 bs r
     → result_ok r ≡ number_of bs
 unfolding number_of
@@ -68,7 +73,8 @@ number_of-parsed [] r digits parsed = of_nothing r (parse_digits decimals 64 [] 
 number_of-parsed (d ∷ ds) r digits parsed =
     of_digits d ds r (parse_digits decimals 64 (d ∷ ds) r parsed digits)
     ∙ ap
-    (λ b. if b && nat_lt (digits_value 10 (d ∷ ds)) (2 ^ 64) then Some (digits_value 10 (d ∷ ds))
+    (λ b. if b && nat_lt (digits_value 10 (d ∷ ds)) (2 ^ 64) then Some
+    (digits_value 10 (d ∷ ds))
     else None)
     (sym digits)
 
@@ -80,7 +86,8 @@ number_of-digits : (ds : List ℕ) → 0 < length ds → all_ascii_digits ds ≡
 unfolding number_of
 number_of-digits [] some digits fits = absurd (omega arith)
 number_of-digits (d ∷ ds) some digits fits =
-    ap (λ b. if b && nat_lt (digits_value 10 (d ∷ ds)) (2 ^ 64) then Some (digits_value 10 (d ∷ ds))
+    ap (λ b. if b && nat_lt (digits_value 10 (d ∷ ds)) (2 ^ 64) then Some
+    (digits_value 10 (d ∷ ds))
     else None) digits
     ∙ sym (fitting (digits_value 10 (d ∷ ds)) (digits_value 10 (d ∷ ds)) fits refl)
 

@@ -1,7 +1,7 @@
 -- For the clauses of `run::conclude` and `run::run`: what the outcome of a run says.
-use Rattle.codespan_core.proofs.Std.{◌≤◌, IfErr, OnOk, Result, ap, ◌≡◌, ◌≢◌, ◌⊎◌, inl, inr, ℕ, List}
-use Rattle.codespan_core.proofs.Std.{Option, Some, None, Ok, Err, IfSome, IsErrOf, subst, arith}
-use Rattle.codespan_core.proofs.Std.{codes, string_bytes, IsUtf8}
+use Rattle.codespan_core.proofs.Std.{◌≤◌, IfErr, OnOk, Result, ap, ◌≡◌, ◌≢◌}
+use Rattle.codespan_core.proofs.Std.{◌⊎◌, inl, inr, ℕ, List, Option, Some, None, Ok, Err}
+use Rattle.codespan_core.proofs.Std.{IfSome, IsErrOf, subst, arith, codes, string_bytes, IsUtf8}
 use Rattle.program_io.specs.declared.run_error.RunError.{RunError}
 use Rattle.program_io.specs.declared.run_error.RunError.TheVariants.{WrongArguments}
 use Rattle.program_io.specs.declared.run_error.RunError.TheVariants.{CannotWriteOutput, Program}
@@ -20,10 +20,12 @@ abbrev Outcome : Type 0
 Outcome = Result (Unit {0}) (RunError ReportError)
 
 -- the status is one of four
-pub status_at_most : (outcome : Outcome) (status : ℕ) → IsReportStatusOf outcome status → status ≤ 3
+pub status_at_most : (outcome : Outcome) (status : ℕ) → IsReportStatusOf outcome status
+    → status ≤ 3
 status_at_most outcome status is =
     elim is [
-      | inl other ↦ (let most = general.status_at_most outcome status other in omega (arith, most))
+      | inl other
+          ↦ (let most = general.status_at_most outcome status other in omega (arith, most))
       | inr bad ↦ (let three = bad.0 in omega (arith, three))
     ]
 
@@ -55,7 +57,8 @@ success_by_status outcome status is zero contents =
     ]
 
 -- the error of a script has the status 3 or 1, and any other but wrong arguments 1
-status_of_error : (error : RunError ReportError) (status : ℕ) → IsReportStatusOf (Err error) status
+status_of_error : (error : RunError ReportError) (status : ℕ)
+    → IsReportStatusOf (Err error) status
     → error ≢ WrongArguments → (status ≡ 3) ⊎ (status ≡ 1)
 status_of_error error status is right =
     elim is
@@ -70,7 +73,8 @@ known_weaker (Some x) None P Q follows known = tt
 known_weaker (Some x) (Some y) P Q follows known = follows x y known
 
 -- the same of a fact that always holds
-is_unchanged : {A B : Type 0} (a : Option A) (b : Option B) (X : Type 0) (Y : A → B → Type 0) → X
+is_unchanged : {A B : Type 0} (a : Option A) (b : Option B) (X : Type 0) (Y : A → B → Type 0)
+    → X
     → IfSome a (λ x. IfSome b (λ y. X ⊎ Y x y))
 is_unchanged None b X Y contents = tt
 is_unchanged (Some x) None X Y contents = tt
@@ -97,13 +101,15 @@ unchanged_at_not_utf8 args bytes X (Err error) utf8 reported unchanged =
     reported
 
 -- the script's error that was written is that of the request
-pub reported_at_bad_script : (args : List (List ℕ)) (bytes : Option (List ℕ)) (outcome : Outcome)
+pub reported_at_bad_script : (args : List (List ℕ)) (bytes : Option (List ℕ))
+    (outcome : Outcome)
     (status : ℕ) (Reported : List ℕ → Type 0)
     → IsReportStatusOf outcome status → status ≡ 3
     → IfErr outcome (λ error. WhereKnown args bytes (IsRunError error))
     → IfErr outcome (λ error. IfBadScript error (λ text. Reported (string_bytes text)))
     → WhereKnown args bytes
-    (λ request input. (text : List ℕ) × (rendering_of request input ≡ Err text) × Reported text)
+    (λ request input. (text : List ℕ) × (rendering_of request input ≡ Err text)
+    × Reported text)
 reported_at_bad_script args bytes outcome status Reported is three are_known reported = elim is [
   | inl other ↦ (let most =
       general.status_at_most outcome status other in absurd (omega (arith, most, three)))
@@ -122,12 +128,14 @@ reported_at_bad_script args bytes outcome status Reported is three are_known rep
 ]
 
 -- no rendering is both an output and the diagnostic of a script's error
-not_both : (rendering : Result (List ℕ) (List ℕ)) (good bad : List ℕ) → rendering ≡ Ok good
+not_both : (rendering : Result (List ℕ) (List ℕ)) (good bad : List ℕ)
+    → rendering ≡ Ok good
     → rendering ≡ Err bad → ⊥
 not_both rendering good bad is other = cc (is, other)
 
 -- the status and the output of a run with an error, where the script has one
-bad_script_error : (error : RunError ReportError) (status : ℕ) (X : Type 0) (request : RequestView)
+bad_script_error : (error : RunError ReportError) (status : ℕ) (X : Type 0)
+    (request : RequestView)
     (input text : List ℕ)
     → IsReportStatusOf (Err error) status → IsRunError error request input
     → (error ≢ CannotWriteOutput → X) → rendering_of request input ≡ Err text
@@ -191,7 +199,8 @@ pub unchanged_unless_rendered : (outcome : Outcome) (status : ℕ) (X : Type 0)
     → IfErr outcome (λ error. error ≢ CannotWriteOutput → X)
     → UnchangedUnlessRendered X status old new
 unchanged_unless_rendered (Ok done) status X old new is line unchanged =
-    inr (inl (elim is [ inl zero ↦ zero | inr bad ↦ (let script = bad.1.1 in absurd (cc script)) ]))
+    inr (inl
+    (elim is [ inl zero ↦ zero | inr bad ↦ (let script = bad.1.1 in absurd (cc script)) ]))
 unchanged_unless_rendered (Err error) status X old new is line unchanged =
     elim (general.failed_output_or_other error) [
       | inl output ↦ inr

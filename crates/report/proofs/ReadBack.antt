@@ -1,11 +1,12 @@
 -- For the clause of `laws::scripts_read_back`: what is read of a script that is written out from
 -- its statements.
-use Rattle.codespan_core.proofs.Std.{◌≡◌, ℕ, suc, ◌+◌, ◌^◌, ◌<◌, ◌≤◌, Bool, true, false, List, []}
-use Rattle.codespan_core.proofs.Std.{◌∷◌, ◌++◌, length, map, Option, Some, None, Ok, codes, is_some}
-use Rattle.codespan_core.proofs.Std.{bytes_eq, refl, sym, ap, ◌∙◌, subst, arith, if◌then◌else◌}
-use Rattle.codespan_core.proofs.Std.{append_assoc, length-append, unwrap_or, All, option_map}
-use Rattle.codespan_core.proofs.Std.{slice_get, filter_map, AllByRecursion, cons_option}
-use Rattle.codespan_core.proofs.Std.{slice_split, length-map, filter_map-append, slice_get-map}
+use Rattle.codespan_core.proofs.Std.{◌≡◌, ℕ, suc, ◌+◌, ◌^◌, ◌<◌, ◌≤◌}
+use Rattle.codespan_core.proofs.Std.{Bool, true, false, List, [], ◌∷◌, ◌++◌, length, map}
+use Rattle.codespan_core.proofs.Std.{Option, Some, None, Ok, codes, is_some, bytes_eq, refl, sym}
+use Rattle.codespan_core.proofs.Std.{ap, ◌∙◌, subst, arith, if◌then◌else◌, append_assoc}
+use Rattle.codespan_core.proofs.Std.{length-append, unwrap_or, All, option_map, slice_get}
+use Rattle.codespan_core.proofs.Std.{filter_map, AllByRecursion, cons_option, slice_split}
+use Rattle.codespan_core.proofs.Std.{length-map, filter_map-append, slice_get-map}
 use Rattle.std.proofs.Common.{option_and_then}
 use Rattle.std.specs.declared.ops.Range.{Range}
 use Rattle.codespan_core.specs.declared.diagnostic.Severity.TheVariants.{Error}
@@ -42,7 +43,8 @@ rest_of_word_first word [] = refl
 rest_of_word_first word (line ∷ lines) =
     by_test (bytes_eq (word_of line) word) (rest_of_word_first word lines)
   where
-    by_test : (b : Bool) → rest_of_word word lines ≡ slice_get (filter_map (rest_by word) lines) 0
+    by_test : (b : Bool) → rest_of_word word lines
+        ≡ slice_get (filter_map (rest_by word) lines) 0
         → option_map rest_of (if b then Some line else line_of_word word lines) ≡ slice_get
         (cons_option (if b then Some (rest_of line) else None) (filter_map (rest_by word) lines)) 0
     by_test true is = refl
@@ -133,7 +135,8 @@ both_numbers first last start end m n p q = rw (p, q)
 
 label_correct : (start : ℕ) (s : Statement) (range : Range ℕ) (message : Option (List ℕ))
     → range.start < 2 ^ 64 → range.end < 2 ^ 64
-    → rest_of (line_at start s) ≡ label_fields range message → number_fault (line_at start s) ≡ None
+    → rest_of (line_at start s) ≡ label_fields range message
+    → number_fault (line_at start s) ≡ None
 unfolding number_fault
 label_correct start s range message first last is =
     let line : ScriptLineView = line_at start s in
@@ -246,7 +249,8 @@ module _ (ss : List Statement) (can : AllByRecursion IsStatable ss) where
   }
 
   -- and no word that may occur once is repeated
-  all_once : length (filter_map severity_stated ss) ≤ 1 → length (filter_map code_stated ss) ≤ 1
+  all_once : length (filter_map severity_stated ss) ≤ 1
+      → length (filter_map code_stated ss) ≤ 1
       → length (filter_map message_stated ss) ≤ 1 → AreOnce (statement_lines 0 ss)
   all_once severity code message = record {
     severity = rw (names_read, length-map) severity;
@@ -256,13 +260,15 @@ module _ (ss : List Statement) (can : AllByRecursion IsStatable ss) where
   }
 
 -- what holds by the indices of elements holds of each
-each_by_recursion : (P : Statement → Type 0) (ss : List Statement) → All P ss → AllByRecursion P ss
+each_by_recursion : (P : Statement → Type 0) (ss : List Statement) → All P ss
+    → AllByRecursion P ss
 each_by_recursion P [] all = tt
 each_by_recursion P (s ∷ ss) all =
     (all 0 s (omega arith), each_by_recursion P ss (λ k d below. all (suc k) d (omega arith)))
 
 -- a script that is written out is read as its statements say
-pub reads_back : (statements : List Statement) (source : List ℕ) → ScriptReadsBack statements source
+pub reads_back : (statements : List Statement) (source : List ℕ)
+    → ScriptReadsBack statements source
 unfolding parsed_script script_lines
 reads_back ss source script =
     let can = each_by_recursion IsStatable ss script.statable in

@@ -1,9 +1,9 @@
 -- For the clause of `laws::scripts_read_back`: what is read of each line of a script that is
 -- written out from its statements.
-use Rattle.codespan_core.proofs.Std.{◌≡◌, ℕ, ◌+◌, ◌^◌, ◌<◌, List, [], ◌∷◌, length, take, Option}
-use Rattle.codespan_core.proofs.Std.{Some, None, codes, bytes_eq, refl, ap, ◌∙◌, if◌then◌else◌}
-use Rattle.codespan_core.proofs.Std.{unwrap_or, decimal, option_map, filter_map, AllByRecursion}
-use Rattle.codespan_core.proofs.Std.{cons_option, position_or_len}
+use Rattle.codespan_core.proofs.Std.{◌≡◌, ℕ, ◌+◌, ◌^◌, ◌<◌, List, [], ◌∷◌}
+use Rattle.codespan_core.proofs.Std.{length, take, Option, Some, None, codes, bytes_eq, refl, ap}
+use Rattle.codespan_core.proofs.Std.{◌∙◌, if◌then◌else◌, unwrap_or, decimal, option_map}
+use Rattle.codespan_core.proofs.Std.{filter_map, AllByRecursion, cons_option, position_or_len}
 use Rattle.std.proofs.Common.{one-add}
 use Rattle.std.specs.declared.ops.Range.{Range}
 use Rattle.codespan_core.specs.declared.diagnostic.Severity.TheVariants.{Bug, Error, Warning, Note}
@@ -14,8 +14,8 @@ use Rattle.program_io.specs.Names.{severity_named}
 use Rattle.report.specs.Requests.{number_of}
 use Rattle.report.specs.Statements.{IsStatable, Statement, code_stated, joined_fields, label_fields}
 use Rattle.codespan_core.specs.Diagnostics.{severity_name}
-use Rattle.report.specs.Statements.{label_stated, message_stated, note_stated}
-use Rattle.report.specs.Statements.{severity_stated, statement_line}
+use Rattle.report.specs.Statements.{label_stated, message_stated, note_stated, severity_stated}
+use Rattle.report.specs.Statements.{statement_line}
 use Rattle.report.specs.Statements.Statement.{SeverityLine, CodeLine, MessageLine, LabelLine}
 use Rattle.report.specs.Statements.Statement.{NoteLine, CommentLine, EmptyLine}
 use Rattle.report.specs.ScriptLines.{ScriptLineView, rest_of, word_of}
@@ -38,7 +38,8 @@ rest_by word line = if bytes_eq (word_of line) word then Some (rest_of line) els
 
 -- the severity, the code, the message and the note of a line are those of its statement
 pub severity_read : (start : ℕ) (s : Statement) → IsStatable s
-    → rest_by (codes "severity") (line_at start s) ≡ option_map severity_name (severity_stated s)
+    → rest_by (codes "severity") (line_at start s)
+    ≡ option_map severity_name (severity_stated s)
 severity_read start (SeverityLine severity) can = refl
 severity_read start (CodeLine text) can = refl
 severity_read start (MessageLine text) can = refl
@@ -99,7 +100,8 @@ name_read Note = refl
 name_read Help = refl
 
 -- a label is read field by field
-both_ends : (style : LabelStyle) (range : Range ℕ) (message text : List ℕ) (first last : Option ℕ)
+both_ends : (style : LabelStyle) (range : Range ℕ) (message text : List ℕ)
+    (first last : Option ℕ)
     → text ≡ message → first ≡ Some range.start → last ≡ Some range.end
     → label_with_ends style text first last ≡ Some
     (record { style = style; file_id = tt; range = range; message = message })
@@ -124,7 +126,8 @@ fields_read range None first last =
           ∙ number_of-decimal range.start first;
       last =
           ap (λ rest. number_of (field_of rest)) after
-          ∙ ap number_of (field_alone (decimal range.end) end) ∙ number_of-decimal range.end last;
+          ∙ ap number_of (field_alone (decimal range.end) end)
+          ∙ number_of-decimal range.end last;
       text = ap past_space after ∙ past_alone (decimal range.end) end;
     }
 fields_read range (Some message) first last =

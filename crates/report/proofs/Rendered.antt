@@ -1,7 +1,7 @@
 -- For the clauses of `rendering::render_over` and `rendering::config_in`: the output of a
 -- diagnostic.
-use Rattle.codespan_core.proofs.Std.{◌≡◌, ℕ, true, List, Result, Ok, Err, IfOk, refl, sym, subst}
-use Rattle.codespan_core.proofs.Std.{ap, ◌∙◌}
+use Rattle.codespan_core.proofs.Std.{◌≡◌, ℕ, true, List, Result, Ok, Err, IfOk, refl, sym}
+use Rattle.codespan_core.proofs.Std.{subst, ap, ◌∙◌}
 use Rattle.codespan_core.specs.Defaults.{default_config}
 use Rattle.codespan_core.specs.Diagnostics.{diagnostic_view}
 use Rattle.codespan_core.specs.FileModel.{FileDatabase}
@@ -45,7 +45,8 @@ module _ (d : Diagnostic (Unit {0})) where
       is_rendered.text_is
       ∙ ap text_of
       (is_rendered.is_output.stream_is
-      ∙ output_stated (table_at name source failure) d (λ x has. refl) config.display_style config
+      ∙ output_stated (table_at name source failure) d (λ x has. refl) config.display_style
+      config
       config is_rendered.is_output.loci is_rendered.is_output.are_loci)
       ∙ ap text_of (picture-of_view plain config (table_at name source failure) d equal)
       ∙ ap
@@ -57,7 +58,8 @@ module _ (d : Diagnostic (Unit {0})) where
 
   -- the same of a call that returns a text, by a configuration equal to the default one in a style
   pub rendered_result : {T : Type 0} (style : DisplayStyle) (text : T → List ℕ)
-      (name source : List ℕ) (config : Config) (failure : Failures (Unit {0})) (r : Result T Error)
+      (name source : List ℕ) (config : Config) (failure : Failures (Unit {0}))
+      (r : Result T Error)
       → IsEqualConfig (report_config style) config
       → IfOk r (λ t. IsRendered config (table_at name source failure) d (text t))
       → (named contents : List ℕ) → name ≡ named → source ≡ contents

@@ -1,9 +1,10 @@
 -- For the clauses of `lines::first_line` and `lines::without_carriage_return`, and for both laws: a
 -- text, cut into lines, and a line that is cut.
-use Rattle.codespan_core.proofs.Std.{◌≡◌, ◌≢◌, ℕ, ◌+◌, ◌-◌, ◌<◌, ◌≤◌, ◌==◌, true, false, List, []}
-use Rattle.codespan_core.proofs.Std.{◌∷◌, ◌++◌, length, get_or, take, drop, refl, sym, ap, ◌∙◌}
-use Rattle.codespan_core.proofs.Std.{arith, if◌then◌else◌, slice_split, nat_tests, common_steps}
-use Rattle.codespan_core.proofs.Std.{drop-drop, take_all, take_more, length-append}
+use Rattle.codespan_core.proofs.Std.{◌≡◌, ◌≢◌, ℕ, ◌+◌, ◌-◌, ◌<◌}
+use Rattle.codespan_core.proofs.Std.{◌≤◌, ◌==◌, true, false, List, [], ◌∷◌}
+use Rattle.codespan_core.proofs.Std.{◌++◌, length, get_or, take, drop, refl, sym, ap, ◌∙◌}
+use Rattle.codespan_core.proofs.Std.{arith, if◌then◌else◌, slice_split, nat_tests}
+use Rattle.codespan_core.proofs.Std.{common_steps, drop-drop, take_all, take_more, length-append}
 use Rattle.std.specs.Str.Lines.{strip_carriage_return}
 use Rattle.std.proofs.lemmas.List.{drop_at, take_at, get_or_push, length_push}
 use Rattle.std.proofs.lemmas.List.Splits.{length-slice_split}
@@ -25,7 +26,8 @@ same_test : (c : ℕ) → (c == c) ≡ true
 same_test c = grind (arith, nat_tests)
 
 -- a text without c is one piece
-pub pieces_of_one : (c : ℕ) (xs : List ℕ) → Lacks c xs → slice_split (λ x. x == c) xs ≡ xs ∷ []
+pub pieces_of_one : (c : ℕ) (xs : List ℕ) → Lacks c xs
+    → slice_split (λ x. x == c) xs ≡ xs ∷ []
 pieces_of_one c [] h = refl
 pieces_of_one c (x ∷ xs) h = rw (head_differs c x xs h, pieces_of_one c xs (Lacks-tail c x xs h))
 
@@ -43,7 +45,11 @@ some_piece p xs = omega (arith, length-slice_split p xs)
 pub line_then : (start : ℕ) (piece : List ℕ) (pieces : List (List ℕ)) → 0 < length pieces
     → script_lines_from start
     (piece ∷ pieces)
-    ≡ record { start = start; text = strip_carriage_return piece; next = start + length piece + 1 }
+    ≡ record {
+      start = start;
+      text = strip_carriage_return piece;
+      next = start + length piece + 1;
+    }
     ∷ script_lines_from (start + length piece + 1) pieces
 line_then start piece [] some = absurd (omega arith)
 line_then start piece (other ∷ more) some = refl
@@ -75,7 +81,8 @@ first_then size left text after within is lacks =
 -- the one line of what is left without a newline
 pub last_line : (size : ℕ) (left : List ℕ) → length left ≤ size → Lacks 10 left
     → script_lines_from (size - length left)
-    (slice_split is_newline left) ≡ record { start = size - length left; text = left; next = size }
+    (slice_split is_newline left)
+    ≡ record { start = size - length left; text = left; next = size }
     ∷ []
 last_line size left within lacks =
     let at : size - length left + length left ≡ size = omega arith in
@@ -86,7 +93,8 @@ last_line size left within lacks =
 ends_in_last : (xs : List ℕ) → 0 < length xs
     → xs ≡ take (length xs - 1) xs ++ get_or xs (length xs - 1) 0 ∷ []
 ends_in_last xs some =
-    let more : take (length xs - 1 + 1) xs ≡ take (length xs - 1) xs ++ get_or xs (length xs - 1) 0
+    let more : take (length xs - 1 + 1) xs ≡ take (length xs - 1) xs
+    ++ get_or xs (length xs - 1) 0
     ∷ [] =
     take_more xs (length xs - 1) 0 (omega arith) in
     let whole : length xs - 1 + 1 ≡ length xs = omega arith in

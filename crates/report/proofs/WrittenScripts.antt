@@ -1,8 +1,9 @@
 -- For the clause of `laws::scripts_read_back`: the lines of a script that is written out from its
 -- statements.
-use Rattle.codespan_core.proofs.Std.{◌≡◌, ◌≢◌, ℕ, suc, zero, ◌+◌, ◌-◌, ◌^◌, ◌<◌, true, false, List}
-use Rattle.codespan_core.proofs.Std.{[], ◌∷◌, ◌++◌, length, get_or, take, drop, Option, Some, None}
-use Rattle.codespan_core.proofs.Std.{IfSome, codes, bytes_eq, ltb, refl, sym, ap, ◌∙◌, arith}
+use Rattle.codespan_core.proofs.Std.{◌≡◌, ◌≢◌, ℕ, suc, zero, ◌+◌, ◌-◌}
+use Rattle.codespan_core.proofs.Std.{◌^◌, ◌<◌, true, false, List, [], ◌∷◌, ◌++◌}
+use Rattle.codespan_core.proofs.Std.{length, get_or, take, drop, Option, Some, None, IfSome, codes}
+use Rattle.codespan_core.proofs.Std.{bytes_eq, ltb, refl, sym, ap, ◌∙◌, arith}
 use Rattle.codespan_core.proofs.Std.{if◌then◌else◌, append_assoc, append-nil, eq-eqb, ne_eqb}
 use Rattle.codespan_core.proofs.Std.{length-append, take_all, All, decimal, AllByRecursion}
 use Rattle.codespan_core.proofs.Std.{position_or_len, slice_split, and_parts, ltb-true, drop_all}
@@ -55,7 +56,8 @@ space_at xs ys lacks =
 
 pub first_field : (xs ys : List ℕ) → Lacks 32 xs → field_of (joined_fields xs ys) ≡ xs
 first_field xs ys lacks =
-    ap (λ n. take n (xs ++ 32 ∷ ys)) (space_at xs ys lacks) ∙ take_at xs (32 ∷ ys) (length xs) refl
+    ap (λ n. take n (xs ++ 32 ∷ ys)) (space_at xs ys lacks)
+    ∙ take_at xs (32 ∷ ys) (length xs) refl
 
 pub past_field : (xs ys : List ℕ) → Lacks 32 xs → past_space (joined_fields xs ys) ≡ ys
 past_field xs ys lacks =
@@ -86,7 +88,8 @@ end_nothing =
       no_carriage_return = λ is. absurd (omega (arith, is));
     }
 
-newline_none : (x : ℕ) (xs : List ℕ) → 13 < x → All (λ b. b ≢ 10) xs → All (λ b. b ≢ 10) (x ∷ xs)
+newline_none : (x : ℕ) (xs : List ℕ) → 13 < x → All (λ b. b ≢ 10) xs
+    → All (λ b. b ≢ 10) (x ∷ xs)
 newline_none x xs large none zero d below = λ is. absurd (omega (arith, is))
 newline_none x xs large none (suc k) d below = none k d (omega arith)
 
@@ -109,7 +112,8 @@ end_after (x ∷ xs) ys large end =
           return_none x (xs ++ ys) (large 0 (omega arith)) more.no_carriage_return;
     }
 
-end_decimal : (n : ℕ) (ys : List ℕ) → n < 2 ^ 64 → IsLineSuffix ys → IsLineSuffix (decimal n ++ ys)
+end_decimal : (n : ℕ) (ys : List ℕ) → n < 2 ^ 64 → IsLineSuffix ys
+    → IsLineSuffix (decimal n ++ ys)
 end_decimal n ys fits end =
     end_after (decimal n) ys
     (λ i below. let digit = digits_of_decimal n fits i below in omega (arith, digit.0)) end
@@ -189,7 +193,8 @@ written_after : (s : Statement) (ss : List Statement) (source : List ℕ)
     → written_script (s ∷ ss) source ≡ statement_line s ++ 10 ∷ written_script ss source
 written_after s ss source = simp append_assoc
 
-first_line : (start : ℕ) (s : Statement) (ss : List Statement) (source : List ℕ) → IsStatable s
+first_line : (start : ℕ) (s : Statement) (ss : List Statement) (source : List ℕ)
+    → IsStatable s
     → script_lines_from start (slice_split is_newline (written_script (s ∷ ss) source))
     ≡ line_at start s
     ∷ script_lines_from (start + length (statement_line s) + 1)

@@ -1,5 +1,6 @@
 -- The output of a diagnostic over one file, and what a run renders.
-use Rattle.std.specs.Prelude.{◌≡◌, ℕ, true, List, Some, Result, Ok, Err, codes, string_bytes}
+use Rattle.std.specs.Prelude.{◌≡◌, ℕ, true, List, Some, Result, Ok, Err, codes}
+use Rattle.std.specs.Prelude.{string_bytes}
 use Rattle.codespan_core.specs.declared.term.config.Config.{Config}
 use Rattle.codespan_core.specs.declared.term.config.DisplayStyle.{DisplayStyle}
 use Rattle.codespan_core.specs.Defaults.{default_config}
@@ -27,7 +28,8 @@ abbrev pub only_file : List ℕ → List ℕ → Unit {0} → FileModel
 only_file name source id = simple_file (Some name) source
 
 -- the text of the diagnostic's output, in a style, over the file of a name and a source
-unfoldable pub output_text : DisplayStyle → List ℕ → List ℕ → DiagnosticView (Unit {0}) → List ℕ
+unfoldable pub output_text : DisplayStyle → List ℕ → List ℕ → DiagnosticView (Unit {0})
+    → List ℕ
 output_text style name source diagnostic =
     text_of
     (picture_of_diagnostic_view (report_config style) (λ i j. true) (only_file name source)

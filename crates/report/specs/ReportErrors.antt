@@ -1,6 +1,6 @@
 -- The errors of a run.
-use Rattle.std.specs.Prelude.{◌≡◌, ◌⊎◌, ℕ, List, ◌++◌, Option, Some, Result, Ok, Err, codes}
-use Rattle.std.specs.Prelude.{string_bytes}
+use Rattle.std.specs.Prelude.{◌≡◌, ◌⊎◌, ℕ, List, ◌++◌, Option, Some, Result, Ok}
+use Rattle.std.specs.Prelude.{Err, codes, string_bytes}
 use Rattle.std.specs.Global.{Global}
 use Rattle.std.specs.Option.{option_map}
 use Rattle.std.specs.declared.string.String.{String}
@@ -48,7 +48,8 @@ IfBadScript _ P = Unit {0}
 
 -- the output is unchanged, or all of it was rendered: the status is 0, or it is 1 and what
 -- `stderr` has received is a prefix of the line of a failed output
-abbrev pub UnchangedUnlessRendered : Type 0 → ℕ → Option (List ℕ) → Option (List ℕ) → Type 0
+abbrev pub UnchangedUnlessRendered : Type 0 → ℕ → Option (List ℕ) → Option (List ℕ)
+    → Type 0
 UnchangedUnlessRendered is_unchanged status old new =
     is_unchanged ⊎ ((status ≡ 0)
     ⊎ ((status ≡ 1) × AppendsPrefix old new (failed_output_line (codes "report"))))

@@ -1,6 +1,6 @@
 -- What the arguments request.
-use Rattle.std.specs.Prelude.{ℕ, ◌^◌, ◌&&◌, nat_lt, List, [], ◌∷◌, Option, Some, None, IfSome}
-use Rattle.std.specs.Prelude.{if◌then◌else◌}
+use Rattle.std.specs.Prelude.{ℕ, ◌^◌, ◌&&◌, nat_lt, List, [], ◌∷◌, Option, Some}
+use Rattle.std.specs.Prelude.{None, IfSome, if◌then◌else◌}
 use Rattle.std.specs.Str.{all_ascii_digits}
 use Rattle.std.specs.Str.Parse.{digits_value}
 use Rattle.codespan_core.specs.declared.term.config.DisplayStyle.{DisplayStyle}
@@ -36,7 +36,8 @@ number_of (d ∷ ds) =
     then Some (digits_value 10 (d ∷ ds)) else None
 
 -- the label request with this name and this message, if there are a style, a start and an end
-abbrev pub label_request_with : List ℕ → List ℕ → Option DisplayStyle → Option ℕ → Option ℕ
+abbrev pub label_request_with : List ℕ → List ℕ → Option DisplayStyle → Option ℕ
+    → Option ℕ
     → Option LabelRequestView
 label_request_with name message (Some style) (Some start) (Some end) =
     Some (record { style = style; name = name; start = start; end = end; message = message })
@@ -68,5 +69,6 @@ request_of args = option_map OneLabel (label_request_of args)
 
 -- the fact holds of what the arguments request and of the bytes that the reader has, where both are
 -- known
-abbrev pub WhereKnown : List (List ℕ) → Option (List ℕ) → (RequestView → List ℕ → Type 0) → Type 0
+abbrev pub WhereKnown : List (List ℕ) → Option (List ℕ)
+    → (RequestView → List ℕ → Type 0) → Type 0
 WhereKnown args bytes P = IfSome (request_of args) (λ request. IfSome bytes (P request))

@@ -1,6 +1,6 @@
 -- The first error of a script.
-use Rattle.std.specs.Prelude.{◌≡◌, ℕ, List, [], ◌∷◌, ◌++◌, length, Option, Some, None, Result, Err}
-use Rattle.std.specs.Prelude.{if◌then◌else◌, is_some}
+use Rattle.std.specs.Prelude.{◌≡◌, ℕ, List, [], ◌∷◌, ◌++◌, length, Option, Some}
+use Rattle.std.specs.Prelude.{None, Result, Err, if◌then◌else◌, is_some}
 use Rattle.std.specs.Option.{option_map}
 use Rattle.std.specs.Str.{bytes_eq}
 use Rattle.std.specs.declared.ops.Range.{Range}
@@ -9,16 +9,15 @@ use Rattle.program_io.specs.Names.{severity_named}
 use Rattle.report.specs.declared.script.Fault.{Fault}
 use Rattle.report.specs.declared.script.FaultKind.{FaultKind}
 use Rattle.report.specs.declared.script.FaultKind.TheVariants.{UnknownWord, UnknownSeverity}
-use Rattle.report.specs.declared.script.FaultKind.TheVariants.{BadNumber, RepeatedWord}
-use Rattle.report.specs.declared.script.FaultKind.TheVariants.{MissingEnd}
+use Rattle.report.specs.declared.script.FaultKind.TheVariants.{BadNumber, RepeatedWord, MissingEnd}
 use Rattle.report.specs.declared.script.ScriptError.{ScriptError}
 use Rattle.report.specs.declared.script.ScriptError.TheVariants as errors
 use Rattle.report.specs.declared.script.words.Word.{Word}
-use Rattle.report.specs.declared.script.words.Word.TheVariants.{Severity, Code, Message}
-use Rattle.report.specs.declared.script.words.Word.TheVariants.{Primary, Secondary, Note}
+use Rattle.report.specs.declared.script.words.Word.TheVariants.{Severity, Code, Message, Primary}
+use Rattle.report.specs.declared.script.words.Word.TheVariants.{Secondary, Note}
 use Rattle.report.specs.Requests.{number_of}
-use Rattle.report.specs.ScriptLines.{ScriptLineView, is_ignored, word_of, rest_of}
-use Rattle.report.specs.ScriptLines.{range_at, word_range}
+use Rattle.report.specs.ScriptLines.{ScriptLineView, is_ignored, word_of, rest_of, range_at}
+use Rattle.report.specs.ScriptLines.{word_range}
 use Rattle.report.specs.ScriptWords.{script_word_named}
 
 -- an error with one range

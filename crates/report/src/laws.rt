@@ -10,7 +10,8 @@ ghost use Rattle.report.specs.Statements.{Statement};
 /// States that a script that is written out from statements is read as what these state together,
 /// with the source that follows it.
 pub fn scripts_read_back()
-    ensures { (statements : List Statement) (source : List ℕ) → ScriptReadsBack statements source }
+    ensures { (statements : List Statement) (source : List ℕ)
+        → ScriptReadsBack statements source }
 {}
 
 /// States that the ranges of a script's error lie inside the input, start and end between

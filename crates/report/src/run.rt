@@ -1,7 +1,8 @@
 //! One run of the program.
 
-ghost use Rattle.std.specs.Prelude.{◌≡◌, ◌≢◌, ◌≤◌, ◌↔◌, ◌⊎◌, ℕ, List, None, Ok, Err, IfErr};
-ghost use Rattle.std.specs.Prelude.{IsErrOf, OnOk, codes, map, string_bytes};
+ghost use Rattle.std.specs.Prelude.{◌≡◌, ◌≢◌, ◌≤◌, ◌↔◌, ◌⊎◌, ℕ};
+ghost use Rattle.std.specs.Prelude.{List, None, Ok, Err, IfErr, IsErrOf, OnOk, codes, map};
+ghost use Rattle.std.specs.Prelude.{string_bytes};
 ghost use Rattle.std.specs.Io.KnownBytes.{Appends, IsAtEnd};
 ghost use Rattle.std.specs.Str.{IsUtf8};
 ghost use Rattle.report.specs.RenderedTexts.{rendering_of};
@@ -42,7 +43,8 @@ pub fn run<R: Read, W: Write, E: Write>(
     ensures unread { result ≡ 2 → stdin.new ≡ stdin.old }
     ensures no_error { result ≡ 0 → stderr.new ≡ stderr.old }
     ensures read { result ≡ 0 → IsAtEnd (R.remaining stdin.new) }
-    ensures rendered { result ≡ 0 → WhereKnown (map string_bytes args.now) (R.remaining stdin.old)
+    ensures rendered { result ≡ 0
+        → WhereKnown (map string_bytes args.now) (R.remaining stdin.old)
         (λ request bytes.
         (text : List ℕ) × (rendering_of request bytes ≡ Ok text)
         × Appends (W.contents stdout.old) (W.contents stdout.new) text) }
@@ -50,13 +52,15 @@ pub fn run<R: Read, W: Write, E: Write>(
         (λ _ bytes. IsUtf8 bytes) }
     ensures unchanged { WhereKnown (map string_bytes args.now) (R.remaining stdin.old) (λ _ bytes.
         ¬ (IsUtf8 bytes) → stdout.new ≡ stdout.old) }
-    ensures reported { result ≡ 3 → WhereKnown (map string_bytes args.now) (R.remaining stdin.old)
+    ensures reported { result ≡ 3
+        → WhereKnown (map string_bytes args.now) (R.remaining stdin.old)
         (λ request bytes.
         (text : List ℕ) × (rendering_of request bytes ≡ Err text)
         × Appends (E.contents stderr.old) (E.contents stderr.new) text) }
     ensures bad_script { WhereKnown (map string_bytes args.now) (R.remaining stdin.old)
         (λ request bytes.
-        (text : List ℕ) → rendering_of request bytes ≡ Err text → ((result ≡ 3) ⊎ (result ≡ 1))
+        (text : List ℕ) → rendering_of request bytes ≡ Err text
+        → ((result ≡ 3) ⊎ (result ≡ 1))
         × (stdout.new ≡ stdout.old)) }
     ensures unrendered { UnchangedUnlessRendered (stdout.new ≡ stdout.old) result
         (E.contents stderr.old) (E.contents stderr.new) }

@@ -1,7 +1,8 @@
 //! A file database of many files, each a name and a source.
 
-ghost use Rattle.std.specs.Prelude.{◌≡◌, ◌+◌, ◌<◌, ◌++◌, ◌∷◌, ◌↔◌, [], IfOk, IfErr, IfSome, IsOk};
-ghost use Rattle.std.specs.Prelude.{OnOk, OnErr, IsErrOf, length, refl, slice_get, Some, None};
+ghost use Rattle.std.specs.Prelude.{◌≡◌, ◌+◌, ◌<◌, ◌++◌, ◌∷◌, ◌↔◌};
+ghost use Rattle.std.specs.Prelude.{[], IfOk, IfErr, IfSome, IsOk, OnOk, OnErr, IsErrOf, length};
+ghost use Rattle.std.specs.Prelude.{refl, slice_get, Some, None};
 ghost use Rattle.codespan_core.specs.declared.files.Error.TheVariants.{OutOfMemory, FileMissing};
 
 use codespan_core::files::{Error, Files, Location, SimpleFile, default_line_number};

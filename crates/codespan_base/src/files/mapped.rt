@@ -1,7 +1,7 @@
 //! A file database of one text whose line numbers can be set, as `#line` does in C.
 
-ghost use Rattle.std.specs.Prelude.{◌≡◌, ◌≤◌, [], refl, IfOk, IsOk, IfErr, IfSome, OnOk, OnErr};
-ghost use Rattle.std.specs.Prelude.{IsErrOf, None, option_map};
+ghost use Rattle.std.specs.Prelude.{◌≡◌, ◌≤◌, [], refl, IfOk, IsOk, IfErr, IfSome};
+ghost use Rattle.std.specs.Prelude.{OnOk, OnErr, IsErrOf, None, option_map};
 ghost use Rattle.codespan_core.specs.Lines.{line_starts_of};
 ghost use Rattle.codespan_base.specs.SetLineNumbers.{set_number_view, set_number_views};
 ghost use Rattle.codespan_base.specs.SetLineNumbers.{IsStrictlySorted, IsSetAt, IsInsertionPoint};

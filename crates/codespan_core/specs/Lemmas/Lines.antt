@@ -1,6 +1,7 @@
 -- For the law of `Files`, for `next` of `LineStarts`, and for lookups: facts on line starts.
-use Rattle.std.proofs.Common.{◌≡◌, ℕ, zero, suc, ◌+◌, ◌-◌, ◌^◌, ◌<◌, ◌≤◌, Bool, true, false, cond}
-use Rattle.std.proofs.Common.{List, [], ◌∷◌, length, get_or, drop, refl, ◌∙◌, arith, eqb, inl, inr}
+use Rattle.std.proofs.Common.{◌≡◌, ℕ, zero, suc, ◌+◌, ◌-◌, ◌^◌, ◌<◌}
+use Rattle.std.proofs.Common.{◌≤◌, Bool, true, false, cond, List, [], ◌∷◌, length}
+use Rattle.std.proofs.Common.{get_or, drop, refl, ◌∙◌, arith, eqb, inl, inr}
 use Rattle.std.specs.Prelude.{◌≢◌, if◌then◌else◌, count_by, nat_le, slice_index}
 use Rattle.std.proofs.lemmas.Bool.{cases_lt, eqb-true, eq-eqb, le-leb, lt-leb}
 use Rattle.std.proofs.lemmas.Bool.Decides.{eqb_tells}
@@ -41,7 +42,8 @@ above_cons from b bs xs c (suc k) h = omega (arith, c.above k (omega arith))
 
 -- and none is past the end
 within_cons : (from b : ℕ) (bs xs : List ℕ) → Cuts (from + 1) bs xs → (k : ℕ)
-    → k < length ((from + 1) ∷ xs) → get_or ((from + 1) ∷ xs) k 0 ≤ from + length (b ∷ bs)
+    → k < length ((from + 1) ∷ xs)
+    → get_or ((from + 1) ∷ xs) k 0 ≤ from + length (b ∷ bs)
 within_cons from b bs xs c zero h = omega arith
 within_cons from b bs xs c (suc k) h = omega (arith, c.within k (omega arith))
 
@@ -92,7 +94,8 @@ cuts from (b ∷ bs) = cuts_by from b bs _ (eqb b 10) refl (cuts (from + 1) bs)
 
 -- i numbers are at most b, where the first i are, and those after them are above it
 pub count_split : (b : ℕ) (xs : List ℕ) (i : ℕ) → i ≤ length xs
-    → ((k : ℕ) → k < i → get_or xs k 0 ≤ b) → ((k : ℕ) → i ≤ k → k < length xs → b < get_or xs k 0)
+    → ((k : ℕ) → k < i → get_or xs k 0 ≤ b)
+    → ((k : ℕ) → i ≤ k → k < length xs → b < get_or xs k 0)
     → count_by (λ s. nat_le s b) xs ≡ i
 count_split b [] i h low high = omega arith
 count_split b (x ∷ xs) zero h low high =
@@ -123,7 +126,8 @@ pub starts_after_other : (bs : List ℕ) (i : ℕ) → i < length bs → get_or 
 starts_after_other bs i h n = rw (drop_more bs i 0 h) (rw (ne-eqb (get_or bs i 0) 10 n) refl)
 
 -- no byte is left
-pub starts_after_end : (bs : List ℕ) (i : ℕ) → length bs ≤ i → starts_after i (drop i bs) ≡ []
+pub starts_after_end : (bs : List ℕ) (i : ℕ) → length bs ≤ i
+    → starts_after i (drop i bs) ≡ []
 starts_after_end bs i h = rw (drop_all i bs h) refl
 
 -- a step over n bytes that are no newlines
@@ -146,7 +150,8 @@ pub starts_after_run : (bs : List ℕ) (i j : ℕ) → i ≤ j → j ≤ length 
     → starts_after i (drop i bs) ≡ starts_after j (drop j bs)
 starts_after_run bs i j ordered within others =
     let e : j ≡ i + (j - i) = omega arith in
-    rw e (starts_after_others bs i (j - i) (omega arith) (λ k low high. others k low (omega arith)))
+    rw e
+    (starts_after_others bs i (j - i) (omega arith) (λ k low high. others k low (omega arith)))
 
 -- a byte's line is a line
 pub line_of_below : (starts : List ℕ) (byte : ℕ) → 0 < length starts
@@ -163,7 +168,8 @@ one-later s a b h =
       | inr p ↦ rw (le-leb s a p, le-leb s b (omega (arith, p))) (omega arith)
     ]
 
-pub line_of-rises : (starts : List ℕ) (a b : ℕ) → a ≤ b → line_of starts a ≤ line_of starts b
+pub line_of-rises : (starts : List ℕ) (a b : ℕ) → a ≤ b
+    → line_of starts a ≤ line_of starts b
 unfolding line_of
 line_of-rises starts a b h =
     omega (

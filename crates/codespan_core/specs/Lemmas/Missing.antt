@@ -1,7 +1,7 @@
 -- For the members `lawful`, `same_file` and `past_last_line` of `SimpleFiles` of `codespan_base`:
 -- the law of a file database some of whose ids name no file.
-use Rattle.std.proofs.Common.{◌≡◌, ℕ, zero, suc, ◌<◌, true, Option, Some, None, refl, ap, arith}
-use Rattle.std.proofs.Common.{eqb}
+use Rattle.std.proofs.Common.{◌≡◌, ℕ, zero, suc, ◌<◌, true, Option, Some, None, refl}
+use Rattle.std.proofs.Common.{ap, arith, eqb}
 use Rattle.std.proofs.lemmas.Bool.{eqb-true}
 use Rattle.std.specs.Option.{option_map_or}
 use Rattle.std.specs.Prelude.{List, [], ◌∷◌, map, slice_get}
@@ -38,7 +38,8 @@ missing_lawful = record {
 
 -- where the file of each item of a list is lawful, by a view of the item, so is the file of each
 -- id, also of one that names none
-pub database_lawful : {X Y : Type 0} (view : X → Y) (file : Y → FileModel) (xs : List X) (id : ℕ)
+pub database_lawful : {X Y : Type 0} (view : X → Y) (file : Y → FileModel) (xs : List X)
+    (id : ℕ)
     → ((x : X) → IsLawful (file (view x)))
     → IsLawful (option_map_or file (slice_get (map view xs) id) missing_file)
 database_lawful view file [] id h = missing_lawful
@@ -46,8 +47,10 @@ database_lawful view file (x ∷ xs) zero h = h x
 database_lawful view file (x ∷ xs) (suc id) h = database_lawful view file xs id h
 
 -- and where the file of each item fails past its last line as the law says, so does that of each id
-pub past_last_line_or : {X : Type 0} (file : X → FileModel) (failure : X → Lookup → Option Error)
-    (i : ℕ) (o : Option X) → ((x : X) → FailsPastLastLine (file x) i (failure x (LineRange i)))
+pub past_last_line_or : {X : Type 0} (file : X → FileModel)
+    (failure : X → Lookup → Option Error)
+    (i : ℕ) (o : Option X)
+    → ((x : X) → FailsPastLastLine (file x) i (failure x (LineRange i)))
     → FailsPastLastLine (option_map_or file o missing_file) i
     (option_map_or (λ x. failure x (LineRange i)) o (missing_failure (LineRange i)))
 past_last_line_or file failure i None h = λ there. absurd (cc)

@@ -1,7 +1,8 @@
 -- For the members and calls of `SimpleFile`, and of other databases of texts: the file of a text is
 -- lawful, and which line has a byte.
-use Rattle.std.proofs.Common.{◌≡◌, ℕ, zero, suc, ◌+◌, ◌-◌, ◌^◌, ◌<◌, ◌≤◌, List, [], ◌∷◌, length}
-use Rattle.std.proofs.Common.{get_or, refl, arith, Option, ◌⊎◌, ⊎_elim, inl, inr}
+use Rattle.std.proofs.Common.{◌≡◌, ℕ, zero, suc, ◌+◌, ◌-◌, ◌^◌, ◌<◌}
+use Rattle.std.proofs.Common.{◌≤◌, List, [], ◌∷◌, length, get_or, refl, arith, Option}
+use Rattle.std.proofs.Common.{◌⊎◌, ⊎_elim, inl, inr}
 use Rattle.std.proofs.lemmas.Bool.{cases_lt}
 use Rattle.std.proofs.lemmas.Bool.Decides.{leb_tells}
 use Rattle.std.proofs.Common.{add-zero, Ok, Err}
@@ -86,7 +87,8 @@ end_after text u i h =
     ]
 
 -- the file of a text is lawful
-pub simple_lawful : (name : Option (List ℕ)) (text : List ℕ) → IsUtf8 text → length text < 2 ^ 64
+pub simple_lawful : (name : Option (List ℕ)) (text : List ℕ) → IsUtf8 text
+    → length text < 2 ^ 64
     → IsLawful (simple_file name text)
 simple_lawful name text u fits = record {
   is_utf8 = u;
@@ -105,7 +107,8 @@ simple_lawful name text u fits = record {
 
 -- of n lines, exactly those from n on fail with the error past the last
 pub past_last_line_is : (n i : ℕ)
-    → IsPastLastLineError (if nat_lt i n then None else Some (LineTooLarge i (n - 1))) ↔ (n ≤ i)
+    → IsPastLastLineError (if nat_lt i n then None else Some (LineTooLarge i (n - 1))) ↔
+    (n ≤ i)
 past_last_line_is n i =
     elim (leb_tells (suc i) n) [
       | inl p ↦ rw p.0 (absurd, λ h. omega (arith, h, p.1))
@@ -119,7 +122,8 @@ simple_past_last_line name text i there = past_last_line_is (length (line_starts
 
 -- the law still holds where lines that exist may fail too, with any other error
 pub or_failure-past_last_line : (f : FileModel) (i : ℕ) (o p : Option Error)
-    → (IsPastLastLineError p → ⊥) → FailsPastLastLine f i o → FailsPastLastLine f i (or_failure o p)
+    → (IsPastLastLineError p → ⊥) → FailsPastLastLine f i o
+    → FailsPastLastLine f i (or_failure o p)
 or_failure-past_last_line f i None p other h =
     λ there. (λ past. absurd (other past), λ late. absurd ((h there).1 late))
 or_failure-past_last_line f i (Some e) p other h = h
@@ -146,7 +150,8 @@ in_order text i j h k =
 
 -- the line of a byte at which a line starts
 pub line_found_at_start : (text xs : List ℕ) (byte i : ℕ) → xs ≡ line_starts_of text
-    → IsBinarySearchResult (λ y. nat_cmp y byte) xs (Ok i) → i ≡ line_of (line_starts_of text) byte
+    → IsBinarySearchResult (λ y. nat_cmp y byte) xs (Ok i)
+    → i ≡ line_of (line_starts_of text) byte
 unfolding line_of
 line_found_at_start text xs byte i e found =
     let f = searched (line_starts_of text) byte (Ok i) (rw e at found) (in_order text) in

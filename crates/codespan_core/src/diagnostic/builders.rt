@@ -1,7 +1,7 @@
 //! The builders of a diagnostic: its `with_` calls.
 
-ghost use Rattle.std.specs.Prelude.{◌≡◌, ◌++◌, ◌∷◌, [], IfOk, IfSome, IfErr, OnErr, IsErrOf};
-ghost use Rattle.std.specs.Prelude.{IsSome, String, string_bytes, map, Some};
+ghost use Rattle.std.specs.Prelude.{◌≡◌, ◌++◌, ◌∷◌, [], IfOk, IfSome, IfErr, OnErr};
+ghost use Rattle.std.specs.Prelude.{IsErrOf, IsSome, String, string_bytes, map, Some};
 ghost use Rattle.std.specs.Global.{Global};
 ghost use Rattle.std.specs.Option.{option_map};
 ghost use Rattle.std.specs.Iterator.{IsFinite};

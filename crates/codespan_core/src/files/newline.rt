@@ -1,5 +1,6 @@
 //! The search for the next newlines of a text.
-ghost use Rattle.std.specs.Prelude.{◌≡◌, ◌≢◌, ◌+◌, ◌-◌, ◌<◌, ◌≤◌, ℕ, length, map, slice_index};
+ghost use Rattle.std.specs.Prelude.{◌≡◌, ◌≢◌, ◌+◌, ◌-◌, ◌<◌, ◌≤◌};
+ghost use Rattle.std.specs.Prelude.{ℕ, length, map, slice_index};
 ghost use Rattle.std.specs.Simd.Lanes.{chunk, mask_l};
 ghost use Rattle.codespan_core.specs.Lines.{is_newline};
 
@@ -24,7 +25,8 @@ pub(super) fn find_newlines(bytes: &[u8], from: usize) -> NewlineBlock
     ensures ordered { result.start ≤ result.end }
     ensures high { result.end ≤ length bytes.now }
     ensures near { result.end ≤ result.start + 32 }
-    ensures before { (i : ℕ) → from ≤ i → i < result.start → slice_index bytes.now i ≢ 10 }
+    ensures before { (i : ℕ) → from ≤ i → i < result.start
+        → slice_index bytes.now i ≢ 10 }
     ensures mask { result.mask ≡ mask_l
         (map is_newline (chunk result.start (result.end - result.start) bytes.now)) }
     ensures last { result.mask ≡ 0 → result.end ≡ length bytes.now }

@@ -1,7 +1,7 @@
 //! A file database of one text.
 
-ghost use Rattle.std.specs.Prelude.{◌≡◌, ◌-◌, ◌+◌, ◌^◌, ◌<◌, ◌≤◌, length, refl, IfOk, IsOk, OnOk};
-ghost use Rattle.std.specs.Prelude.{OnErr, IsErrOf, None};
+ghost use Rattle.std.specs.Prelude.{◌≡◌, ◌-◌, ◌+◌, ◌^◌, ◌<◌, ◌≤◌};
+ghost use Rattle.std.specs.Prelude.{length, refl, IfOk, IsOk, OnOk, OnErr, IsErrOf, None};
 ghost use Rattle.std.specs.Str.{IsUtf8};
 ghost use Rattle.codespan_core.specs.Lines.{line_starts_of};
 

@@ -1,5 +1,6 @@
 //! The iterator over the line starts of a text.
-ghost use Rattle.std.specs.Prelude.{◌≡◌, ◌≢◌, ◌+◌, ◌-◌, ◌≤◌, [], ◌∷◌, length, map};
+ghost use Rattle.std.specs.Prelude.{◌≡◌, ◌≢◌, ◌+◌, ◌-◌, ◌≤◌, []};
+ghost use Rattle.std.specs.Prelude.{◌∷◌, length, map};
 ghost use Rattle.std.specs.Simd.Lanes.{chunk, mask_l};
 ghost use Rattle.codespan_core.specs.Lines.{is_newline};
 

@@ -11,8 +11,8 @@ use Rattle.codespan_native.specs.declared.native_file.text.SourceText.{SourceTex
 use Rattle.codespan_native.specs.declared.native_file.text.SourceText.TheVariants.{Newline, Stated}
 use Rattle.codespan_native.specs.declared.native_files.NativeFiles.{NativeFiles}
 use Rattle.codespan_native.specs.Lemmas.SourceTexts.{newline_lawful, stated_lawful}
-use Rattle.codespan_native.specs.SourceModel.{source_text_view, native_file_view}
-use Rattle.codespan_native.specs.SourceModel.{native_file_views, stated_view}
+use Rattle.codespan_native.specs.SourceModel.{source_text_view, native_file_view, native_file_views}
+use Rattle.codespan_native.specs.SourceModel.{stated_view}
 use Rattle.codespan_native.specs.SourceTexts.{NativeFileView, native_database, native_failure}
 use Rattle.codespan_native.specs.SourceTexts.{native_file_model}
 use Rattle.codespan_native.specs.StatedLines.{location_at}
@@ -25,7 +25,8 @@ stated_is_lawful t stated =
 
 -- a text makes a lawful file
 pub text_is_lawful : (t : SourceText) (stated : ℕ → Option Location)
-    → IsLawful (native_file_model (record { text = source_text_view t; stated_location = stated }))
+    → IsLawful
+    (native_file_model (record { text = source_text_view t; stated_location = stated }))
 text_is_lawful (Newline t) stated =
     newline_lawful _ _ t.first_line stated (text_is_utf8 t.file) (text_fits t.file)
 text_is_lawful (Stated t) stated = stated_is_lawful t stated

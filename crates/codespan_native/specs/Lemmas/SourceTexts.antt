@@ -1,6 +1,7 @@
 -- Texts cut at newlines, and texts cut into lines for which `are_lines` holds, make lawful files.
-use Rattle.std.proofs.Common.{◌≡◌, ℕ, zero, suc, ◌+◌, ◌-◌, ◌^◌, ◌<◌, ◌≤◌, true, List, [], ◌∷◌}
-use Rattle.std.proofs.Common.{length, refl, arith, Option, eqb}
+use Rattle.std.proofs.Common.{◌≡◌, ℕ, zero, suc, ◌+◌, ◌-◌, ◌^◌, ◌<◌}
+use Rattle.std.proofs.Common.{◌≤◌, true, List, [], ◌∷◌, length, refl, arith, Option}
+use Rattle.std.proofs.Common.{eqb}
 use Rattle.std.specs.Prelude.{nat_lt, nat_le, slice_index, Some}
 use Rattle.std.proofs.lemmas.Bool.{and_parts}
 use Rattle.std.proofs.lemmas.Bool.Decides.{nat_tests}
@@ -32,7 +33,8 @@ newline_lawful name text first_line stated u fits =
     (simple_lawful (Some name) text u fits)
 
 -- where `is_char_boundary` holds there is a boundary
-boundary : (text : List ℕ) (i : ℕ) → is_char_boundary text i ≡ true → IsCharBoundary text i
+boundary : (text : List ℕ) (i : ℕ) → is_char_boundary text i ≡ true
+    → IsCharBoundary text i
 boundary text i e = grind (arith, nat_tests, e)
 
 module _ (text : List ℕ) (first_byte : ℕ) where
@@ -56,7 +58,8 @@ module _ (text : List ℕ) (first_byte : ℕ) where
     pub inside : l.start - first_byte ≤ l.end - first_byte
     pub start_cut : IsCharBoundary text (l.start - first_byte)
     pub end_cut : IsCharBoundary text (l.end - first_byte)
-    pub rest : are_next_lines text first_byte (l.start - first_byte) (l.end - first_byte) ls ≡ true
+    pub rest : are_next_lines text first_byte (l.start - first_byte) (l.end - first_byte) ls
+        ≡ true
 
   step : (start end : ℕ) (l : RawLine) (ls : List RawLine)
       → are_next_lines text first_byte start end (l ∷ ls) ≡ true → Step start end l ls
@@ -98,14 +101,16 @@ module _ (text : List ℕ) (first_byte : ℕ) where
       end_on_boundary (suc i) p = absurd (omega (arith, p))
 
       end_after_start : (i : ℕ) → i < 1
-          → slice_index ((l.start - first_byte) ∷ []) i ≤ slice_index ((l.end - first_byte) ∷ []) i
+          → slice_index ((l.start - first_byte) ∷ []) i ≤ slice_index
+          ((l.end - first_byte) ∷ []) i
       end_after_start zero p = h
       end_after_start (suc i) p = absurd (omega (arith, p))
 
   -- a line before a chain that follows it
   chain_more : (l m : RawLine) (ms : List RawLine) → IsCharBoundary text (l.start - first_byte)
       → IsCharBoundary text (l.end - first_byte) → l.start - first_byte ≤ l.end - first_byte
-      → l.start - first_byte < m.start - first_byte → l.end - first_byte ≤ m.start - first_byte
+      → l.start - first_byte < m.start - first_byte
+      → l.end - first_byte ≤ m.start - first_byte
       → Chain (m ∷ ms) → Chain (l ∷ m ∷ ms)
   chain_more l m ms s e h later apart c = record {
     ascending = ascending;

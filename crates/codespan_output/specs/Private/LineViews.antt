@@ -47,7 +47,8 @@ lane_row_kind_view (rust_variant.Underline corner_lane style multi_label) =
     Underline (lane_mark_view (corner_lane, style, multi_label))
 
 -- one lane of a kind of row, from the lane mark in it
-unfoldable pub row_lane_stream : RowContext → ℕ → RustLaneRowKind → ℕ → Option LaneMarkTuple
+unfoldable pub row_lane_stream : RowContext → ℕ → RustLaneRowKind → ℕ
+    → Option LaneMarkTuple
     → Stream
 row_lane_stream context leading row lane lane_mark =
     inner_gutter_column context (row_crossing (lane_row_kind_view row) lane)

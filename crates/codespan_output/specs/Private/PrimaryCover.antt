@@ -1,6 +1,6 @@
 -- The primary multi-line labels, as far as they color one line's text.
-use Rattle.std.specs.Prelude.{◌≡◌, ℕ, ◌+◌, ◌≤◌, Bool, false, ◌||◌, ◌&&◌, nat_le, List, Option, Some}
-use Rattle.std.specs.Prelude.{None}
+use Rattle.std.specs.Prelude.{◌≡◌, ℕ, ◌+◌, ◌≤◌, Bool, false, ◌||◌, ◌&&◌}
+use Rattle.std.specs.Prelude.{nat_le, List, Option, Some, None}
 use Rattle.std.specs.List.{list_any}
 use Rattle.codespan_core.specs.Labels.{LaneMark, is_primary_style}
 use Rattle.codespan_output.specs.RowParts.{multi_label_covers}

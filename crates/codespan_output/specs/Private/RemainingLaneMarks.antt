@@ -1,5 +1,6 @@
 -- The lane marks that a loop over the lanes has not reached.
-use Rattle.std.specs.Prelude.{ℕ, ◌==◌, List, [], ◌∷◌, Option, Some, None, if◌then◌else◌}
+use Rattle.std.specs.Prelude.{ℕ, ◌==◌, List, [], ◌∷◌, Option, Some, None}
+use Rattle.std.specs.Prelude.{if◌then◌else◌}
 use Rattle.codespan_output.specs.Arguments.{LaneMarkTuple}
 
 -- the lane mark in a lane, where it is the first of the remaining ones

@@ -1,13 +1,12 @@
 -- The single-line labels of a line, as the functions that write its rows take them: optional ones,
 -- and those whose messages hang.
-use Rattle.std.specs.Prelude.{◌≡◌, ℕ, List, ◌++◌, map, filter, fold, min, reverse, slice_get}
-use Rattle.std.specs.Prelude.{Option, Some, None}
+use Rattle.std.specs.Prelude.{◌≡◌, ℕ, List, ◌++◌, map, filter, fold, min, reverse}
+use Rattle.std.specs.Prelude.{slice_get, Option, Some, None}
 use Rattle.std.specs.Option.{option_map}
 use Rattle.std.specs.Borrow.{Bor}
 use Rattle.codespan_core.specs.Labels.{LabelModel, has_message}
 use Rattle.codespan_core.specs.Streams.{Stream}
-use Rattle.codespan_output.specs.Arguments.{SingleLabelTuple, single_label_view}
-use Rattle.codespan_output.specs.Arguments.{single_label_views}
+use Rattle.codespan_output.specs.Arguments.{SingleLabelTuple, single_label_view, single_label_views}
 use Rattle.codespan_output.specs.Rows.{RowContext, Line, HangingRow, hanging_labels}
 use Rattle.codespan_output.specs.RowStreams.{stream_of_rows}
 

@@ -25,7 +25,8 @@ use Rattle.codespan_output.specs.Private.LineCharacters.{char_input, pointers_of
 
 -- the two characters of a lane that is not empty: the underline that crosses it, if one does, or a
 -- space, and its own character
-abbrev pub lane_glyph_stream : rust_context.RowContext → Option LaneMarkTuple → LabelStyle → ℕ
+abbrev pub lane_glyph_stream : rust_context.RowContext → Option LaneMarkTuple → LabelStyle
+    → ℕ
     → Stream
 lane_glyph_stream x crossing style own =
     crossing_characters x.severity x.chars.now (option_map lane_mark_view crossing) 1
@@ -50,7 +51,8 @@ abbrev pub line_metrics_to_end_view : rust_context.RowContext → rust_line.Line
 line_metrics_to_end_view x line = char_metrics_to_end x.tab_width line.text.now
 
 -- the carets of labels under characters
-abbrev pub carets_stream : rust_context.RowContext → List SingleLabelTuple → List Metrics → Stream
+abbrev pub carets_stream : rust_context.RowContext → List SingleLabelTuple → List Metrics
+    → Stream
 carets_stream x labels cs = carets (context_view x) (single_label_views labels) cs
 
 -- the caret row of a line that has labels
@@ -61,7 +63,8 @@ caret_rows_stream x line =
 
 -- the pointers under the characters that begin before a byte index, and spaces up to the column
 -- `edge`
-abbrev pub pointers_before_stream : rust_context.RowContext → rust_line.Line → ℕ → ℕ → Stream
+abbrev pub pointers_before_stream : rust_context.RowContext → rust_line.Line → ℕ → ℕ
+    → Stream
 pointers_before_stream x line byte_index edge =
     spaced (context_view x) edge 0 (pointers_before byte_index (pointers_of (char_input x line)))
 
@@ -71,7 +74,8 @@ label_message_stream severity x =
     label_message severity (single_label_view x).style (single_label_view x).message
 
 -- the rows of the messages of these labels, the last one first
-abbrev pub hanging_rows_stream : rust_context.RowContext → rust_line.Line → List SingleLabelTuple
+abbrev pub hanging_rows_stream : rust_context.RowContext → rust_line.Line
+    → List SingleLabelTuple
     → Stream
 hanging_rows_stream x line labels =
     hanging_stream (context_view x) (line_view line)

@@ -10,8 +10,8 @@ ghost use Rattle.codespan_output.specs.Private.LineViews.{row_lanes_stream};
 ghost use Rattle.codespan_output.specs.Private.WrittenParts.{lane_glyph_stream};
 ghost use Rattle.codespan_output.specs.Private.RemainingLaneMarks.{lane_mark_here};
 ghost use Rattle.codespan_output.specs.Private.RemainingLaneMarks.{lane_marks_after};
-ghost use Rattle.codespan_output.specs.Lanes.{crossing_characters, lane_characters};
-ghost use Rattle.codespan_output.specs.Lanes.{underline_char, row_crossing};
+ghost use Rattle.codespan_output.specs.Lanes.{crossing_characters, lane_characters, underline_char};
+ghost use Rattle.codespan_output.specs.Lanes.{row_crossing};
 
 use crate::arguments::MultiLabel;
 pub use crate::lane_shapes::Shape;
@@ -52,7 +52,8 @@ struct Lane<'d> {
 /// Returns the crossing of a lane: in an underline row whose corner is left of the lane its lane
 /// mark, else `None`.
 fn crossing<'d>(row: LaneRowKind<'d>, lane: usize) -> Option<(usize, LabelStyle, MultiLabel<'d>)>
-    ensures { option_map lane_mark_view result ≡ row_crossing (lane_row_kind_view row.entry) lane }
+    ensures { option_map lane_mark_view result
+        ≡ row_crossing (lane_row_kind_view row.entry) lane }
 {
     match row {
         LaneRowKind::Underline(corner_lane, style, multi_label) if corner_lane < lane => Some((

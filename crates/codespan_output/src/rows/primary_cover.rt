@@ -1,6 +1,7 @@
 //! What primary multi-line labels cover of one line.
 
-ghost use Rattle.std.specs.Prelude.{◌≡◌, ◌||◌, ◌+◌, ◌^◌, ◌<◌, ◌≤◌, ℕ, false, map, nat_le};
+ghost use Rattle.std.specs.Prelude.{◌≡◌, ◌||◌, ◌+◌, ◌^◌, ◌<◌, ◌≤◌, ℕ};
+ghost use Rattle.std.specs.Prelude.{false, map, nat_le};
 ghost use Rattle.codespan_output.specs.declared.char_metrics.Metrics as metrics;
 ghost use Rattle.codespan_output.specs.Arguments.{lane_mark_view, multi_label_view};
 ghost use Rattle.codespan_output.specs.RowParts.{multi_label_covers};

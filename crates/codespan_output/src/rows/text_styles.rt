@@ -1,7 +1,8 @@
 //! Which characters of a line have a style in its source row, and which of its text is written
 //! unchanged.
 
-ghost use Rattle.std.specs.Prelude.{◌≡◌, ◌<◌, ◌≤◌, ◌==◌, None, drop, false, filter, length, map};
+ghost use Rattle.std.specs.Prelude.{◌≡◌, ◌<◌, ◌≤◌, ◌==◌, None, drop, false};
+ghost use Rattle.std.specs.Prelude.{filter, length, map};
 ghost use Rattle.std.specs.List.{list_any};
 ghost use Rattle.codespan_core.specs.Labels.{is_primary};
 ghost use Rattle.codespan_output.specs.declared.char_metrics.Metrics as metrics;

@@ -1,6 +1,6 @@
 -- Cursors over the labels of a line, which pass them as they start.
-use Rattle.std.specs.Prelude.{◌≡◌, ℕ, ◌+◌, ◌≤◌, Bool, true, ◌||◌, ◌&&◌, nat_lt, max, if◌then◌else◌}
-use Rattle.std.specs.Prelude.{List, drop, filter, Option}
+use Rattle.std.specs.Prelude.{◌≡◌, ℕ, ◌+◌, ◌≤◌, Bool, true, ◌||◌, ◌&&◌}
+use Rattle.std.specs.Prelude.{nat_lt, max, if◌then◌else◌, List, drop, filter, Option}
 use Rattle.codespan_core.specs.Labels.{LabelModel, has_message, is_primary}
 use Rattle.codespan_output.specs.Types.{LabelStyle}
 use Rattle.codespan_output.specs.declared.char_metrics.Metrics.{Metrics}
@@ -32,7 +32,8 @@ pub record HasPassedLabels (byte_index : ℕ) (s : LabelCursor) : Type 0 where
       IsCoverEnd is_primary (single_label_views s.labels.now) (remaining_labels s) byte_index
       s.primary_end
   pub any :
-      IsCoverEnd (λ _. true) (single_label_views s.labels.now) (remaining_labels s) byte_index s.end
+      IsCoverEnd (λ _. true) (single_label_views s.labels.now) (remaining_labels s) byte_index
+      s.end
   pub ordered : starts_in_order (remaining_labels s) ≡ true
 
 -- the labels that a cursor over starts of labels has not passed

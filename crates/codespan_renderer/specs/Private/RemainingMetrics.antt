@@ -1,6 +1,6 @@
 -- The characters that an iterator over the characters of a line has not returned yet.
-use Rattle.std.specs.Prelude.{◌≡◌, ℕ, ◌+◌, ◌≤◌, Bool, true, false, List, [], ◌∷◌, Option, Some}
-use Rattle.std.specs.Prelude.{None}
+use Rattle.std.specs.Prelude.{◌≡◌, ℕ, ◌+◌, ◌≤◌, Bool, true, false, List, []}
+use Rattle.std.specs.Prelude.{◌∷◌, Option, Some, None}
 use Rattle.std.specs.Str.{chars}
 use Rattle.std.specs.Str.Iter.{chars_rest}
 use Rattle.codespan_output.specs.declared.char_metrics.Metrics.{Metrics}
@@ -40,8 +40,10 @@ pub record GoesOver (c : Metrics) (old new : CharMetrics) : Type 0 where
 
 -- the iterator has gone over all characters, and stays where it is
 pub record IsPastLast (old new : CharMetrics) : Type 0 where
-  pub none : (after : MetricsAfterEnd) → metrics_from after old ≡ after old.byte_index old.column
-  pub stays : (after : MetricsAfterEnd) → metrics_from after new ≡ after old.byte_index old.column
+  pub none : (after : MetricsAfterEnd)
+      → metrics_from after old ≡ after old.byte_index old.column
+  pub stays : (after : MetricsAfterEnd)
+      → metrics_from after new ≡ after old.byte_index old.column
   pub byte_index : new.byte_index ≡ old.byte_index
   pub column : new.column ≡ old.column
 

@@ -47,7 +47,8 @@ fn with_labels(rt: &impl Abort, alloc: Global) -> Diagnostic<usize> {
         .expect(rt, "three labels")
 }
 
-/// Returns the error of a call of `f` in one file, declared in another one, where `𐐀` is before it.
+/// Returns the error of a call of `f` in one file, declared in another one, where `𐐀` is before
+/// it.
 fn missing_argument(rt: &impl Abort, alloc: Global) -> Diagnostic<usize> {
     with_labels(rt, alloc)
         .with_code("E0061")

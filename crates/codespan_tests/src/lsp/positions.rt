@@ -57,7 +57,8 @@ fn assert_in_file(
 /// The bytes and the positions of `a𐐀b`.
 static PROTOCOL_EXAMPLE: [Counterpart; 4] = [(0, 0, 0), (1, 0, 1), (5, 0, 3), (6, 0, 4)];
 
-/// The protocol's own example: of `a𐐀b` the character of `a` is 0, that of `𐐀` is 1, and that of
+/// The protocol's own example: of `a𐐀b` the character of `a` is 0, that of `𐐀` is 1, and that
+/// of
 /// `b` is 3.
 #[test]
 fn protocol_example(rt: HostRuntime) {
@@ -65,7 +66,8 @@ fn protocol_example(rt: HostRuntime) {
     assert_in_file(&rt, &file, &PROTOCOL_EXAMPLE);
 }
 
-/// Asserts that the byte of `é∈🗻x` at which a character starts has this position by an encoding,
+/// Asserts that the byte of `é∈🗻x` at which a character starts has this position by an
+/// encoding,
 /// and the position this byte.
 fn assert_encoded(
     rt: &impl Abort,
@@ -84,7 +86,8 @@ fn assert_encoded(
     assert_same_at(rt, byte_index, &back, &byte_index);
 }
 
-/// Encodings, the bytes at which the characters of `é∈🗻x` start, and the code units before them.
+/// Encodings, the bytes at which the characters of `é∈🗻x` start, and the code units before
+/// them.
 static ENCODED: [(PositionEncoding, usize, u32); 15] = [
     (PositionEncoding::Utf8, 0, 0),
     (PositionEncoding::Utf8, 2, 2),

@@ -1,6 +1,6 @@
 -- Annotations, what a label does on a line of its file: their order, and their Rust types.
-use Rattle.std.specs.Prelude.{◌≡◌, ℕ, ◌-◌, Bool, nat_lt, ◌==◌, List, [], ◌∷◌, ◌++◌, map, Option}
-use Rattle.std.specs.Prelude.{Some, None}
+use Rattle.std.specs.Prelude.{◌≡◌, ℕ, ◌-◌, Bool, nat_lt, ◌==◌, List, [], ◌∷◌}
+use Rattle.std.specs.Prelude.{◌++◌, map, Option, Some, None}
 use Rattle.std.specs.List.{AllByRecursion}
 use Rattle.std.specs.Ordering.{is_lt, nat_cmp, ordering_then}
 use Rattle.std.specs.declared.cmp.Ordering.{Ordering}
@@ -125,7 +125,8 @@ abbrev pub IsLineAt : FileModel → ℕ → LineInfo → Type 0
 IsLineAt f l line = (line.index ≡ l) × IsLineOf f line
 
 -- the annotation's line is one of its file, where these are the ids of the files
-abbrev pub IsOfFiles : {Id : Type 0} → (Id → FileModel) → List Id → RustAnnotation Id → Type 0
+abbrev pub IsOfFiles : {Id : Type 0} → (Id → FileModel) → List Id → RustAnnotation Id
+    → Type 0
 IsOfFiles {Id} file ids annotation = (id : Id) → IsIdAt ids annotation.file_index id
     → IsLineOf (file id) annotation.line
 

@@ -22,18 +22,21 @@ module _ {Id : Type 0} (same : Id → Id → Bool) (file : Id → FileModel) whe
       (num_multi_labels (labeled_file_model same file before x.file_id)) x.label
 
   -- the annotations of these labels, after those before them
-  abbrev pub annotations_after : Config → List Id → List (LabelInFile Id) → List (LabelInFile Id)
+  abbrev pub annotations_after : Config → List Id → List (LabelInFile Id)
+      → List (LabelInFile Id)
       → List Annotation
   annotations_after config ids before [] = []
   annotations_after config ids before (x ∷ xs) =
-      annotations_of_next config ids before x ++ annotations_after config ids (before ++ x ∷ []) xs
+      annotations_of_next config ids before x
+      ++ annotations_after config ids (before ++ x ∷ []) xs
 
   -- the annotations of all labels of a diagnostic
   abbrev pub all_annotations : Config → List (LabelInFile Id) → List Annotation
   all_annotations config xs = annotations_after config (file_ids same xs) [] xs
 
 -- the digit counts of the numbers of the lines that labels span
-abbrev pub all_digit_counts : {Id : Type 0} → (Id → FileModel) → List (LabelInFile Id) → List ℕ
+abbrev pub all_digit_counts : {Id : Type 0} → (Id → FileModel) → List (LabelInFile Id)
+    → List ℕ
 all_digit_counts {Id} file xs =
     flat_map (λ (x : LabelInFile Id). label_digit_counts (file x.file_id) x.label) xs
 

@@ -1,6 +1,6 @@
 -- What is looked up before the header, labels aside: the numbers of filled lines, and loci.
-use Rattle.std.specs.Prelude.{◌≡◌, ℕ, ◌+◌, List, [], ◌∷◌, ◌++◌, Option, filter, flat_map, fold, map}
-use Rattle.std.specs.Prelude.{max}
+use Rattle.std.specs.Prelude.{◌≡◌, ℕ, ◌+◌, List, [], ◌∷◌, ◌++◌, Option}
+use Rattle.std.specs.Prelude.{filter, flat_map, fold, map, max}
 use Rattle.std.specs.List.{AllByRecursion}
 use Rattle.codespan_core.specs.FileModel.{FileDatabase, FileModel, Lookup}
 use Rattle.codespan_output.specs.Types.{Config, Error, Layout, Classic, Unbroken}
@@ -9,8 +9,7 @@ use Rattle.codespan_output.specs.Padding.{count_digits, padding_of}
 use Rattle.codespan_output.specs.Snippets.{LabelInFile, file_ids, labeled_file_model}
 use Rattle.codespan_output.specs.Snippets.{labeled_file_models}
 use Rattle.codespan_views.specs.Private.Types.{Collected, RustFile}
-use Rattle.codespan_views.specs.Private.Annotations.{Annotation, is_of_file}
-use Rattle.codespan_views.specs.Private.Annotations.{annotation_view}
+use Rattle.codespan_views.specs.Private.Annotations.{Annotation, is_of_file, annotation_view}
 use Rattle.codespan_views.specs.Private.Collections.{IsCollected}
 use Rattle.codespan_views.specs.Private.SnippetLines.{number_lookups, SnippetLine, drawn_lines_of}
 use Rattle.codespan_views.specs.Private.SnippetLines.{filled_lines_of, lines_of}
@@ -35,7 +34,8 @@ abbrev pub lines_at : List Annotation → ℕ → List SnippetLine
 lines_at annotations k = lines_of (filter (is_of_file k) annotations)
 
 -- what `image` makes of each id and its index, one after another; indices are counted from k on
-abbrev pub flat_map_indexed : {Id A : Type 0} → (ℕ → Id → List A) → ℕ → List Id → List A
+abbrev pub flat_map_indexed : {Id A : Type 0} → (ℕ → Id → List A) → ℕ → List Id
+    → List A
 flat_map_indexed image k [] = []
 flat_map_indexed image k (id ∷ ids) = image k id ++ flat_map_indexed image (k + 1) ids
 
@@ -43,7 +43,8 @@ flat_map_indexed image k (id ∷ ids) = image k id ++ flat_map_indexed image (k 
 
 module _ {Id : Type 0} where
   -- what `image` makes of the snippet lines of each file, one after another
-  abbrev pub of_files : {A : Type 0} → (Id → List SnippetLine → List A) → Collected Id → List A
+  abbrev pub of_files : {A : Type 0} → (Id → List SnippetLine → List A) → Collected Id
+      → List A
   of_files image collected =
       flat_map_indexed
       (λ k id. image id (lines_at (map annotation_view collected.annotations.items) k)) 0

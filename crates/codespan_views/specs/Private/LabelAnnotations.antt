@@ -1,7 +1,7 @@
 -- What a label does on the lines of its file: its annotations of each line that is looked up for
 -- it, and the digit counts of the numbers of the lines that it spans.
-use Rattle.std.specs.Prelude.{ℕ, ◌+◌, ◌<◌, Bool, ◌==◌, ◌&&◌, List, [], ◌∷◌, ◌++◌}
-use Rattle.std.specs.Prelude.{flat_map, Option, Some, None, if◌then◌else◌}
+use Rattle.std.specs.Prelude.{ℕ, ◌+◌, ◌<◌, Bool, ◌==◌, ◌&&◌, List, [], ◌∷◌}
+use Rattle.std.specs.Prelude.{◌++◌, flat_map, Option, Some, None, if◌then◌else◌}
 use Rattle.std.specs.List.{range_with_len}
 use Rattle.std.specs.Option.{option_map}
 use Rattle.codespan_core.specs.FileModel.{FileModel, line_count, line_start, Lookup}
@@ -22,7 +22,8 @@ IsFarInside config first last l =
     (first + config.start_context_lines < l) × (l + config.end_context_lines < last)
 
 -- what a label from line `first` to line `last` does on line `l`, which starts at byte `start`
-abbrev pub kind_by_ends : Config → ℕ → ℕ → ℕ → ℕ → ℕ → LabelModel → Option AnnotationKind
+abbrev pub kind_by_ends : Config → ℕ → ℕ → ℕ → ℕ → ℕ → LabelModel
+    → Option AnnotationKind
 kind_by_ends config index first last l start x =
     if (first == last) && (first == l) then Some (Single index (from_line_start start x))
     else if shows config first last l then Some Shown else None
@@ -33,7 +34,8 @@ multi_label_by_ends first last l start x =
     if first == last then None else multi_label_at first last l start x
 
 -- what it does there as a multi-line label, if it has a lane mark there
-abbrev pub multi_kind_by_ends : ℕ → ℕ → ℕ → ℕ → ℕ → LabelModel → Option AnnotationKind
+abbrev pub multi_kind_by_ends : ℕ → ℕ → ℕ → ℕ → ℕ → LabelModel
+    → Option AnnotationKind
 multi_kind_by_ends lane first last l start x =
     option_map Multi (lane_mark_of lane x (multi_label_by_ends first last l start x))
 
@@ -76,7 +78,8 @@ is_spanned f x l = spans (first_line f x) (last_line f x) l
 
 -- the digit count of a line's number, where the label spans it
 abbrev pub digit_count_if_spanned : FileModel → LabelModel → ℕ → List ℕ
-digit_count_if_spanned f x l = if is_spanned f x l then count_digits (f.line_number l) ∷ [] else []
+digit_count_if_spanned f x l = if is_spanned f x l then count_digits (f.line_number l) ∷ []
+    else []
 
 -- those of all lines of a label
 abbrev pub label_digit_counts : FileModel → LabelModel → List ℕ

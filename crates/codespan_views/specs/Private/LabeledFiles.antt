@@ -1,6 +1,6 @@
 -- The files of an output, as the code has them.
-use Rattle.std.specs.Prelude.{◌≡◌, ℕ, zero, suc, Bool, false, List, [], ◌∷◌, ◌++◌, map}
-use Rattle.std.specs.Prelude.{if◌then◌else◌}
+use Rattle.std.specs.Prelude.{◌≡◌, ℕ, zero, suc, Bool, false, List, [], ◌∷◌, ◌++◌}
+use Rattle.std.specs.Prelude.{map, if◌then◌else◌}
 use Rattle.std.specs.List.{AllByRecursion, list_any, position_or_len}
 use Rattle.codespan_core.specs.FileModel.{FileModel}
 use Rattle.codespan_output.specs.Arguments.{locus_view}
@@ -61,5 +61,7 @@ pub record AreLabeledFiles {Id : Type 0} (same : Id → Id → Bool) (file : Id 
 
 -- a list with an element for each of these ids, and with `one` at its end where this id is none of
 -- them
-abbrev pub with_file : {Id A : Type 0} → (Id → Id → Bool) → List Id → Id → List A → A → List A
-with_file same ids id known one = if list_any (λ j. same j id) ids then known else known ++ one ∷ []
+abbrev pub with_file : {Id A : Type 0} → (Id → Id → Bool) → List Id → Id → List A → A
+    → List A
+with_file same ids id known one = if list_any (λ j. same j id) ids then known else known
+    ++ one ∷ []

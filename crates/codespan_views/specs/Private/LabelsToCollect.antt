@@ -1,6 +1,6 @@
 -- Labels whose lines are looked up, one after another.
-use Rattle.std.specs.Prelude.{◌≡◌, ℕ, Bool, true, false, List, ◌++◌, flat_map, fold, max, Option}
-use Rattle.std.specs.Prelude.{IfOk, Result}
+use Rattle.std.specs.Prelude.{◌≡◌, ℕ, Bool, true, false, List, ◌++◌, flat_map, fold}
+use Rattle.std.specs.Prelude.{max, Option, IfOk, Result}
 use Rattle.codespan_core.specs.FileModel.{FileDatabase, FileModel}
 use Rattle.codespan_core.specs.Labels.{LabelModel, first_line, last_line}
 use Rattle.codespan_output.specs.Types.{Error, Config}
@@ -65,7 +65,8 @@ module _ {Id : Type 0} (x : LabelToCollect Id) where
   IsLookedUp l = is_looked_up x.config x.file x.label l ≡ true
 
   -- its annotations of a line were found, where it is looked up
-  abbrev pub FindsLineAnnotations : List (RustAnnotation Id) → List (RustAnnotation Id) → ℕ → Type 0
+  abbrev pub FindsLineAnnotations : List (RustAnnotation Id) → List (RustAnnotation Id) → ℕ
+      → Type 0
   FindsLineAnnotations old new l =
       AppendsAnnotationsOf x.file old new
       (annotations_if_looked_up x.config x.file x.label x.file_index x.index x.lane l)
@@ -83,7 +84,8 @@ module _ {Id : Type 0} (x : LabelToCollect Id) where
   -- ---- all of its lines
 
   -- its annotations were found
-  abbrev pub FindsLabelAnnotations : List (RustAnnotation Id) → List (RustAnnotation Id) → Type 0
+  abbrev pub FindsLabelAnnotations : List (RustAnnotation Id) → List (RustAnnotation Id)
+      → Type 0
   FindsLabelAnnotations old new =
       AppendsAnnotationsOf x.file old new
       (annotations_of x.config x.file x.file_index x.index x.lane x.label)

@@ -1,7 +1,8 @@
 -- The loci of snippets: the byte of each file's locus, by the least starts of its labels, and what
 -- is looked up for them.
-use Rattle.std.specs.Prelude.{List, [], ◌∷◌, flat_map, filter, fold, if◌then◌else◌, Option, Some}
-use Rattle.std.specs.Prelude.{None, unwrap_or, ℕ, Bool, true, false, not, ◌&&◌, ◌||◌, min, map}
+use Rattle.std.specs.Prelude.{List, [], ◌∷◌, flat_map, filter, fold, if◌then◌else◌}
+use Rattle.std.specs.Prelude.{Option, Some, None, unwrap_or, ℕ, Bool, true, false, not, ◌&&◌}
+use Rattle.std.specs.Prelude.{◌||◌, min, map}
 use Rattle.std.specs.Str.{IsUtf8}
 use Rattle.codespan_core.specs.FileModel.Lookup.{LocationAt, Name}
 use Rattle.codespan_core.specs.FileModel.{FileModel, Lookup}
@@ -26,7 +27,8 @@ label_starts {Id} same id only_primary xs =
     (filter (λ x. same id x.file_id && (not only_primary || is_primary x.label)) xs)
 
 -- the least starts of a file's labels, of these
-abbrev pub file_least_starts : {Id : Type 0} → (Id → Id → Bool) → List (LabelInFile Id) → Id
+abbrev pub file_least_starts : {Id : Type 0} → (Id → Id → Bool) → List (LabelInFile Id)
+    → Id
     → LeastStarts
 file_least_starts same xs id = record {
   primary = least_if_any (label_starts same id true xs);
@@ -64,12 +66,14 @@ abbrev pub IsLocusOfFile : LabeledFileModel → Locus → Type 0
 IsLocusOfFile s locus = IsUtf8Locus (snippet_locus_byte s) locus
 
 -- that of a label's header
-abbrev pub IsLocusOfLabel : {Id : Type 0} → (Id → FileModel) → LabelInFile Id → Locus → Type 0
+abbrev pub IsLocusOfLabel : {Id : Type 0} → (Id → FileModel) → LabelInFile Id → Locus
+    → Type 0
 IsLocusOfLabel file x locus = IsUtf8Locus (label_locus_byte file x) locus
 
 -- the lookups of the locus of a file's snippet
 abbrev pub locus_lookups_of : {Id : Type 0} → RustFile Id → List (Id × Lookup)
-locus_lookups_of f = lookups_of_file f.file_id (Name ∷ LocationAt (locus_byte f.least_starts) ∷ [])
+locus_lookups_of f = lookups_of_file f.file_id
+    (Name ∷ LocationAt (locus_byte f.least_starts) ∷ [])
 
 -- those of all files
 abbrev pub locus_lookups_of_files : {Id : Type 0} → List (RustFile Id) → List (Id × Lookup)

@@ -1,5 +1,6 @@
 -- Rendering with lookups on the way, and so the lines of one snippet.
-use Rattle.std.specs.Prelude.{◌≡◌, ℕ, List, Result, ◌≢◌, ◌⊎◌, true, Option, Some, None, MatchResult}
+use Rattle.std.specs.Prelude.{◌≡◌, ℕ, List, Result, ◌≢◌, ◌⊎◌, true, Option}
+use Rattle.std.specs.Prelude.{Some, None, MatchResult}
 use Rattle.codespan_core.specs.Errors.{IsIo}
 use Rattle.codespan_core.specs.FileModel.{FileDatabase}
 use Rattle.codespan_core.specs.Streams.{Stream}
@@ -27,20 +28,23 @@ pub record WritesWithLookups (failure : Option Error) (old : Sink) (items : Stre
       (λ e. (IsIo e × Writes old items r new) ⊎ FailedWithLookups failure old items e new)
 
 module _ {F Id Name Source : Type 0} (database_of : F → FileDatabase Id)
-    (snippet : Snippet F Id Name Source) (numbers : List ℕ) (snippet_lines : List SnippetLine) where
-  -- the snippet has the source of its file, the labels of each of these lines are in order, and
-  -- these are the known numbers of the filled ones
-  pub record HasLines : Type 0 where
-    pub source : snippet.source.now ≡ (model_of database_of snippet.file).text
-    pub in_order : AreInOrder snippet.num_multi_labels snippet_lines
-    pub numbers_are : AreNumbersOf (model_of database_of snippet.file) numbers
-        (filled_lines_of snippet_lines)
+    (snippet : Snippet F Id Name Source) (numbers : List ℕ) (snippet_lines : List SnippetLine)
+  where
+    -- the snippet has the source of its file, the labels of each of these lines are in order, and
+    -- these are the known numbers of the filled ones
+    pub record HasLines : Type 0 where
+      pub source : snippet.source.now ≡ (model_of database_of snippet.file).text
+      pub in_order : AreInOrder snippet.num_multi_labels snippet_lines
+      pub numbers_are : AreNumbersOf (model_of database_of snippet.file) numbers
+          (filled_lines_of snippet_lines)
 
-  -- the call renders these lines, one after another, and makes the lookups of the filled ones,
-  -- whose known numbers these are
-  pub record RendersLines (old : Sink) (r : Result (Unit {0}) Error) (new : Sink) : Type 0 where
-    pub rendered : WritesWithLookups
-        (failure_of database_of snippet.file (lookups_with numbers (filled_lines_of snippet_lines)))
-        old (stream_of_rows (context_view snippet.context)
-        (rows_of_lines (model_of database_of snippet.file) snippet.num_multi_labels snippet_lines))
-        r new
+    -- the call renders these lines, one after another, and makes the lookups of the filled ones,
+    -- whose known numbers these are
+    pub record RendersLines (old : Sink) (r : Result (Unit {0}) Error) (new : Sink) : Type 0 where
+      pub rendered : WritesWithLookups
+          (failure_of database_of snippet.file
+          (lookups_with numbers (filled_lines_of snippet_lines)))
+          old (stream_of_rows (context_view snippet.context)
+          (rows_of_lines (model_of database_of snippet.file) snippet.num_multi_labels
+          snippet_lines))
+          r new

@@ -1,9 +1,9 @@
 -- The lines of a snippet that annotations in order make: shown lines, filled lines, and breaks. The
 -- lookups and the known numbers of filled lines.
 use Rattle.std.specs.List.{AllByRecursion, filter_map}
-use Rattle.std.specs.Prelude.{Option, Some, None, if◌then◌else◌, map, slice_get, ◌≡◌, ℕ, Bool, true}
-use Rattle.std.specs.Prelude.{◌==◌, ◌&&◌, List, [], ◌∷◌, ◌++◌, flat_map, zero, suc, ◌-◌, IfSome}
-use Rattle.std.specs.Prelude.{drop}
+use Rattle.std.specs.Prelude.{Option, Some, None, if◌then◌else◌, map, slice_get, ◌≡◌}
+use Rattle.std.specs.Prelude.{ℕ, Bool, true, ◌==◌, ◌&&◌, List, [], ◌∷◌, ◌++◌}
+use Rattle.std.specs.Prelude.{flat_map, zero, suc, ◌-◌, IfSome, drop}
 use Rattle.codespan_core.specs.FileModel.Lookup.{LineNumber}
 use Rattle.codespan_core.specs.FileModel.{FileModel, Lookup, line_text}
 use Rattle.codespan_core.specs.Labels.{LabelModel, LaneMark}
@@ -43,7 +43,8 @@ lines_between hidden_annotations next_annotations =
 -- the lines of groups, where `previous` is the shown line before them, and `hidden_annotations` are
 -- the annotations of the line before them, where that is hidden; the first of a group, whose
 -- annotations are in order, determines whether its line is shown
-abbrev pub lines_from : Option ℕ → List Annotation → List (List Annotation) → List SnippetLine
+abbrev pub lines_from : Option ℕ → List Annotation → List (List Annotation)
+    → List SnippetLine
 lines_from previous hidden_annotations [] = []
 lines_from previous hidden_annotations ([] ∷ gs) = lines_from previous hidden_annotations gs
 lines_from previous hidden_annotations ((x ∷ xs) ∷ gs) =

@@ -1,6 +1,7 @@
 -- A file of an output, as the code has it, and what is looked up in it.
-use Rattle.std.specs.Prelude.{List, Option, ◌≡◌, ◌≢◌, Some, None, Result, MatchResult, [], ◌∷◌, ◌≤◌}
-use Rattle.std.specs.Prelude.{ℕ, true, nat_lt, ◌&&◌, if◌then◌else◌}
+use Rattle.std.specs.Prelude.{List, Option, ◌≡◌, ◌≢◌, Some, None, Result, MatchResult}
+use Rattle.std.specs.Prelude.{[], ◌∷◌, ◌≤◌, ℕ, true, nat_lt, ◌&&◌}
+use Rattle.std.specs.Prelude.{if◌then◌else◌}
 use Rattle.codespan_core.specs.FileModel.Lookup.{LineRange, LineNumber}
 use Rattle.codespan_core.specs.FileModel.{FileDatabase, FileModel, line_count, Lookup, or_failure}
 use Rattle.codespan_output.specs.Lookups.{Failures, lookups_of_file, first_error}
@@ -16,7 +17,8 @@ failure_in failure id lookups = first_error failure (lookups_of_file id lookups)
 -- that one, `OutOfMemory`, or `FormatError`, as where the `Display` of a name fails
 abbrev pub FailsByOrFormatError : {T : Type 0} → Option Error → Result T Error → Type 0
 FailsByOrFormatError o r =
-    MatchResult r (λ _. o ≡ None) (λ e. e ≢ OutOfMemory → e ≢ FormatError → o ≡ Some e)
+    MatchResult r (λ _. o ≡ None)
+    (λ e. e ≢ OutOfMemory → e ≢ FormatError → o ≡ Some e)
 
 -- the lookups of a line: its range, and its number where that is not known
 abbrev pub lookups_of_filled : Option ℕ → ℕ → List Lookup
@@ -25,7 +27,8 @@ lookups_of_filled (Some number) l = LineRange l ∷ []
 
 -- what the lookups of a line fail with: its range, and its number where the file has the line;
 -- nothing, where the line is after a label's last one and its range fails with `LineTooLarge`
-abbrev pub line_failure_unless_past_end : FileModel → (Lookup → Option Error) → ℕ → ℕ → Option Error
+abbrev pub line_failure_unless_past_end : FileModel → (Lookup → Option Error) → ℕ → ℕ
+    → Option Error
 line_failure_unless_past_end f failure last l =
     if nat_lt last l && ends_context_lines (failure (LineRange l)) then None
     else or_failure (failure (LineRange l))

@@ -1,6 +1,7 @@
 //! The order of annotations.
 
-ghost use Rattle.std.specs.Prelude.{◌≡◌, ◌<◌, length, map, true, IfOk, IfSome, OnErr, IsErrOf};
+ghost use Rattle.std.specs.Prelude.{◌≡◌, ◌<◌, length, map, true, IfOk, IfSome, OnErr};
+ghost use Rattle.std.specs.Prelude.{IsErrOf};
 ghost use Rattle.std.specs.List.Sorted.{IsPermutation, IsSortedBy, IsSortedWithin};
 ghost use Rattle.codespan_views.specs.Private.Annotations.{IsLaneMarkOn, annotation_cmp, is_before};
 ghost use Rattle.codespan_views.specs.Private.Annotations.{annotation_view, kind_cmp, rank_of};

@@ -1,7 +1,7 @@
 //! The lines of a script.
 
-ghost use Rattle.std.specs.Prelude.{◌≡◌, ◌≤◌, ◌+◌, ◌-◌, ◌<◌, ◌∷◌, length, map, drop, IfOk, IfSome};
-ghost use Rattle.std.specs.Prelude.{IfNone, Some};
+ghost use Rattle.std.specs.Prelude.{◌≡◌, ◌≤◌, ◌+◌, ◌-◌, ◌<◌, ◌∷◌};
+ghost use Rattle.std.specs.Prelude.{length, map, drop, IfOk, IfSome, IfNone, Some};
 ghost use Rattle.std.specs.Option.{option_map};
 ghost use Rattle.std.specs.Str.Lines.{strip_carriage_return};
 ghost use Rattle.report.specs.ScriptLines.{script_line_view, script_lines, lines_left, body};
@@ -30,7 +30,8 @@ fn without_carriage_return(text: &str) -> &str
 fn first_line(size: usize, left: &str) -> (Line<'_>, Option<&str>)
     requires { length left.now ≤ size }
     ensures line { lines_left size (Some left.now)
-        ≡ script_line_view result.0 ∷ lines_left size (option_map (λ after. after.now) result.1) }
+        ≡ script_line_view result.0 ∷ lines_left size
+        (option_map (λ after. after.now) result.1) }
     ensures after { IfSome result.1 (λ after. (result.0.next + length after.now ≡ size)
         × (length after.now < length left.now)
         × (after.now ≡ drop (length left.now - length after.now) left.now)) }

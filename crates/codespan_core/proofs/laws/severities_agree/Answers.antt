@@ -5,7 +5,8 @@ use Rattle.codespan_core.specs.declared.diagnostic.Severity.TheVariants.{Bug}
 use Rattle.codespan_core.proofs.laws.severities_agree.Goals as goal
 
 -- what holds of the five severities holds of each severity
-each : (P : Severity → Type 0) → P Help → P Note → P Warning → P Error → P Bug → (x : Severity)
+each : (P : Severity → Type 0) → P Help → P Note → P Warning → P Error → P Bug
+    → (x : Severity)
     → P x
 each P help note warning error bug Help = help
 each P help note warning error bug Note = note

@@ -3,8 +3,8 @@
 //!
 //! These functions are this project's own. They do not allocate.
 
-ghost use Rattle.std.specs.Prelude.{◌≡◌, ◌≤◌, ◌*◌, [], true, length, take, drop, decimal};
-ghost use Rattle.std.specs.Prelude.{MatchResult};
+ghost use Rattle.std.specs.Prelude.{◌≡◌, ◌≤◌, ◌*◌, [], true, length, take, drop};
+ghost use Rattle.std.specs.Prelude.{decimal, MatchResult};
 ghost use Rattle.std.specs.List.{repeat};
 ghost use Rattle.std.specs.Io.{WritesAtMost};
 ghost use Rattle.codespan_core.specs.Streams.{byte_stream, glyph, spaces, repeated};

@@ -1,4 +1,5 @@
-use Rattle.codespan_core.proofs.Std.{◌≡◌, ◌+◌, drop, get_or, ◌∙◌, string_bytes, slice_range}
+use Rattle.codespan_core.proofs.Std.{◌≡◌, ◌+◌, drop, get_or, ◌∙◌, string_bytes}
+use Rattle.codespan_core.proofs.Std.{slice_range}
 use Rattle.codespan_edits.specs.Edits.{text_edits, edited_from}
 use Rattle.codespan_edits.specs.Private.Places.{edits_at, replacement_at}
 use Rattle.codespan_edits.specs.declared.order.Place.{Place}

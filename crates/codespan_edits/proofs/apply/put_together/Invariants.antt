@@ -1,4 +1,5 @@
-use Rattle.codespan_core.proofs.Std.{◌≡◌, ◌++◌, ◌<◌, drop, string_bytes, IsCharBoundary}
+use Rattle.codespan_core.proofs.Std.{◌≡◌, ◌++◌, ◌<◌, drop, string_bytes}
+use Rattle.codespan_core.proofs.Std.{IsCharBoundary}
 use Rattle.codespan_edits.specs.Edits.{text_edits, edited_from}
 use Rattle.codespan_edits.specs.Private.Places.{edits_at, FitFrom}
 use Rattle.codespan_edits.proofs.apply.put_together.Given as goal

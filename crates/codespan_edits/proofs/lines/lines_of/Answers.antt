@@ -1,5 +1,6 @@
-use Rattle.codespan_core.proofs.Std.{◌≡◌, ◌++◌, ◌∷◌, [], ◌-◌, ◌<◌, List, ℕ, map, length, get_or}
-use Rattle.codespan_core.proofs.Std.{sym, ap, ◌∙◌, arith, get_or_default}
+use Rattle.codespan_core.proofs.Std.{◌≡◌, ◌++◌, ◌∷◌, [], ◌-◌, ◌<◌, List}
+use Rattle.codespan_core.proofs.Std.{ℕ, map, length, get_or, sym, ap, ◌∙◌, arith}
+use Rattle.codespan_core.proofs.Std.{get_or_default}
 use Rattle.std.specs.Borrow.{Bor}
 use Rattle.std.proofs.lemmas.List.{map_push}
 use Rattle.codespan_edits.proofs.CutLemmas.{cut-all, cut-more, cut-end, cut-none, start-boundary}

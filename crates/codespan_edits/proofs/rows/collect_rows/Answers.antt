@@ -1,6 +1,6 @@
-use Rattle.codespan_core.proofs.Std.{[], append-nil, ◌≤◌, ◌≡◌, ◌+◌, ◌++◌, ◌∷◌, length, drop, get_or}
-use Rattle.codespan_core.proofs.Std.{map, sym, ap, ◌∙◌, refl, slice_range, flat_map, drop_all}
-use Rattle.codespan_core.proofs.Std.{length-map, IfOk-weaker}
+use Rattle.codespan_core.proofs.Std.{[], append-nil, ◌≤◌, ◌≡◌, ◌+◌, ◌++◌}
+use Rattle.codespan_core.proofs.Std.{◌∷◌, length, drop, get_or, map, sym, ap, ◌∙◌, refl}
+use Rattle.codespan_core.proofs.Std.{slice_range, flat_map, drop_all, length-map, IfOk-weaker}
 use Rattle.codespan_edits.specs.Edits.{text_edits}
 use Rattle.codespan_edits.specs.Private.Places.{edits_at, replacement_at}
 use Rattle.codespan_edits.specs.Private.Differs.{all_rows, rows_view}

@@ -4,7 +4,8 @@ use Rattle.codespan_laws.proofs.laws.colors_change_no_text.Goals as goal
 
 pub returns-clause-spelled : goal.returns-clause-spelled
 returns-clause-spelled g c =
-    λ spelling style renderer_config view_config files d loci. colors.colors_change_no_text spelling
+    λ spelling style renderer_config view_config files d loci. colors.colors_change_no_text
+    spelling
     (output style renderer_config view_config files d loci)
 
 pub returns-clause-colorless : goal.returns-clause-colorless

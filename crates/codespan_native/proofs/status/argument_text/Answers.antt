@@ -1,5 +1,5 @@
-use Rattle.std.proofs.Common.{◌≡◌, ◌<◌, ◌≤◌, ℕ, zero, suc, Bool, true, List, [], ◌∷◌, length}
-use Rattle.std.proofs.Common.{get_or, leb, refl, arith, Bor}
+use Rattle.std.proofs.Common.{◌≡◌, ◌<◌, ◌≤◌, ℕ, zero, suc, Bool, true, List, []}
+use Rattle.std.proofs.Common.{◌∷◌, length, get_or, leb, refl, arith, Bor}
 use Rattle.std.specs.Prelude.{◌&&◌}
 use Rattle.std.proofs.lemmas.Bool.{and_parts, leb-true}
 use Rattle.codespan_native.specs.Constants.{STATUS_TEXT_MAX}
@@ -12,7 +12,8 @@ are_short (text ∷ texts) = leb (length text.now) STATUS_TEXT_MAX && are_short 
 
 -- then each is
 short_at : (texts : List (Bor (List ℕ))) (i : ℕ) (text : Bor (List ℕ)) → i < length texts
-    → text ≡ get_or texts i text → are_short texts ≡ true → length text.now ≤ STATUS_TEXT_MAX
+    → text ≡ get_or texts i text → are_short texts ≡ true
+    → length text.now ≤ STATUS_TEXT_MAX
 short_at [] i text below is all = absurd (omega (arith, below))
 short_at (t ∷ ts) zero text below is all =
     rw is
@@ -25,6 +26,7 @@ short_at (t ∷ ts) (suc i) text below is all =
 -- the texts of the table are short
 pub returns-in-Some-clause-short : goal.returns-in-Some-clause-short
 returns-in-Some-clause-short c =
-    short_at (_ ∷ _ ∷ _ ∷ _ ∷ _ ∷ _ ∷ _ ∷ _ ∷ _ ∷ _ ∷ _ ∷ _ ∷ _ ∷ _ ∷ _ ∷ _ ∷ _ ∷ _ ∷ _ ∷ _ ∷ [])
+    short_at (_ ∷ _ ∷ _ ∷ _ ∷ _ ∷ _ ∷ _ ∷ _ ∷ _ ∷ _ ∷ _ ∷ _ ∷ _ ∷ _ ∷ _
+    ∷ _ ∷ _ ∷ _ ∷ _ ∷ _ ∷ [])
     c.args.argument c.in-Some.text.now c.in-Some.ensures.lookup.3.0 c.in-Some.ensures.lookup.1
     refl

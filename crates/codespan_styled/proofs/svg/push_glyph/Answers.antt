@@ -1,4 +1,5 @@
-use Rattle.std.proofs.Common.{◌≡◌, ◌+◌, [], ◌++◌, ap, append-nil, string_bytes, sym, ◌∙◌}
+use Rattle.std.proofs.Common.{◌≡◌, ◌+◌, [], ◌++◌, ap, append-nil, string_bytes, sym}
+use Rattle.std.proofs.Common.{◌∙◌}
 use Rattle.std.specs.Prelude.{if◌then◌else◌}
 use Rattle.codespan_styled.specs.Glyphs.{cells_of, follows, joined_cells}
 use Rattle.codespan_styled.specs.Svg.{text_tag}

@@ -1,4 +1,5 @@
-use Rattle.std.proofs.Common.{◌≡◌, ℕ, Bool, true, false, not, ◌||◌, ◌==◌, ap, sym, ◌∙◌, refl}
+use Rattle.std.proofs.Common.{◌≡◌, ℕ, Bool, true, false, not, ◌||◌, ◌==◌, ap, sym}
+use Rattle.std.proofs.Common.{◌∙◌, refl}
 use Rattle.std.specs.Char.{is_control}
 use Rattle.std.proofs.lemmas.Bool.{eq-eqb, ne_eqb, or_left}
 use Rattle.codespan_styled.specs.Terminal.{is_directional_control, is_safe}
@@ -7,22 +8,27 @@ use Rattle.codespan_styled.proofs.terminal.is_safe.Goals.{else-is_control}
 use Rattle.codespan_styled.proofs.terminal.is_safe.Goals as goal
 
 -- the value of `||` by its first test
-first_holds : (test first second : Bool) → test ≡ first → first ≡ true → test ≡ (first || second)
+first_holds : (test first second : Bool) → test ≡ first → first ≡ true
+    → test ≡ (first || second)
 first_holds test first second is holds = is ∙ (holds ∙ sym (or_left first second holds))
 
-first_fails : (test first second : Bool) → test ≡ second → first ≡ false → test ≡ (first || second)
+first_fails : (test first second : Bool) → test ≡ second → first ≡ false
+    → test ≡ (first || second)
 first_fails test first second is fails = is ∙ sym (ap (λ b. b || second) fails)
 
 -- a tab and a newline are safe
-spacing_safe : (c : ℕ) (spacing : Bool) → spacing ≡ ((c == 9) || (c == 10)) → spacing ≡ true
+spacing_safe : (c : ℕ) (spacing : Bool) → spacing ≡ ((c == 9) || (c == 10))
+    → spacing ≡ true
     → spacing ≡ is_safe c
 spacing_safe c spacing is so = so ∙ sym (or_left ((c == 9) || (c == 10)) _ (sym is ∙ so))
 
 -- any other character is safe unless it is a control
-others_safe : (c : ℕ) (spacing control : Bool) → spacing ≡ ((c == 9) || (c == 10)) → spacing ≡ false
+others_safe : (c : ℕ) (spacing control : Bool) → spacing ≡ ((c == 9) || (c == 10))
+    → spacing ≡ false
     → control ≡ (is_control c || is_directional_control c)
     → not control ≡ is_safe c
-others_safe c spacing control is other controls = ap not controls ∙ sym (rw (sym is ∙ other) refl)
+others_safe c spacing control is other controls = ap not controls
+    ∙ sym (rw (sym is ∙ other) refl)
 
 pub returns-then-c-eq10 : goal.returns-then-c-eq10
 returns-then-c-eq10 c =

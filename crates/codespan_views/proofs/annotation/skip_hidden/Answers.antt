@@ -1,5 +1,5 @@
-use Rattle.codespan_core.proofs.Std.{◌≡◌, ◌-◌, ◌≤◌, ℕ, List, drop, length, sym, arith, common_steps}
-use Rattle.codespan_core.proofs.Std.{drop-drop, length-drop}
+use Rattle.codespan_core.proofs.Std.{◌≡◌, ◌-◌, ◌≤◌, ℕ, List, drop, length, sym}
+use Rattle.codespan_core.proofs.Std.{arith, common_steps, drop-drop, length-drop}
 use Rattle.codespan_views.proofs.SnippetLineViews.{IsNextGroup, later-are, later-fewer}
 use Rattle.codespan_views.proofs.SnippetLineViews.{views_of-hidden}
 use Rattle.codespan_views.proofs.annotation.skip_hidden.Given.{Over}
@@ -7,7 +7,8 @@ use Rattle.codespan_views.proofs.annotation.skip_hidden.Goals.{After-count_on_li
 use Rattle.codespan_views.proofs.annotation.skip_hidden.Goals as goal
 
 -- of elements from the last n on, fewer
-drop-fewer : {X : Type 0} (xs rest : List X) (n : ℕ) → length rest ≤ length xs → n ≤ length rest
+drop-fewer : {X : Type 0} (xs rest : List X) (n : ℕ) → length rest ≤ length xs
+    → n ≤ length rest
     → rest ≡ drop (length xs - length rest) xs
     → drop n rest ≡ drop (length xs - length (drop n rest)) xs
 drop-fewer xs rest n within few is = grind (arith, common_steps, length-drop, drop-drop)

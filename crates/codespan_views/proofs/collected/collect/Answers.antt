@@ -1,7 +1,8 @@
-use Rattle.codespan_core.proofs.Std.{common_steps, ◌≡◌, ◌<◌, ◌≤◌, rules, ◌+◌, Err, length, get_or}
-use Rattle.codespan_core.proofs.Std.{map, ap, ◌∙◌, arith, err_from_is_err_and, IsPermutation-map}
-use Rattle.codespan_core.proofs.Std.{recursion_from_All, All-permutation, All-from_recursion}
-use Rattle.codespan_core.proofs.Std.{take_all, subst, if◌then◌else◌, ◌==◌}
+use Rattle.codespan_core.proofs.Std.{common_steps, ◌≡◌, ◌<◌, ◌≤◌, rules, ◌+◌}
+use Rattle.codespan_core.proofs.Std.{Err, length, get_or, map, ap, ◌∙◌, arith}
+use Rattle.codespan_core.proofs.Std.{err_from_is_err_and, IsPermutation-map, recursion_from_All}
+use Rattle.codespan_core.proofs.Std.{All-permutation, All-from_recursion, take_all, subst}
+use Rattle.codespan_core.proofs.Std.{if◌then◌else◌, ◌==◌}
 use Rattle.codespan_output.specs.OutputStreams.{label_of}
 use Rattle.codespan_output.specs.Snippets.{file_ids}
 use Rattle.codespan_views.specs.Private.{IsOfFiles, annotation_view, RustFile, ids_view}

@@ -16,7 +16,8 @@ loop-index-init g c = grind (arith, common_steps, from_file-first)
 
 -- the annotations that are lent
 items_are : (g : Over)
-    → {xs ys : Vec (RustAnnotation g.row.F-FileId.Denot) Global} → xs ≡ ys → xs.items ≡ ys.items
+    → {xs ys : Vec (RustAnnotation g.row.F-FileId.Denot) Global} → xs ≡ ys
+    → xs.items ≡ ys.items
 items_are g is = ap (λ x. x.items) is
 
 -- the loop is at a file, whose annotations are counted

@@ -1,5 +1,5 @@
-use Rattle.codespan_core.proofs.Std.{◌≡◌, List, [], ◌∷◌, ◌++◌, take, Err, refl, sym, ap, ◌∙◌}
-use Rattle.codespan_core.proofs.Std.{common_steps, arith, All, err_from_is_err_and}
+use Rattle.codespan_core.proofs.Std.{◌≡◌, List, [], ◌∷◌, ◌++◌, take, Err, refl, sym}
+use Rattle.codespan_core.proofs.Std.{ap, ◌∙◌, common_steps, arith, All, err_from_is_err_and}
 use Rattle.codespan_views.specs.Private.{IsLineOf, SnippetLine, model_of}
 use Rattle.codespan_views.proofs.NumbersFound.{gap-failed, left-gap, left-no_gap, left-same}
 use Rattle.codespan_views.proofs.NumbersFound.{left-shown}

@@ -3,12 +3,12 @@ use Rattle.codespan_core.specs.LawfulFiles.{IsLawful}
 use Rattle.codespan_core.specs.Streams.{plain_spelling}
 use Rattle.codespan_core.specs.WriterLaw.{Sink}
 use Rattle.codespan_core.specs.Writers.{fresh_sink}
-use Rattle.codespan_views.proofs.EmittedOutputs.{string_rendered, text_is_utf8}
-use Rattle.codespan_views.proofs.EmittedOutputs.{text_means_labels}
+use Rattle.codespan_views.proofs.EmittedOutputs.{string_rendered, text_is_utf8, text_means_labels}
 use Rattle.codespan_views.proofs.emitting.emit_into_string.Goals as goal
 
 -- a writer of plain text over an empty buffer begins with nothing
-begins-empty : {s : Sink} {xs : List ℕ} → s ≡ fresh_sink plain_spelling (Some xs) → xs ≡ []
+begins-empty : {s : Sink} {xs : List ℕ} → s ≡ fresh_sink plain_spelling (Some xs)
+    → xs ≡ []
     → s ≡ fresh_sink plain_spelling (Some [])
 begins-empty begins empty = begins ∙ ap (λ ys. fresh_sink plain_spelling (Some ys)) empty
 

@@ -1,4 +1,5 @@
-use Rattle.std.proofs.Common.{ℕ, List, [], ◌∷◌, ◌++◌, ap, ◌∙◌, map, string_bytes, sym, take}
+use Rattle.std.proofs.Common.{ℕ, List, [], ◌∷◌, ◌++◌, ap, ◌∙◌, map, string_bytes}
+use Rattle.std.proofs.Common.{sym, take}
 use Rattle.std.proofs.lemmas.List.{map_more, map_push}
 use Rattle.codespan_base.specs.SimpleFilesViews.{entries}
 use Rattle.gallery_cases.specs.Database.{borrowed_view}

@@ -38,6 +38,7 @@ returns c =
     ok_follows c.runs_over-in-Mapped.result
     (λ text. over_mapped case (mapped_name_of files).now (mapped_source_of files).now
     c.in-Mapped.diagnostic are.1
-    (λ Id database diagnostic. AreRunsOver case.config database diagnostic (styled_runs text)) are.0
+    (λ Id database diagnostic. AreRunsOver case.config database diagnostic (styled_runs text))
+    are.0
     (set_numbers_of files) are.2)
     (c.runs_over-in-Mapped.ensures (λ x contains. refl))

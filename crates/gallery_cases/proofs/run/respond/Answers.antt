@@ -1,4 +1,5 @@
-use Rattle.std.proofs.Common.{◌≡◌, List, [], ℕ, Some, IfSome, map, rules, string_bytes, subst, sym}
+use Rattle.std.proofs.Common.{◌≡◌, List, [], ℕ, Some, IfSome, map, rules, string_bytes}
+use Rattle.std.proofs.Common.{subst, sym}
 use Rattle.std.specs.Str.Lines.{lines}
 use Rattle.gallery_cases.specs.declared.case.Case.{Case}
 use Rattle.gallery_cases.specs.Cases.{AppliesLines}
@@ -17,7 +18,8 @@ found : (g : Over) (c : After-as_slice g)
 found g c = (
   requested gallery_request_view c.from_arguments.result _ c.ok_or.result c.in_ok-request.request _
       c.ok_or.ensures.value c.in_ok-request.was c.from_arguments.ensures,
-  subst (λ (t : List ℕ). AppliesLines (lines t) _ c.in_ok-cases.cases.items) c.as_str.ensures.value
+  subst (λ (t : List ℕ). AppliesLines (lines t) _ c.in_ok-cases.cases.items)
+      c.as_str.ensures.value
       c.in_ok-cases.ensures.cases,
 )
 

@@ -1,5 +1,5 @@
-use Rattle.codespan_core.proofs.Std.{◌≡◌, ◌∙◌, ◌==◌, ℕ, false, List, [], ◌∷◌, length, get_or, lit<}
-use Rattle.codespan_core.proofs.Std.{refl, sym}
+use Rattle.codespan_core.proofs.Std.{◌≡◌, ◌∙◌, ◌==◌, ℕ, false, List, []}
+use Rattle.codespan_core.proofs.Std.{◌∷◌, length, get_or, lit<, refl, sym}
 use Rattle.program_io.specs.Fields.{is_ignored_text}
 use Rattle.program_io.proofs.fields.is_ignored.Goals as goal
 

@@ -1,5 +1,6 @@
-use Rattle.codespan_core.proofs.Std.{◌≡◌, ℕ, false, List, [], ◌++◌, Option, Some, None, Result, Ok}
-use Rattle.codespan_core.proofs.Std.{Err, IfSome, OnOk, subst, sym, ap, ◌∙◌, IsUtf8, IsUtf8-had}
+use Rattle.codespan_core.proofs.Std.{◌≡◌, ℕ, false, List, [], ◌++◌, Option, Some, None}
+use Rattle.codespan_core.proofs.Std.{Result, Ok, Err, IfSome, OnOk, subst, sym, ap, ◌∙◌}
+use Rattle.codespan_core.proofs.Std.{IsUtf8, IsUtf8-had}
 use Rattle.std.proofs.Common.{IsOk}
 use Rattle.std.specs.Result.{is_err}
 use Rattle.program_io.proofs.input.read_text.Goals as goal

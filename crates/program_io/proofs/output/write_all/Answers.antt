@@ -18,7 +18,8 @@ loop-preserved g c =
         rw w.rest-is (moved_range _ done rest w.in-Ok.count split),
         Appends-trans _ _ _ _ _ received w.in-Ok.ensures.bytes,
       )
-      | in-Err w ↦ (done, rw w.rest-is split, Appends-kept _ _ _ _ received w.in-Err.ensures.bytes)
+      | in-Err w
+          ↦ (done, rw w.rest-is split, Appends-kept _ _ _ _ received w.in-Err.ensures.bytes)
     ]
 
 pub returns-then-is_empty-clause-prefix : goal.returns-then-is_empty-clause-prefix

@@ -1,4 +1,5 @@
-use Rattle.codespan_core.proofs.Std.{◌≡◌, ◌≢◌, ℕ, Option, Some, None, refl, err_from_is_err_and}
+use Rattle.codespan_core.proofs.Std.{◌≡◌, ◌≢◌, ℕ, Option, Some, None, refl}
+use Rattle.codespan_core.proofs.Std.{err_from_is_err_and}
 use Rattle.codespan_core.specs.declared.files.error.Error.{Error}
 use Rattle.codespan_core.specs.declared.files.error.Error.TheVariants.{OutOfMemory}
 use Rattle.codespan_core.specs.FileModel.{Lookup, or_failure}
@@ -14,7 +15,8 @@ returns-clause-value g c =
     c.in_ok-column_number.ensures.value
 
 -- the error is that of the first call that fails
-first_fails : (o p : Option Error) (e : Error) → (e ≢ OutOfMemory → o ≡ Some e) → e ≢ OutOfMemory
+first_fails : (o p : Option Error) (e : Error) → (e ≢ OutOfMemory → o ≡ Some e)
+    → e ≢ OutOfMemory
     → or_failure o p ≡ Some e
 first_fails o p e failed memory = rw (failed memory) refl
 

@@ -1,4 +1,5 @@
-use Rattle.codespan_core.proofs.Std.{◌++◌, refl, ap, ◌∙◌, err_from_is_err_and, IfOk-weaker}
+use Rattle.codespan_core.proofs.Std.{◌++◌, refl, ap, ◌∙◌, err_from_is_err_and}
+use Rattle.codespan_core.proofs.Std.{IfOk-weaker}
 use Rattle.codespan_core.proofs.diagnostic.Diagnostic.with_notes_iter.Goals as goal
 
 -- the run of `collect` is the run of the iterator

@@ -1,6 +1,7 @@
-use Rattle.codespan_core.proofs.Std.{◌≡◌, ℕ, ◌+◌, ◌%◌, ◌^◌, cond, map, leb, ltb, List, [], ◌∷◌}
-use Rattle.codespan_core.proofs.Std.{refl, replicate, ap, ◌∙◌, arith, count_by, nat_lt, nat_le}
-use Rattle.codespan_core.proofs.Std.{nat_tests, length-map, sum_by-cons, count_by-le-length}
+use Rattle.codespan_core.proofs.Std.{◌≡◌, ℕ, ◌+◌, ◌%◌, ◌^◌, cond, map, leb, ltb}
+use Rattle.codespan_core.proofs.Std.{List, [], ◌∷◌, refl, replicate, ap, ◌∙◌, arith}
+use Rattle.codespan_core.proofs.Std.{count_by, nat_lt, nat_le, nat_tests, length-map, sum_by-cons}
+use Rattle.codespan_core.proofs.Std.{count_by-le-length}
 use Rattle.std.proofs.Common.{w8}
 use Rattle.std.specs.Simd.Lanes.{chunk, mask_l}
 use Rattle.std.proofs.lemmas.Simd.{length-chunk, bitmask_splat, tops_compared, zip2_splat_left}
@@ -16,7 +17,8 @@ one_or_other b = grind (arith, nat_tests)
 
 -- so the two counts add up to that of these bytes
 count_either : (bs : List ℕ)
-    → count_by (λ b. nat_lt b 128) bs + count_by (λ b. nat_le 192 b) bs ≡ count_by begins_char bs
+    → count_by (λ b. nat_lt b 128) bs + count_by (λ b. nat_le 192 b) bs
+    ≡ count_by begins_char bs
 count_either [] = refl
 count_either (b ∷ bs) =
     omega (
@@ -34,7 +36,8 @@ returns-clause-value c =
     let v = chunk c.args.from 16 c.args.bytes.now in
     let long = length-chunk c.args.from 16 c.args.bytes.now c.requires in
     let ascii =
-    ap ones (bitmask_splat w8 ltb v 16 128 long (omega arith)) ∙ ones-mask_l (λ b. ltb b 128) v in
+    ap ones (bitmask_splat w8 ltb v 16 128 long (omega arith))
+    ∙ ones-mask_l (λ b. ltb b 128) v in
     let few = length-map v (λ b. leb 192 b) in
     let compared =
     tops_compared w8 leb (replicate 16 192) v ∙ zip2_splat_left leb 192 16 v long in

@@ -1,4 +1,5 @@
-use Rattle.codespan_core.proofs.Std.{◌+◌, ◌≤◌, length, ap, arith, sym, ◌∙◌, false≢true}
+use Rattle.codespan_core.proofs.Std.{◌+◌, ◌≤◌, length, ap, arith, sym, ◌∙◌}
+use Rattle.codespan_core.proofs.Std.{false≢true}
 use Rattle.codespan_core.specs.{is_char_boundary}
 use Rattle.codespan_core.proofs.ColumnLemmas.{count_block_step, count_range_step}
 use Rattle.codespan_core.proofs.ColumnLemmas.{is_char_boundary_yes, is_char_boundary_no}

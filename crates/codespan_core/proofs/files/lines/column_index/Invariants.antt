@@ -1,4 +1,5 @@
-use Rattle.codespan_core.proofs.Std.{◌≡◌, ◌≤◌, ◌-◌, ◌+◌, count_by, range_with_len}
+use Rattle.codespan_core.proofs.Std.{◌≡◌, ◌≤◌, ◌-◌, ◌+◌, count_by}
+use Rattle.codespan_core.proofs.Std.{range_with_len}
 use Rattle.codespan_core.specs.{is_char_boundary}
 use Rattle.codespan_core.proofs.files.lines.column_index.Given as goal
 

@@ -1,4 +1,5 @@
-use Rattle.codespan_core.proofs.Std.{◌+◌, ◌≤◌, length, arith, ◌∙◌, sym, inl, inr, cases_lt}
+use Rattle.codespan_core.proofs.Std.{◌+◌, ◌≤◌, length, arith, ◌∙◌, sym, inl, inr}
+use Rattle.codespan_core.proofs.Std.{cases_lt}
 use Rattle.codespan_core.proofs.NewlineLemmas.{no_newline_in_block}
 use Rattle.codespan_core.proofs.files.newline.find_newlines.Goals as goal
 

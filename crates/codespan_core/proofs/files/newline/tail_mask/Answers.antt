@@ -1,5 +1,5 @@
-use Rattle.codespan_core.proofs.Std.{◌≡◌, ℕ, ◌+◌, ◌^◌, ◌<◌, ◌≤◌, Bool, true, false, List, arith}
-use Rattle.codespan_core.proofs.Std.{map, length, drop, length-drop}
+use Rattle.codespan_core.proofs.Std.{◌≡◌, ℕ, ◌+◌, ◌^◌, ◌<◌, ◌≤◌, Bool}
+use Rattle.codespan_core.proofs.Std.{true, false, List, arith, map, length, drop, length-drop}
 use Rattle.std.specs.Simd.Lanes.{mask_l}
 use Rattle.codespan_core.specs.{is_newline}
 use mir.Val.{bool_byte}

@@ -1,4 +1,5 @@
-use Rattle.codespan_core.proofs.Std.{◌++◌, ◌+◌, drop, map, sym, ap, ◌∙◌, drop_more, drop_all}
+use Rattle.codespan_core.proofs.Std.{◌++◌, ◌+◌, drop, map, sym, ap, ◌∙◌, drop_more}
+use Rattle.codespan_core.proofs.Std.{drop_all}
 use Rattle.codespan_edits.specs.Diffs.{kept}
 use Rattle.codespan_edits.specs.Private.Differs.{all_rows}
 use Rattle.codespan_edits.proofs.KeptLines.{line-at}

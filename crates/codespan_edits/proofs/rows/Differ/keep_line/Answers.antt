@@ -1,4 +1,5 @@
-use Rattle.codespan_core.proofs.Std.{◌≡◌, ◌++◌, ◌∷◌, [], List, string_bytes, IfOk-weaker, sym, ◌∙◌}
+use Rattle.codespan_core.proofs.Std.{◌≡◌, ◌++◌, ◌∷◌, [], List, string_bytes}
+use Rattle.codespan_core.proofs.Std.{IfOk-weaker, sym, ◌∙◌}
 use Rattle.codespan_edits.specs.Diffs.{Change, kept}
 use Rattle.codespan_edits.specs.Private.Differs.{rows_view, all_rows}
 use Rattle.codespan_edits.specs.declared.rows.RowSign.TheVariants.{Kept}

@@ -10,7 +10,8 @@ loop-label-preserved c =
     let raw = c.args.raw.now in
     ap (map label_view) c.in_ok-push.ensures.items
     ∙ map-append label_view c.loop-label.labels.items (c.in_ok-converted_label.field-0 ∷ [])
-    ∙ ap (λ views. views ++ label_view c.in_ok-converted_label.field-0 ∷ []) c.loop-label.invariant
+    ∙ ap (λ views. views ++ label_view c.in_ok-converted_label.field-0 ∷ [])
+    c.loop-label.invariant
     ∙ ap (λ view. map (converted_label files) (take c.loop-label.label-index raw) ++ view ∷ [])
     c.in_ok-converted_label.ensures
     ∙ sym (map_more (converted_label files) raw c.loop-label.label-index _ (omega arith))

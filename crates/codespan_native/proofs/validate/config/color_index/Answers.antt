@@ -6,7 +6,8 @@ use Rattle.codespan_native.proofs.validate.config.color_index.Goals as goal
 pub returns : goal.returns
 returns c =
     where_chosen _ _ _ (search rules)
-    (subst (λ specs. FindsFirstInvalid (HoldsIfAt IsValidColorSpec specs) c.color_spec_index.result)
+    (subst
+    (λ specs. FindsFirstInvalid (HoldsIfAt IsValidColorSpec specs) c.color_spec_index.result)
     c.color_specs_of.ensures
     (by_index IsValidColorSpec c.color_specs_of.result c.color_spec_index.result
     c.color_spec_index.ensures))

@@ -6,6 +6,7 @@ use Rattle.codespan_native.proofs.validate.config.color_spec_index.Goals as goal
 
 pub returns : goal.returns
 returns c =
-    IsFirst-from_position _ _ _ (λ x. ¬ IsValidColorSpec x) IsValidColorSpec c.position.ensures.ran
+    IsFirst-from_position _ _ _ (λ x. ¬ IsValidColorSpec x) IsValidColorSpec
+    c.position.ensures.ran
     (YieldsList-from_slice c.args.specs.now cc) (λ x q k. search (rules, tests))
     (λ x q k. search (rules, tests))

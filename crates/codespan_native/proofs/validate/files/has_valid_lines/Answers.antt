@@ -1,4 +1,5 @@
-use Rattle.std.proofs.Common.{◌≡◌, ◌∙◌, ℕ, Bool, false, IsTrue, List, [], ◌∷◌, length, sym}
+use Rattle.std.proofs.Common.{◌≡◌, ◌∙◌, ℕ, Bool, false, IsTrue, List, [], ◌∷◌}
+use Rattle.std.proofs.Common.{length, sym}
 use Rattle.std.specs.Prelude.{◌==◌, ◌↔◌}
 use borrow.Author.Tests.{clash}
 use Rattle.codespan_native.specs.declared.raw.RawLine.{RawLine}

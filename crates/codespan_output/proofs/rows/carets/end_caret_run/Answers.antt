@@ -38,7 +38,8 @@ returns g c = elim c.match-previous.branch [
   | in-None+in_ok-write_spaces-in-None w ↦ rw w.in-None.is
       (writes-last _ _ _ _ _ w.in_ok-write_spaces-in-None.ensures
       (rw (w.w-is, w.in-None.is) at c.change_style.ensures))
-  | in-Some-Primary+in_ok-write_repeated-in-Some-Primary w ↦ let is : c.args.previous ≡ Some Primary
+  | in-Some-Primary+in_ok-write_repeated-in-Some-Primary w ↦ let is : c.args.previous
+      ≡ Some Primary
       = search rules in
       rw is
       (writes-last _ _ _ _ _ w.in_ok-write_repeated-in-Some-Primary.ensures

@@ -1,5 +1,6 @@
-use Rattle.codespan_core.proofs.Std.{rules, List, ◌≡◌, ◌+◌, ◌<◌, ◌≤◌, ◌∷◌, ◌++◌, None, length, refl}
-use Rattle.codespan_core.proofs.Std.{ap, subst, ◌∙◌, arith, err_from_is_err_and, IsUtf8-had}
+use Rattle.codespan_core.proofs.Std.{rules, List, ◌≡◌, ◌+◌, ◌<◌, ◌≤◌, ◌∷◌}
+use Rattle.codespan_core.proofs.Std.{◌++◌, None, length, refl, ap, subst, ◌∙◌, arith}
+use Rattle.codespan_core.proofs.Std.{err_from_is_err_and, IsUtf8-had}
 use Rattle.std.proofs.Common.{Fits}
 use Rattle.codespan_output.specs.{max_label_end, style_under, style_change, SingleLabelTuple}
 use Rattle.codespan_output.specs.{single_label_views}

@@ -1,5 +1,5 @@
-use Rattle.codespan_core.proofs.Std.{◌≡◌, ℕ, length, length-append, ap, sym, ◌∙◌, arith}
-use Rattle.codespan_core.proofs.Std.{length-encode}
+use Rattle.codespan_core.proofs.Std.{◌≡◌, ℕ, length, length-append, ap, sym, ◌∙◌}
+use Rattle.codespan_core.proofs.Std.{arith, length-encode}
 use Rattle.std.specs.Str.Iter.{chars_rest}
 use Rattle.std.proofs.lemmas.Str.{IsUtf8-past_char}
 use Rattle.codespan_output.proofs.CharSteps.{leading-more, leading-stop, leading-end}

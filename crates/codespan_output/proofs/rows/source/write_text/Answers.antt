@@ -1,6 +1,6 @@
-use Rattle.codespan_core.proofs.Std.{rules, None, drop, ◌≡◌, ◌+◌, ◌-◌, ◌++◌, ap, sym, ◌∙◌, arith}
-use Rattle.codespan_core.proofs.Std.{encode_utf8, err_from_is_err_and, IsUtf8-had, length-encode}
-use Rattle.codespan_core.proofs.Std.{len_utf8_bounds}
+use Rattle.codespan_core.proofs.Std.{rules, None, drop, ◌≡◌, ◌+◌, ◌-◌, ◌++◌, ap}
+use Rattle.codespan_core.proofs.Std.{sym, ◌∙◌, arith, encode_utf8, err_from_is_err_and}
+use Rattle.codespan_core.proofs.Std.{IsUtf8-had, length-encode, len_utf8_bounds}
 use Rattle.codespan_core.specs.Streams.{byte_stream}
 use Rattle.codespan_output.specs.Private.{CharInput, metrics_of, context_view, line_view}
 use Rattle.codespan_output.specs.{style_change}
@@ -161,7 +161,8 @@ rest g c =
     elim c.match-next_metrics.branch [
       | in_default w ↦ text-over context line at.previous run at.end _ at.invariant.over
           w.in_default.ensures.next.0
-      | in-Some+then-end-plain w ↦ text-past context line at.previous run c.plain_from-plain.result
+      | in-Some+then-end-plain w
+          ↦ text-past context line at.previous run c.plain_from-plain.result
           at.end _ at.invariant.over w.if-end-plain.true c.plain_from-plain.ensures.style
           c.plain_from-plain.ensures.tab
     ]

@@ -1,4 +1,5 @@
-use Rattle.codespan_core.proofs.Std.{◌≤◌, ◌==◌, length, ap, arith, sym, ◌∙◌, list_any}
+use Rattle.codespan_core.proofs.Std.{◌≤◌, ◌==◌, length, ap, arith, sym, ◌∙◌}
+use Rattle.codespan_core.proofs.Std.{list_any}
 use Rattle.codespan_output.specs.Private.{line_view}
 use Rattle.codespan_output.proofs.PlainText.{no-style-past, tail-taken}
 use Rattle.codespan_output.proofs.rows.text_styles.plain_from.Goals as goal

@@ -1,5 +1,6 @@
-use Rattle.codespan_core.proofs.Std.{◌≡◌, Bool, true, false, None, Some, refl, sym, ◌∙◌, ◌||◌, ◌&&◌}
-use Rattle.codespan_core.proofs.Std.{if◌then◌else◌, list_any, false≢true}
+use Rattle.codespan_core.proofs.Std.{◌≡◌, Bool, true, false, None, Some, refl, sym, ◌∙◌}
+use Rattle.codespan_core.proofs.Std.{◌||◌, ◌&&◌, if◌then◌else◌, list_any}
+use Rattle.codespan_core.proofs.Std.{false≢true}
 use Rattle.std.specs.Option.{option_eq}
 use Rattle.codespan_core.specs.Labels.{LaneMark, is_primary, is_primary_style}
 use Rattle.codespan_output.specs.Types.{Metrics}
@@ -12,7 +13,8 @@ use Rattle.codespan_output.proofs.rows.text_styles.source_style.Goals as goal
 -- the style under a character is primary where a primary label covers it
 primary-seen : (eq : LabelStyle → LabelStyle → Bool) (inside any seen : Bool)
     → eq Primary Primary ≡ true → eq Secondary Primary ≡ false
-    → seen ≡ option_eq eq (if inside then Some Primary else if any then Some Secondary else None)
+    → seen ≡ option_eq eq
+    (if inside then Some Primary else if any then Some Secondary else None)
     (Some Primary)
     → seen ≡ inside
 primary-seen eq true any seen same other e = e ∙ same

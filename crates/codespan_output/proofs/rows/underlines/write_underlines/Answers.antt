@@ -39,7 +39,8 @@ loop-lane_mark-preserved g c = elim c.match-underline_width.branch [
 pub returns : goal.returns
 returns g c =
     StillToWrite-end _ _ _ _ c.loop-lane_mark.invariant
-    (let e : drop c.loop-lane_mark.lane_mark-index c.args.rows.now.line.lanes.lane_marks.now ≡ [] =
+    (let e : drop c.loop-lane_mark.lane_mark-index c.args.rows.now.line.lanes.lane_marks.now
+    ≡ [] =
     grind (arith, common_steps) in rw e refl)
 
 pub write_underline_row-requires : goal.write_underline_row-requires

@@ -81,7 +81,8 @@ pub struct CachedLine<'cache, 'row, 'd> {
         (map lane_mark_view line.lanes.lane_marks.now)) rest },
     ghost labels: { messages.labels.now ≡ line.labels.now },
     ghost ordered: { IsTrue (starts_in_order (single_label_views line.labels.now)) },
-    ghost found: { pointers.now ≡ pointers_in (hanging_labels (single_label_views line.labels.now))
+    ghost found: { pointers.now
+        ≡ pointers_in (hanging_labels (single_label_views line.labels.now))
         (char_metrics tab_width line.text.now) },
 }
 

@@ -1,6 +1,7 @@
 //! Cursors over the labels of a line, in the order of their starts.
 
-ghost use Rattle.std.specs.Prelude.{◌≡◌, ◌+◌, ◌<◌, ◌≤◌, ◌&&◌, nat_lt, true, max, filter};
+ghost use Rattle.std.specs.Prelude.{◌≡◌, ◌+◌, ◌<◌, ◌≤◌, ◌&&◌, nat_lt, true};
+ghost use Rattle.std.specs.Prelude.{max, filter};
 ghost use Rattle.codespan_core.specs.Labels.{has_message, is_primary};
 ghost use Rattle.codespan_output.specs.Arguments.{single_label_view, single_label_views};
 ghost use Rattle.codespan_output.specs.RowParts.{starts_in};

@@ -6,7 +6,8 @@ use Rattle.codespan_views.proofs.annotation.order.are_in_order.Given as goal
 abbrev pub invariant-loop-end : goal.invariant-loop-end
 invariant-loop-end g l = record {
   some : 1 ≤ l.end;
-  sorted : IsSortedWithin (λ x y. is_before (annotation_view x) (annotation_view y)) l.annotations 0
+  sorted : IsSortedWithin (λ x y. is_before (annotation_view x) (annotation_view y)) l.annotations
+      0
       l.end;
 }
 

@@ -1,5 +1,5 @@
-use Rattle.codespan_core.proofs.Std.{ℕ, ◌<◌, ◌==◌, ◌∙◌, ap, Bool, refl, arith, set, length}
-use Rattle.codespan_core.proofs.Std.{ne_eqb, length-append, ◌++◌, ◌∷◌, []}
+use Rattle.codespan_core.proofs.Std.{ℕ, ◌<◌, ◌==◌, ◌∙◌, ap, Bool, refl, arith, set}
+use Rattle.codespan_core.proofs.Std.{length, ne_eqb, length-append, ◌++◌, ◌∷◌, []}
 use Rattle.codespan_views.specs.declared.annotation.order.TheConstants.{MOVED}
 use Rattle.codespan_views.proofs.KeptElements.{AreKept, AreKept-all, AreKept-more}
 use Rattle.codespan_views.proofs.annotation.order.follow_chains.Given.{Over}

@@ -1,4 +1,5 @@
-use Rattle.codespan_core.proofs.Std.{rules, ◌≡◌, is_lt, IsPermutation-trans, arith, common_steps}
+use Rattle.codespan_core.proofs.Std.{rules, ◌≡◌, is_lt, IsPermutation-trans, arith}
+use Rattle.codespan_core.proofs.Std.{common_steps}
 use Rattle.std.proofs.lemmas.List.Sorted.{answers_always}
 use Rattle.codespan_views.specs.Private.{is_before, annotation_view}
 use Rattle.codespan_views.proofs.AnnotationOrder.{below_order}

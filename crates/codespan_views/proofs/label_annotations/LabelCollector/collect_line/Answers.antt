@@ -1,4 +1,5 @@
-use Rattle.codespan_core.proofs.Std.{◌≡◌, ◌∙◌, false, true, rules, sym, arith, common_steps}
+use Rattle.codespan_core.proofs.Std.{◌≡◌, ◌∙◌, false, true, rules, sym, arith}
+use Rattle.codespan_core.proofs.Std.{common_steps}
 use Rattle.codespan_output.specs.Lines.{spans}
 use Rattle.codespan_output.specs.Lookups.{is_looked_up}
 use Rattle.codespan_output.specs.OutputStreams.{label_of}

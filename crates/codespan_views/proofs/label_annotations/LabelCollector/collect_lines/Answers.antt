@@ -1,6 +1,6 @@
-use Rattle.codespan_core.proofs.Std.{common_steps, rules, ◌≡◌, ℕ, Bool, true, ◌&&◌, ◌+◌, ◌<◌, ◌≤◌}
-use Rattle.codespan_core.proofs.Std.{Some, Err, refl, ap, ◌∙◌, arith, nat_tests}
-use Rattle.codespan_core.proofs.Std.{err_from_is_err_and, nat_cmp}
+use Rattle.codespan_core.proofs.Std.{common_steps, rules, ◌≡◌, ℕ, Bool, true, ◌&&◌}
+use Rattle.codespan_core.proofs.Std.{◌+◌, ◌<◌, ◌≤◌, Some, Err, refl, ap, ◌∙◌}
+use Rattle.codespan_core.proofs.Std.{arith, nat_tests, err_from_is_err_and, nat_cmp}
 use Rattle.std.specs.Ordering.{partial_le, partial_lt}
 use Rattle.codespan_core.specs.Lemmas.Lines.{line_of_below}
 use Rattle.codespan_views.specs.declared.label_annotations.LabelCollector.{LabelCollector}
@@ -43,7 +43,8 @@ loop-index-init g c = record {
 
 -- the test of a range
 in_range : (a b k : ℕ) (is_in : Bool)
-    → is_in ≡ (partial_le (λ x y. Some (nat_cmp x y)) a k && partial_lt (λ x y. Some (nat_cmp x y))
+    → is_in
+    ≡ (partial_le (λ x y. Some (nat_cmp x y)) a k && partial_lt (λ x y. Some (nat_cmp x y))
     k b)
     → is_in ≡ true → (a ≤ k) × (k < b)
 in_range a b k is_in is is_true = grind (arith, nat_tests)

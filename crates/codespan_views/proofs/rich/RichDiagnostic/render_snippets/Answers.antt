@@ -1,6 +1,6 @@
-use Rattle.codespan_core.proofs.Std.{◌≡◌, ◌==◌, ◌+◌, ◌||◌, not, rules, List, [], ◌∷◌, length, map}
-use Rattle.codespan_core.proofs.Std.{Ok, Err, refl, sym, ap, ◌∙◌, arith, nat_lt, string_bytes, true}
-use Rattle.codespan_core.proofs.Std.{false, Bool, ne_eqb}
+use Rattle.codespan_core.proofs.Std.{◌≡◌, ◌==◌, ◌+◌, ◌||◌, not, rules, List, []}
+use Rattle.codespan_core.proofs.Std.{◌∷◌, length, map, Ok, Err, refl, sym, ap, ◌∙◌}
+use Rattle.codespan_core.proofs.Std.{arith, nat_lt, string_bytes, true, false, Bool, ne_eqb}
 use Rattle.codespan_output.specs.OutputStreams.{labels_of, notes_of}
 use Rattle.codespan_output.specs.Snippets.{has_any, labeled_file_model}
 use Rattle.codespan_views.specs.Private.{annotation_view, lines_of}
@@ -23,7 +23,8 @@ use Rattle.codespan_views.proofs.FilesInOrder.{ids-of_labels}
 use Rattle.codespan_views.proofs.rich.RichDiagnostic.render_snippets.Goals as goal
 
 -- there is an element where there is one that is mapped
-any-mapped : {X Y : Type 0} (h : X → Y) (xs : List X) → not (length xs == 0) ≡ has_any (map h xs)
+any-mapped : {X Y : Type 0} (h : X → Y) (xs : List X)
+    → not (length xs == 0) ≡ has_any (map h xs)
 any-mapped h [] = refl
 any-mapped h (x ∷ xs) = ap not (ne_eqb (length (x ∷ xs)) 0 (λ e. absurd (omega (arith, e))))
 

@@ -1,4 +1,5 @@
-use Rattle.codespan_core.proofs.Std.{◌≡◌, Err, append-nil, ap, ◌∙◌, slice_get, err_from_is_err_and}
+use Rattle.codespan_core.proofs.Std.{◌≡◌, Err, append-nil, ap, ◌∙◌, slice_get}
+use Rattle.codespan_core.proofs.Std.{err_from_is_err_and}
 use Rattle.std.specs.Slice.Iter.{iter_rest}
 use Rattle.codespan_views.proofs.FilledNumbers.{next-number}
 use Rattle.codespan_views.proofs.LookupRuns.{run_failed}

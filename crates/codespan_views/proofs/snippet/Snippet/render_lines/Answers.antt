@@ -1,5 +1,5 @@
-use Rattle.codespan_core.proofs.Std.{Some, ◌≡◌, List, ◌∷◌, ◌++◌, map, Err, refl, sym, ap, ◌∙◌}
-use Rattle.codespan_core.proofs.Std.{arith, err_from_is_err_and}
+use Rattle.codespan_core.proofs.Std.{Some, ◌≡◌, List, ◌∷◌, ◌++◌, map, Err, refl}
+use Rattle.codespan_core.proofs.Std.{sym, ap, ◌∙◌, arith, err_from_is_err_and}
 use Rattle.std.specs.Slice.Iter.{iter_rest}
 use Rattle.std.proofs.lemmas.List.Elements.{All-drop}
 use Rattle.codespan_renderer.specs.Private.RowWriters.{row_writer_sink}

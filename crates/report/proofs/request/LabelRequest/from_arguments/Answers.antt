@@ -1,5 +1,5 @@
-use Rattle.codespan_core.proofs.Std.{◌≡◌, string_bytes, Some, None, inl, inr, refl, ap, ◌∙◌, arith}
-use Rattle.codespan_core.proofs.Std.{rules, tests, option_map}
+use Rattle.codespan_core.proofs.Std.{◌≡◌, string_bytes, Some, None, inl, inr, refl, ap}
+use Rattle.codespan_core.proofs.Std.{◌∙◌, arith, rules, tests, option_map}
 use Rattle.program_io.specs.Names.{display_style_named}
 use Rattle.report.proofs.Arguments.{not_five_arguments, five_arguments}
 use Rattle.report.specs.Requests.{number_of, label_request_view}
@@ -23,7 +23,8 @@ returns-in_err-parse_display_style c =
     ∙ five_arguments string_bytes c.args.args.now _ _ _ _ _ c.in-len5.len_at_least
     c.in-len5.len_below
     c.style-item.is c.name-item.is c.start-item.is c.end-item.is c.message-item.is None _ _
-    (c.in_err-parse_display_style.ensures ∙ ap display_style_named c.as_str.ensures.value) refl refl
+    (c.in_err-parse_display_style.ensures ∙ ap display_style_named c.as_str.ensures.value) refl
+    refl
 
 pub returns-in_err-parse_number : goal.returns-in_err-parse_number
 returns-in_err-parse_number c =

@@ -1,5 +1,6 @@
-use Rattle.codespan_core.proofs.Std.{◌⊎◌, ◌<◌, ◌≤◌, length, string_bytes, Some, None, inl, inr, ap}
-use Rattle.codespan_core.proofs.Std.{sym, ◌∙◌, arith, rules, tests, option_map}
+use Rattle.codespan_core.proofs.Std.{◌⊎◌, ◌<◌, ◌≤◌, length, string_bytes, Some}
+use Rattle.codespan_core.proofs.Std.{None, inl, inr, ap, sym, ◌∙◌, arith, rules, tests}
+use Rattle.codespan_core.proofs.Std.{option_map}
 use Rattle.program_io.specs.Names.{display_style_named}
 use Rattle.report.proofs.Arguments.{other_arguments, two_arguments}
 use Rattle.report.specs.Requests.{request_view}

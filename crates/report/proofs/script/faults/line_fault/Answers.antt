@@ -1,5 +1,5 @@
-use Rattle.codespan_core.proofs.Std.{◌≡◌, ◌⊎◌, false, List, Some, inl, inr, ap, refl, rules, sym}
-use Rattle.codespan_core.proofs.Std.{◌∙◌}
+use Rattle.codespan_core.proofs.Std.{◌≡◌, ◌⊎◌, false, List, Some, inl, inr, ap, refl}
+use Rattle.codespan_core.proofs.Std.{rules, sym, ◌∙◌}
 use Rattle.report.specs.declared.script.Fault.{Fault}
 use Rattle.report.specs.declared.script.words.Word.{Word}
 use Rattle.report.specs.declared.script.words.Word.TheVariants.{Severity, Code, Message}

@@ -1,5 +1,5 @@
-use Rattle.codespan_core.proofs.Std.{◌≡◌, ◌-◌, ◌++◌, ap, drop, length, map, sym, ◌∙◌, arith}
-use Rattle.codespan_core.proofs.Std.{slice_split}
+use Rattle.codespan_core.proofs.Std.{◌≡◌, ◌-◌, ◌++◌, ap, drop, length, map, sym}
+use Rattle.codespan_core.proofs.Std.{◌∙◌, arith, slice_split}
 use Rattle.report.specs.ScriptLines.{body, is_newline, script_line_view, script_lines_from}
 use Rattle.report.specs.ScriptLines.{script_lines, script_source}
 use Rattle.report.proofs.script.lines.split_script.Goals as goal

@@ -1,5 +1,5 @@
-use Rattle.codespan_core.proofs.Std.{◌≡◌, ◌≤◌, ◌+◌, ◌-◌, ◌++◌, map, drop, length, IfSome}
-use Rattle.codespan_core.proofs.Std.{option_map, option_map_or}
+use Rattle.codespan_core.proofs.Std.{◌≡◌, ◌≤◌, ◌+◌, ◌-◌, ◌++◌, map, drop}
+use Rattle.codespan_core.proofs.Std.{length, IfSome, option_map, option_map_or}
 use Rattle.report.specs.ScriptLines.{body, script_line_view, lines_left, script_lines}
 use Rattle.report.specs.ScriptLines.{script_source}
 use Rattle.report.proofs.script.lines.split_script.Given as goal

@@ -1,5 +1,5 @@
-use Rattle.codespan_core.proofs.Std.{◌≡◌, ℕ, true, false, cond, List, [], ◌∷◌, Some, map, refl, ap}
-use Rattle.codespan_core.proofs.Std.{◌∙◌, rules, tests, option_map, bytes_eq}
+use Rattle.codespan_core.proofs.Std.{◌≡◌, ℕ, true, false, cond, List, [], ◌∷◌, Some}
+use Rattle.codespan_core.proofs.Std.{map, refl, ap, ◌∙◌, rules, tests, option_map, bytes_eq}
 use Rattle.std.specs.List.{find}
 use Rattle.std.proofs.lemmas.Iterator.{YieldsList-from_slice}
 use Rattle.std.proofs.lemmas.Iterator.Search.{find_from_yields_List}

@@ -1,6 +1,7 @@
-use Rattle.codespan_core.proofs.Std.{◌≡◌, ℕ, ◌<◌, ◌≤◌, List, length, map, slice_get, Option, Some}
-use Rattle.codespan_core.proofs.Std.{None, option_map, Result, IfOk, IfErr, Bor, refl, ap, ◌∙◌}
-use Rattle.codespan_core.proofs.Std.{arith, false≢true, length-map, slice_get-map}
+use Rattle.codespan_core.proofs.Std.{◌≡◌, ℕ, ◌<◌, ◌≤◌, List, length, map}
+use Rattle.codespan_core.proofs.Std.{slice_get, Option, Some, None, option_map, Result, IfOk, IfErr}
+use Rattle.codespan_core.proofs.Std.{Bor, refl, ap, ◌∙◌, arith, false≢true, length-map}
+use Rattle.codespan_core.proofs.Std.{slice_get-map}
 use Rattle.std.proofs.Common.{◌↔◌, ok_or, IsOk}
 use Rattle.std.specs.Slice.{IsItemAt}
 use Rattle.std.proofs.lemmas.Option.{slice_get_past, slice_get_read}
@@ -28,11 +29,15 @@ looked_up view items id (Some item) r is_item is =
 looked_up view items id None r is_item is =
     let past : length items ≤ id = is_item.3 in
     rw is (record {
-      succeeds =
-          (λ ok. absurd (false≢true ok), λ within. absurd (omega (arith, length-map items view)));
+      succeeds = (
+        λ ok. absurd (false≢true ok),
+        λ within. absurd (omega (arith, length-map items view)),
+      );
       found = tt;
-      missing =
-          (slice_get-map view items id ∙ ap (option_map view) (slice_get_past items id past), refl);
+      missing = (
+        slice_get-map view items id ∙ ap (option_map view) (slice_get_past items id past),
+        refl,
+      );
     })
 
 pub returns : goal.returns

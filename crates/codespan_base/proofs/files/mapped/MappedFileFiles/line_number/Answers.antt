@@ -1,4 +1,5 @@
-use Rattle.codespan_core.proofs.Std.{◌≡◌, ℕ, suc, ◌+◌, ◌-◌, ◌^◌, ◌<◌, Some, refl, arith, lt-leb}
+use Rattle.codespan_core.proofs.Std.{◌≡◌, ℕ, suc, ◌+◌, ◌-◌, ◌^◌, ◌<◌, Some}
+use Rattle.codespan_core.proofs.Std.{refl, arith, lt-leb}
 use Rattle.codespan_core.specs.declared.files.error.Error.TheVariants.{LineTooLarge}
 use Rattle.codespan_base.specs.MappedModel.{number_failure}
 use Rattle.codespan_base.proofs.files.mapped.MappedFileFiles.line_number.Goals as goal

@@ -13,6 +13,7 @@ invariant_of-result-clause-fits g c = search rules depth 2 fits 100
 -- what was collected are the starts that the iterator had left
 pub invariant_of-result-clause-starts : goal.invariant_of-result-clause-starts
 invariant_of-result-clause-starts g c =
-    items_from_collect {E = ℕ} (Ok c.in_ok-line_starts.line_starts) c.in_ok-line_starts.ensures.ran
+    items_from_collect {E = ℕ} (Ok c.in_ok-line_starts.line_starts)
+    c.in_ok-line_starts.ensures.ran
     (YieldsList-from_first (λ x. x) remaining_starts _
     (c.line_starts.ensures ∙ ap line_starts_of c.as_str.ensures))

@@ -1,5 +1,5 @@
-use Rattle.codespan_core.proofs.Std.{◌≡◌, ℕ, ◌+◌, ◌<◌, List, Option, length, get_or, sym, ◌∙◌}
-use Rattle.codespan_core.proofs.Std.{arith, get_or_default}
+use Rattle.codespan_core.proofs.Std.{◌≡◌, ℕ, ◌+◌, ◌<◌, List, Option, length, get_or}
+use Rattle.codespan_core.proofs.Std.{sym, ◌∙◌, arith, get_or_default}
 use Rattle.codespan_core.specs.{IsLineRange, line_starts_of, simple_file}
 use Rattle.codespan_core.specs.Lemmas.Simple.{end_before_last}
 use Rattle.codespan_core.proofs.files.simple.SimpleFileFiles.line_range.Goals as goal

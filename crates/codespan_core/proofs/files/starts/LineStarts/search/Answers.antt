@@ -23,5 +23,6 @@ returns-clause-ended c none =
     let bytes = c.as_bytes.result.now in
     let end : length bytes ≤ block.end = omega (arith, found.last none) in
     rw c.as_bytes.ensures.value at
-    (no_start_in_block bytes block.start block.end found.ordered found.high (sym found.mask ∙ none)
+    (no_start_in_block bytes block.start block.end found.ordered found.high
+    (sym found.mask ∙ none)
     ∙ starts_after_end bytes block.end end)

@@ -11,7 +11,8 @@ returns-clause-steps c =
       | then-self-eq0+else-self-eq0-2 w ↦
           let found = w.search.ensures in
           let started =
-          taken.started ∙ ap (λ s. s.started) w.self-is ∙ found.started ∙ c.if-not-self.false in
+          taken.started ∙ ap (λ s. s.started) w.self-is ∙ found.started
+          ∙ c.if-not-self.false in
           rw (c.if-not-self.false, started) (sym found.kept ∙ rw w.self-is at taken.first)
       | else-self-eq0 w ↦
           let started = taken.started ∙ ap (λ s. s.started) w.self-is ∙ c.if-not-self.false in

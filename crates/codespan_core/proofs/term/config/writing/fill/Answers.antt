@@ -1,5 +1,5 @@
-use Rattle.codespan_core.proofs.Std.{arith, sym, ap, ◌∙◌, ◌≡◌, ◌≤◌, ◌*◌, ◌+◌, ◌++◌, ℕ, List, length}
-use Rattle.codespan_core.proofs.Std.{take}
+use Rattle.codespan_core.proofs.Std.{arith, sym, ap, ◌∙◌, ◌≡◌, ◌≤◌, ◌*◌}
+use Rattle.codespan_core.proofs.Std.{◌+◌, ◌++◌, ℕ, List, length, take}
 use Rattle.std.proofs.Common.{mul-le-mul_right}
 use Rattle.std.proofs.lemmas.Slice.{take-put_mid}
 use Rattle.codespan_core.proofs.Repeats.{repeat-push, add-one_mul}

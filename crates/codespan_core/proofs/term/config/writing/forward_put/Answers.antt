@@ -21,4 +21,5 @@ returns-else-count-eq0-clause-took g c = λ f. (
 )
 
 pub returns-in-Err-clause-took : goal.returns-in-Err-clause-took
-returns-in-Err-clause-took g c = λ f. (refl, λ known. known-keeps _ _ known c.in-Err.ensures.bytes)
+returns-in-Err-clause-took g c = λ f.
+    (refl, λ known. known-keeps _ _ known c.in-Err.ensures.bytes)

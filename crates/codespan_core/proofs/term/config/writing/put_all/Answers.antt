@@ -1,6 +1,6 @@
-use Rattle.codespan_core.proofs.Std.{arith, refl, sym, ◌≡◌, ◌-◌, ◌<◌, length, take, drop, []}
-use Rattle.codespan_core.proofs.Std.{append-nil, length-drop, take_all, err_from_is_err_and}
-use Rattle.codespan_core.proofs.Std.{common_steps, nat_tests}
+use Rattle.codespan_core.proofs.Std.{arith, refl, sym, ◌≡◌, ◌-◌, ◌<◌, length, take}
+use Rattle.codespan_core.proofs.Std.{drop, [], append-nil, length-drop, take_all}
+use Rattle.codespan_core.proofs.Std.{err_from_is_err_and, common_steps, nat_tests}
 use Rattle.codespan_core.specs.{byte_stream}
 use Rattle.codespan_core.proofs.Put.{put-with_written, put-none, put-failed, byte_stream-take}
 use Rattle.codespan_core.proofs.Loops.{StillToWrite-start, StillToWrite-more, StillToWrite-failed}

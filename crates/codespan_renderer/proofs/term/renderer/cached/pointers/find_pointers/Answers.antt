@@ -1,5 +1,5 @@
-use Rattle.codespan_core.proofs.Std.{◌≡◌, ◌∙◌, ◌++◌, ap, append-nil, refl, sym, arith, chars}
-use Rattle.codespan_core.proofs.Std.{IsUtf8-had}
+use Rattle.codespan_core.proofs.Std.{◌≡◌, ◌∙◌, ◌++◌, ap, append-nil, refl, sym}
+use Rattle.codespan_core.proofs.Std.{arith, chars, IsUtf8-had}
 use Rattle.codespan_output.specs.CharMetrics.{char_metrics}
 use Rattle.codespan_output.specs.Arguments.{single_label_views}
 use Rattle.codespan_renderer.specs.Private.{remaining_from_cache}

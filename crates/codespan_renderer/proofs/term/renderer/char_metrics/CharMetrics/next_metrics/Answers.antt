@@ -1,4 +1,5 @@
-use Rattle.codespan_core.proofs.Std.{◌≡◌, refl, sym, ◌∙◌, arith, IsUtf8-had, len_utf8_bounds}
+use Rattle.codespan_core.proofs.Std.{◌≡◌, refl, sym, ◌∙◌, arith, IsUtf8-had}
+use Rattle.codespan_core.proofs.Std.{len_utf8_bounds}
 use Rattle.std.specs.Str.Iter.{chars_rest}
 use Rattle.std.proofs.lemmas.Str.{IsUtf8-past_char, drop_past_char}
 use Rattle.codespan_renderer.specs.Private.{MetricsAfterEnd, metrics_from}

@@ -9,4 +9,5 @@ returns-clause-style c =
     let none : drop c.loop-label.label-index c.args.self.now.labels.now ≡ [] = grind
     (arith, common_steps) in
     rw none at c.loop-label.invariant.best
-    ∙ preferred-none (λ x. covers x c.args.metrics) (single_label_views c.args.self.now.labels.now)
+    ∙ preferred-none (λ x. covers x c.args.metrics)
+    (single_label_views c.args.self.now.labels.now)

@@ -15,9 +15,11 @@ returns-clause-remaining c =
     ≡ least_start c.args.end (single_label_views s.line.labels.now) =
     elim c.match-first.branch [
       | in-Some w ↦ w.start-is ∙ w.min-start.ensures
-          ∙ least-of_first c.args.end w.in-Some.label.now s.line.labels.now w.in-Some.ensures.value
+          ∙ least-of_first c.args.end w.in-Some.label.now s.line.labels.now
+          w.in-Some.ensures.value
           s.ordered
-      | in-None w ↦ w.start-is ∙ least-of_none c.args.end s.line.labels.now w.in-None.ensures.value
+      | in-None w ↦ w.start-is
+          ∙ least-of_none c.args.end s.line.labels.now w.in-None.ensures.value
     ] in
     record {
       before = take skipped.result.1 s.cached.now;

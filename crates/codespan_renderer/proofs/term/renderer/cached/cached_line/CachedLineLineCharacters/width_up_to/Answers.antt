@@ -1,4 +1,5 @@
-use Rattle.codespan_core.proofs.Std.{◌≡◌, true, false, leb, arith, rules, ap, ◌∙◌, nat_tests}
+use Rattle.codespan_core.proofs.Std.{◌≡◌, true, false, leb, arith, rules, ap, ◌∙◌}
+use Rattle.codespan_core.proofs.Std.{nat_tests}
 use Rattle.std.specs.List.Sorted.{IsPartitionPoint}
 use Rattle.std.proofs.lemmas.List.Sorted.{IsPartitionedBy-leb, IsNonDecreasingBy-from_default}
 use Rattle.std.proofs.lemmas.List.Sorted.{IsPartitionPoint-from_clause}

@@ -1,4 +1,5 @@
-use Rattle.codespan_core.proofs.Std.{◌≡◌, ◌+◌, ◌-◌, ◌≤◌, length, true, filter, Option}
+use Rattle.codespan_core.proofs.Std.{◌≡◌, ◌+◌, ◌-◌, ◌≤◌, length, true, filter}
+use Rattle.codespan_core.proofs.Std.{Option}
 use Rattle.codespan_core.specs.Labels.{has_message}
 use Rattle.codespan_output.specs.Types.{LabelStyle}
 use Rattle.codespan_output.specs.declared.char_metrics.Metrics.{Metrics}
