@@ -1,7 +1,6 @@
--- the line numbers of `MappedFile` and of `SimpleFiles`
+-- the line numbers of `MappedFile`
 pub mod SetLineNumbers
 pub mod NumbersCountOn
-pub mod SimpleFilesNumbers
 -- laws of lines, line starts and columns
 pub mod LineCuts
 pub mod LineCounts

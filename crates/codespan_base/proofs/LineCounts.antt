@@ -1,9 +1,9 @@
 -- For the law `line_counts_newlines`: a byte's line is the number of newlines before it.
 use Rattle.codespan_core.proofs.Std.{◌≡◌, ℕ, suc, ◌+◌, ◌-◌, ◌<◌, ◌≤◌}
 use Rattle.codespan_core.proofs.Std.{Bool, true, false, cond, List, [], ◌∷◌, length, get_or}
-use Rattle.codespan_core.proofs.Std.{take, Option, refl, ap, sym, ◌∙◌, arith, eqb, inl, inr}
-use Rattle.codespan_core.proofs.Std.{count_by, nat_le, ◌==◌, if◌then◌else◌, cases_lt}
-use Rattle.codespan_core.proofs.Std.{le-leb, lt-leb, sum_by-cons}
+use Rattle.codespan_core.proofs.Std.{take, Option, refl, ap, sym, ◌∙◌, arith, eqb, count_by}
+use Rattle.codespan_core.proofs.Std.{nat_le, ◌==◌, if◌then◌else◌, cases_lt, le-leb}
+use Rattle.codespan_core.proofs.Std.{lt-leb, sum_by-cons, common_steps}
 use Rattle.std.proofs.Math.Seq.{take-nil}
 use Rattle.codespan_core.specs.FileModel.{line_of}
 use Rattle.codespan_core.specs.SimpleModel.{simple_file}
@@ -61,10 +61,7 @@ pub counted : (byte from : ℕ) (bs : List ℕ)
     → count_by (λ s. nat_le s byte) (starts_after from bs) ≡ newlines bs (byte - from)
 counted byte from [] = rw (take-nil {A = ℕ} (byte - from)) refl
 counted byte from (b ∷ bs) =
-    elim (cases_lt from byte) [
-      | inl p ↦ late byte from b bs _ (eqb b 10) p refl (counted byte (from + 1) bs)
-      | inr p ↦ early byte from b bs _ (eqb b 10) p (cuts (from + 1) bs).above
-    ]
+    grind (arith, common_steps, cases_lt, late, early, counted byte (from + 1) bs)
 
 -- the line of a byte is the number of newlines before it
 line_before : (text : List ℕ) (byte : ℕ)

@@ -1,11 +1,11 @@
 -- For the laws `lines_join_to_source` and `columns_never_decrease`: the lines of a text join to it,
 -- and columns never decrease along a line.
-use Rattle.codespan_core.proofs.Std.{◌≡◌, ℕ, zero, suc, ◌+◌, ◌-◌, ◌≤◌, min}
-use Rattle.codespan_core.proofs.Std.{Bool, cond, List, ◌++◌, drop, flat_map, length, get_or}
-use Rattle.codespan_core.proofs.Std.{Option, refl, sym, ap, ◌∙◌, arith, count_by, slice_range}
+use Rattle.codespan_core.proofs.Std.{◌≡◌, ℕ, zero, suc, ◌+◌, ◌-◌, ◌≤◌, Bool}
+use Rattle.codespan_core.proofs.Std.{List, ◌++◌, drop, flat_map, length, get_or, Option, refl}
+use Rattle.codespan_core.proofs.Std.{sym, ap, ◌∙◌, arith, count_by, slice_range}
 use Rattle.codespan_core.proofs.Std.{range_with_len, IsUtf8, take-append-drop, drop-drop, take_all}
-use Rattle.codespan_core.proofs.Std.{append-nil, length-drop, sum_by-cons}
-use Rattle.codespan_core.specs.Lines.{line_starts_of, starts_after, is_char_boundary}
+use Rattle.codespan_core.proofs.Std.{append-nil, length-drop, sum_by-cons, common_steps}
+use Rattle.codespan_core.specs.Lines.{line_starts_of, starts_after}
 use Rattle.codespan_core.specs.FileModel.{line_text}
 use Rattle.codespan_core.specs.SimpleModel.{simple_file, line_ends}
 use Rattle.codespan_core.specs.Lemmas.Simple.{ascending, end_before_last, end_of_last}
@@ -24,12 +24,7 @@ joined-from : (name : Option (List ℕ)) (text : List ℕ) → IsUtf8 text → (
     → i + suc n ≡ length (line_starts_of text)
     → flat_map (line_text (simple_file name text)) (range_with_len i (suc n)) ≡ drop
     (get_or (line_starts_of text) i 0) text
-joined-from name text u zero i h =
-    let at : ℕ = get_or (line_starts_of text) i 0 in
-    let e : get_or (line_ends text) i 0 ≡ length text = end_of_last text i (omega arith) in
-    append-nil (line_text (simple_file name text) i)
-    ∙ ap (λ b. slice_range text at b) e
-    ∙ take_all (length text - at) (drop at text) (omega (arith, length-drop at text))
+joined-from name text u zero i h = grind (arith, common_steps, append-nil, take_all, length-drop)
 joined-from name text u (suc n) i h =
     let at : ℕ = get_or (line_starts_of text) i 0 in
     let next : ℕ = get_or (line_starts_of text) (i + 1) 0 in
@@ -55,15 +50,8 @@ counts-rise : (p : ℕ → Bool) (a m n : ℕ) → m ≤ n
 counts-rise p a zero n h = omega arith
 counts-rise p a (suc m) zero h = absurd (omega arith)
 counts-rise p a (suc m) (suc n) h =
-    omega (
-      arith,
-      sum_by-cons (λ x. cond (p x) 1 0) a (range_with_len (a + 1) m),
-      sum_by-cons (λ x. cond (p x) 1 0) a (range_with_len (a + 1) n),
-      counts-rise p (a + 1) m n (omega arith),
-    )
+    grind (arith, common_steps, sum_by-cons, counts-rise p (a + 1) m n (omega arith))
 
 -- columns never decrease along a line
 pub columns_never_decrease : ColumnsNeverDecrease
-columns_never_decrease text start end byte later h =
-    counts-rise (is_char_boundary text) (start + 1) (min byte (min end (length text)) - start)
-    (min later (min end (length text)) - start) (omega arith)
+columns_never_decrease text start end byte later h = grind (arith, common_steps, counts-rise)

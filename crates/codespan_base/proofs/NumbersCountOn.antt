@@ -1,6 +1,6 @@
 -- For the law `set_numbers_count_on`: what setting a line's number does to all lines' numbers.
 use Rattle.codespan_core.proofs.Std.{◌≡◌, ℕ, suc, ◌<◌, List, [], ◌∷◌, length}
-use Rattle.codespan_core.proofs.Std.{Option, Some, None, refl, arith, nat_tests}
+use Rattle.codespan_core.proofs.Std.{Option, Some, None, refl, arith, nat_tests, common_steps}
 use Rattle.codespan_base.specs.SetLineNumbers.{line_index_at, IsStrictlySorted}
 use Rattle.codespan_base.specs.MappedModel.{nearest_set, with_set_number}
 use Rattle.codespan_base.specs.FileLaws.{nearest_set_after}
@@ -11,9 +11,7 @@ found_step : (b : ℕ) (x : ℕ × ℕ) (l : List (ℕ × ℕ)) (i : ℕ) (t : �
     → (o : Option (ℕ × ℕ)) → nearest_set l i ≡ o
     → ((u : ℕ × ℕ) → nearest_set l i ≡ Some u → b < u.0)
     → nearest_set (x ∷ l) i ≡ Some t → b < t.0
-found_step b x l i t first (Some u) same later found =
-    let above : b < u.0 = later u same in
-    grind (arith, nat_tests)
+found_step b x l i t first (Some u) same later found = grind (arith, common_steps)
 found_step b x l i t first None same later found = grind (arith, nat_tests)
 
 -- where all line indices are above b, so is that of the set number that a line counts from
@@ -32,9 +30,7 @@ set_step : (x : ℕ × ℕ) (l : List (ℕ × ℕ)) (k v i : ℕ) (o : Option (�
     → nearest_set (with_set_number k v l) i ≡ nearest_set_after k v i (nearest_set l i)
     → nearest_set (with_set_number k v (x ∷ l)) i
     ≡ nearest_set_after k v i (nearest_set (x ∷ l) i)
-set_step x l k v i (Some t) same later rest =
-    let after : x.0 < t.0 = later t same in
-    grind (arith, nat_tests)
+set_step x l k v i (Some t) same later rest = grind (arith, common_steps)
 set_step x l k v i None same later rest = grind (arith, nat_tests)
 
 -- the set number that a line counts from, once one more number is set

@@ -4,7 +4,7 @@ use Rattle.codespan_core.proofs.Std.{◌≡◌, ℕ, zero, suc, ◌+◌, ◌-◌
 use Rattle.codespan_core.proofs.Std.{◌≤◌, Bool, true, false, if◌then◌else◌, List, []}
 use Rattle.codespan_core.proofs.Std.{◌∷◌, length, get_or, set, Some, None, Result, Ok, Err}
 use Rattle.codespan_core.proofs.Std.{IfOk, IfErr, refl, sym, ap, subst, arith, nat_cmp, nat_tests}
-use Rattle.codespan_core.proofs.Std.{length-map}
+use Rattle.codespan_core.proofs.Std.{length-map, common_steps}
 use Rattle.std.proofs.Common.{length-set}
 use Rattle.std.specs.List.{insert}
 use Rattle.std.specs.List.Sorted.{IsSearchInRange, IsBinarySearchResult, IsNonDecreasingBy}
@@ -53,14 +53,7 @@ module _ (l : List SetNumber) (sorted : IsStrictlySorted (set_number_views l)) (
         absent : IfErr r (IsInsertionPoint (set_number_views l) k);
       }
   searched (Ok at) in_range equal =
-      let here = ranked _ k _ (sym (equal none_there)) in
-      record {
-        found = record {
-          in_range = omega (arith, length-map l set_number_view);
-          has_index = rw (index_at l at) here;
-        };
-        absent = tt;
-      }
+      grind (arith, common_steps, ranked, none_there, length-map, index_at)
   searched (Err at) in_range parted =
       let parts = parted comparisons_rise in
       let count = length-map l set_number_view in
@@ -105,9 +98,7 @@ inserted : (l : List (ℕ × ℕ)) (k v at : ℕ) → at ≤ length l
     → insert l at (k, v) ≡ with_set_number k v l
 inserted [] k v zero low below above = refl
 inserted [] k v (suc at) low below above = absurd (omega arith)
-inserted (x ∷ l) k v zero low below above =
-    let first : k < x.0 = above (omega arith) in
-    grind (arith, nat_tests)
+inserted (x ∷ l) k v zero low below above = grind (arith, common_steps)
 inserted (x ∷ l) k v (suc at) low below above =
     let first : x.0 < k = below 0 (omega arith) in
     let later : insert l at (k, v) ≡ with_set_number k v l =
@@ -162,9 +153,7 @@ module _ (l : List (ℕ × ℕ)) (sorted : IsStrictlySorted l) (k at : ℕ) (is_
 module _ (l : List (ℕ × ℕ)) (k at : ℕ) (point : IsInsertionPoint l k at) where
   -- inserting at the point is setting the number
   pub insert_adds : (v : ℕ) → insert l at (k, v) ≡ with_set_number k v l
-  insert_adds v =
-      inserted l k v at point.in_range point.smaller_before
-      (λ h. point.greater_after at (omega arith) h)
+  insert_adds v = grind (arith, common_steps, inserted)
 
   -- a line above all set ones counts from none
   pub nearest_set_before_all : at ≡ 0 → nearest_set l k ≡ None
@@ -172,10 +161,7 @@ module _ (l : List (ℕ × ℕ)) (k at : ℕ) (point : IsInsertionPoint l k at) 
 
   -- any other line counts from the set number before the point
   pub nearest_set_before : 0 < at → nearest_set l k ≡ Some (get_or l (at - 1) (0, 0))
-  nearest_set_before some =
-      last_set l k (at - 1) (omega (arith, point.in_range))
-      (omega (arith, point.smaller_before (at - 1) (omega arith)))
-      (λ j g h. point.greater_after j (omega arith) h)
+  nearest_set_before some = grind (arith, common_steps, last_set)
 
   -- which keeps the order: each line index is, by its position, an old one before the point, k at
   -- the point, or an old one moved by one position
@@ -212,8 +198,7 @@ pub pairs-insert : (l : List SetNumber) (at : ℕ) (s : SetNumber)
     → set_number_views (insert l at s) ≡ insert (set_number_views l) at (set_number_view s)
 pairs-insert l zero s = refl
 pairs-insert [] (suc at) s = refl
-pairs-insert (x ∷ l) (suc at) s = ap (λ (ps : List (ℕ × ℕ)). set_number_view x ∷ ps)
-    (pairs-insert l at s)
+pairs-insert (x ∷ l) (suc at) s = grind (arith, common_steps, pairs-insert l)
 
 -- whether the insert succeeds or fails, the order is kept
 pub sorted_either : (l : List SetNumber) (at : ℕ) (s : SetNumber)
@@ -226,7 +211,3 @@ sorted_either l at s point sorted true xs e =
     rw (e, pairs-insert l at s)
     (sorted_insert (set_number_views l) s.line_index at point s.number sorted)
 sorted_either l at s point sorted false xs e = rw e sorted
-
--- an empty list is sorted
-pub sorted_none : (l : List (ℕ × ℕ)) → l ≡ [] → IsStrictlySorted l
-sorted_none l none i j lt in_range = absurd (omega (arith, rw none at in_range))

@@ -4,6 +4,7 @@ use Rattle.codespan_core.proofs.Std.{◌∙◌, append_assoc, Option}
 use Rattle.codespan_core.specs.{Stream, Byte, Mark, Slot, Spelling, spelled, byte_stream, Sink}
 use Rattle.codespan_core.specs.{with_written, is_known, extended, PrefixWritten}
 use Rattle.codespan_core.proofs.KnownBytes.{extended-append, extended-nil, are_known-extended}
+use Rattle.codespan_core.specs.{plain_spelling, text_of}
 
 -- what two streams spell, one after the other
 pub spelled-append : (f : Spelling) (a b : Stream)
@@ -20,6 +21,13 @@ pub spelled-byte_stream : (f : Spelling) (bs : List ℕ) → spelled f (byte_str
 unfolding byte_stream
 spelled-byte_stream f [] = refl
 spelled-byte_stream f (b ∷ bs) = ap (λ (l : List ℕ). b ∷ l) (spelled-byte_stream f bs)
+
+-- a stream whose style marks are spelled as nothing is its text
+pub spelled-plain : (s : Stream) → spelled plain_spelling s ≡ text_of s
+spelled-plain [] = refl
+spelled-plain (Byte b ∷ s) = ap (λ (l : List ℕ). b ∷ l) (spelled-plain s)
+spelled-plain (Mark m ∷ s) = spelled-plain s
+spelled-plain (Slot k ∷ s) = spelled-plain s
 
 -- two texts as one stream
 pub byte_stream-append : (a b : List ℕ)

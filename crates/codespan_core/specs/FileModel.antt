@@ -1,8 +1,9 @@
 -- A file as its lookups show it: a name, a text, and the text cut into lines.
 use Rattle.std.specs.Prelude.{ℕ, ◌-◌, Bool, List, [], length, slice_index, slice_range}
-use Rattle.std.specs.Prelude.{count_by, nat_le, Option, Some, None, unwrap_or}
+use Rattle.std.specs.Prelude.{count_by, nat_le, Option, unwrap_or}
 use Rattle.codespan_core.specs.declared.files.error.Error.{Error}
 use Rattle.codespan_core.specs.declared.files.Location.{Location}
+use Rattle.std.specs.Option.{option_or}
 
 -- a file; line i runs from its start to its end, and has a number
 pub record FileModel : Type 0 where
@@ -53,8 +54,7 @@ line_of starts byte = count_by (λ s. nat_le s byte) starts - 1
 
 -- the first of two errors, or the second where there is no first
 abbrev pub or_failure : Option Error → Option Error → Option Error
-or_failure (Some e) o = Some e
-or_failure None o = o
+or_failure first second = option_or first second
 
 -- the first byte of line i
 abbrev pub line_start : FileModel → ℕ → ℕ

@@ -16,14 +16,14 @@ pub record LabelModel : Type 0 where
   pub end : ℕ
   pub message : Stream
 
--- the stream is empty
-abbrev pub is_empty_stream : Stream → Bool
-is_empty_stream [] = true
-is_empty_stream _ = false
+-- the list is empty
+abbrev pub is_empty : {A : Type 0} → List A → Bool
+is_empty [] = true
+is_empty _ = false
 
 -- the label has a message
 abbrev pub has_message : LabelModel → Bool
-has_message x = not (is_empty_stream x.message)
+has_message x = not (is_empty x.message)
 
 -- the style is `Primary`
 abbrev pub is_primary_style : LabelStyle → Bool
@@ -67,13 +67,12 @@ abbrev pub first_seen : {Id : Type 0} → (Id → Id → Bool) → List Id → L
 first_seen same [] = []
 first_seen same (id ∷ ids) = id ∷ filter (λ other. not (same id other)) (first_seen same ids)
 
--- the multi-line labels, which end on another line than they begin on; each one's index in this
--- list is its lane
+-- the labels that end on another line than they begin on; a label's index among them is its lane
 abbrev pub multi_line_labels : FileModel → List LabelModel → List LabelModel
 multi_line_labels f labels = filter (λ x. not (is_single f x)) labels
 
--- the first label's range is before the second's: by their starts, and by their ends where the
--- starts are equal
+-- the first label's range is before the second's: by their starts, where these are equal by their
+-- ends
 abbrev pub range_precedes : LabelModel → LabelModel → Bool
 range_precedes x y = nat_lt x.start y.start || (x.start == y.start && nat_lt x.end y.end)
 
@@ -82,14 +81,13 @@ abbrev pub insert_sorted : LabelModel → List LabelModel → List LabelModel
 insert_sorted x [] = x ∷ []
 insert_sorted x (y ∷ ys) = if range_precedes y x then y ∷ insert_sorted x ys else x ∷ y ∷ ys
 
--- labels in the order of their ranges, those of one range in the order given
+-- labels in the order of their ranges, those of one range in the order given: the only such list of
+-- them, by the law `sorted_is_stable_sort`
 abbrev pub sorted : List LabelModel → List LabelModel
 sorted [] = []
 sorted (x ∷ xs) = insert_sorted x (sorted xs)
 
--- the single-line labels of a line by their drawn ranges; of equal ranges the last given is first.
--- `sorted xs` is the only permutation of `xs` that is sorted by `range_precedes` and stable: the
--- law `sorted_is_stable_sort`
+-- the single-line labels of a line by their drawn ranges; of equal ranges the last given is first
 abbrev pub single_labels : FileModel → List LabelModel → ℕ → List LabelModel
 single_labels f labels l =
     sorted (reverse (map (drawn_label f)
@@ -109,18 +107,13 @@ pub record LaneMark : Type 0 where
   pub style : LabelStyle
   pub multi_label : MultiLabel
 
--- what a label from line `s` to line `e` does on line `l`, which starts at this byte: it begins
--- there, ends there, goes through, or does nothing
-abbrev pub multi_label_at : ℕ → ℕ → ℕ → ℕ → LabelModel → Option MultiLabel
-multi_label_at s e l start x =
-    if s == l then Some (Top (x.start - start))
-    else if e == l then Some (Bottom (x.end - start) x.message)
-    else if nat_lt s l && nat_lt l e then Some Left
-    else None
-
--- what the label does on a line of its file
+-- what the label does on a line of its file: it begins or ends there, goes through, or nothing
 abbrev pub multi_label_on : FileModel → ℕ → LabelModel → Option MultiLabel
-multi_label_on f l x = multi_label_at (first_line f x) (last_line f x) l (line_start f l) x
+multi_label_on f l x =
+    if first_line f x == l then Some (Top (x.start - line_start f l))
+    else if last_line f x == l then Some (Bottom (x.end - line_start f l) x.message)
+    else if nat_lt (first_line f x) l && nat_lt l (last_line f x) then Some Left
+    else None
 
 -- the lane mark, where the label has one
 abbrev pub lane_mark_of : ℕ → LabelModel → Option MultiLabel → Option LaneMark

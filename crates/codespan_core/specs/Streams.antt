@@ -60,11 +60,12 @@ plain_spelling _ = []
 
 -- the text of a stream: its bytes
 abbrev pub text_of : Stream → List ℕ
-text_of s = spelled plain_spelling s
+text_of [] = []
+text_of (Byte b ∷ s) = b ∷ text_of s
+text_of (_ ∷ s) = text_of s
 
 -- the stream with each slot filled by its label's message
 abbrev pub with_messages : (ℕ → List ℕ) → Stream → Stream
 with_messages message [] = []
 with_messages message (Slot k ∷ s) = map Byte (message k) ++ with_messages message s
-with_messages message (Byte b ∷ s) = Byte b ∷ with_messages message s
-with_messages message (Mark m ∷ s) = Mark m ∷ with_messages message s
+with_messages message (item ∷ s) = item ∷ with_messages message s

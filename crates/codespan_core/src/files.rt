@@ -66,9 +66,9 @@ pub struct Location {
 ///
 /// # Examples
 ///
-/// A database of two files, the module `files::checked` of `crates/examples`, which also defines
-/// `Part` and `Checked`; `part_name`, `of_part` and `one_part` are in `specs/Parts.antt` of that
-/// crate. `docs/FILES.md` goes through another one step by step.
+/// A database of two files, from a crate that also defines `Part` and `Checked`, and in its specs/
+/// `part_name`, `of_part` and `one_part`. The guide on file databases goes through another one step
+/// by step.
 ///
 /// ```rust
 /// impl<'a, 'text: 'a> Files<'a> for Checked<'text> {

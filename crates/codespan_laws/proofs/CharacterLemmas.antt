@@ -1,14 +1,14 @@
 -- For `chars_change_no_row_length`: the length of rows does not depend on the characters that they
 -- are rendered with.
-use Rattle.std.proofs.Common.{◌≡◌, ℕ, ◌-◌, Bool, true, false, List, [], ◌∷◌}
-use Rattle.std.proofs.Common.{◌++◌, flat_map, Option, Some, None, if◌then◌else◌, refl}
-use Rattle.std.proofs.Common.{sym, ap, ◌∙◌, arith}
-use Rattle.std.specs.List.{list_any}
+use Rattle.std.proofs.Common.{◌≡◌, ℕ, ◌-◌, List, [], ◌∷◌, ◌++◌, flat_map}
+use Rattle.std.proofs.Common.{Option, Some, None, refl, sym, ap, ◌∙◌, arith}
+use Rattle.std.proofs.Common.{if◌then◌else◌}
 use Rattle.codespan_base.specs.declared.diagnostic.Severity.{Severity}
 use Rattle.codespan_base.specs.declared.diagnostic.LabelStyle.{LabelStyle}
 use Rattle.codespan_base.specs.declared.term.config.chars.Chars.{Chars}
 use Rattle.codespan_base.specs.Labels.{LabelModel, LaneMark, MultiLabel, Top, Left, Bottom}
 use Rattle.codespan_base.specs.Streams.{Stream, style_mark, byte_stream, glyph, repeated, space}
+use Rattle.codespan_base.specs.Streams.{spaces}
 use Rattle.codespan_base.specs.declared.term.config.style_mark.StyleMark.{StyleMark}
 use Rattle.codespan_base.specs.declared.term.config.style_mark.StyleMark.TheVariants.{NoteBullet}
 use Rattle.codespan_base.specs.declared.term.config.style_mark.StyleMark.TheVariants.{SourceBorder}
@@ -16,25 +16,27 @@ use Rattle.codespan_base.specs.declared.term.config.style_mark.StyleMark.TheVari
 use Rattle.codespan_base.specs.SnippetStarts.{start_text}
 use Rattle.codespan_output.specs.RowLaws.{row_length, character_count, CharsChangeNoRowLength}
 use Rattle.codespan_output.specs.declared.char_metrics.Metrics.{Metrics}
-use Rattle.codespan_output.specs.Carets.{style_under, max_label_end}
+use Rattle.codespan_output.specs.Carets.{style_under, max_label_end, style_of_any}
 use Rattle.codespan_output.specs.Lanes.{label_glyph}
 use Rattle.codespan_output.specs.Rows.{RowContext, Locus, Lanes, Line, Row, HeaderRow}
 use Rattle.codespan_output.specs.Rows.{SnippetStartRow, EmptyRow, BreakRow, SourceRow, CaretRow}
 use Rattle.codespan_output.specs.Rows.{PointerRow, HangingRow, UnderlineRow, FirstNoteRow}
 use Rattle.codespan_output.specs.Rows.{LaterNoteRow, FinalRow, hanging_labels, trailing_label}
 use Rattle.codespan_output.specs.RowParts.{outer_gutter, outer_gutter_number, border_left}
-use Rattle.codespan_output.specs.RowParts.{border_left_break, style_change, styled, lanes_in}
-use Rattle.codespan_output.specs.RowParts.{snippet_locus, line_metrics, line_metrics_to_end}
-use Rattle.codespan_output.specs.RowParts.{inner_gutter, colored_text, caret_glyphs, carets}
-use Rattle.codespan_output.specs.RowParts.{trailing_message, label_message, starts_in}
-use Rattle.codespan_output.specs.RowParts.{max_label_start, spaces_up_to, pointer_style, pointer_at}
-use Rattle.codespan_output.specs.RowParts.{pointers, metrics_before, underline, underline_message}
-use Rattle.codespan_output.specs.RowStreams.{stream_of, snippet_start_row, empty_row, break_row}
-use Rattle.codespan_output.specs.RowStreams.{source_row, row_start, caret_row, pointer_row}
-use Rattle.codespan_output.specs.RowStreams.{hanging_row, underline_row, first_note_row}
-use Rattle.codespan_output.proofs.Texts.{row_length-append, row_length-glyph, row_length-repeated}
-use Rattle.codespan_output.proofs.Texts.{text_of-byte_stream}
+use Rattle.codespan_output.specs.RowParts.{border_left_break, style_change, snippet_locus}
+use Rattle.codespan_output.specs.RowParts.{line_metrics, line_metrics_to_end, inner_gutter}
+use Rattle.codespan_output.specs.RowParts.{colored_text, carets, trailing_message, label_message}
+use Rattle.codespan_output.specs.RowParts.{starts_in, max_label_start, pointers, metrics_before}
+use Rattle.codespan_output.specs.RowParts.{underline, underline_message, pointer_glyphs}
+use Rattle.codespan_output.specs.RowParts.{metrics_up_to}
+use Rattle.codespan_output.specs.RowStreams.{stream_of, snippet_start_row, first_note_row}
+use Rattle.codespan_output.proofs.Utf8.Texts.{row_length-append, row_length-glyph}
+use Rattle.codespan_output.proofs.Utf8.Texts.{row_length-repeated, text_of-byte_stream}
 use Rattle.codespan_laws.proofs.LaneWidths.{row_length-lanes_in, row_length-label_glyph}
+use Rattle.codespan_output.specs.Private.LineViews.{lanes_in}
+use Rattle.codespan_output.specs.Private.LineRows.{row_start}
+use Rattle.codespan_output.specs.Private.Runs.{styled_after}
+use Rattle.codespan_output.proofs.Characters.Styled.{carets-is}
 
 -- two streams have equally many characters
 record AreAsLong (s t : Stream) : Type 0 where
@@ -121,7 +123,7 @@ module _ (context : RowContext) (chars : Chars) where
       marked SourceBorder chars.source_border_left_break context.chars.source_border_left_break
 
   row_start_as_long : (line : Line) → AreAsLong (row_start other line) (row_start context line)
-  unfolding row_start inner_gutter
+  unfolding inner_gutter
   row_start_as_long line =
       same_before _ _ space
       (joined (outer_gutter context.padding ++ border_left chars)
@@ -133,8 +135,8 @@ module _ (context : RowContext) (chars : Chars) where
   styled_as_long : (style : Metrics → Option LabelStyle) (shown shown' : Metrics → Stream)
       → ((c : Metrics) → AreAsLong (shown c) (shown' c))
       → (previous : Option LabelStyle) (cs : List Metrics)
-      → AreAsLong (styled context.severity style shown previous cs)
-      (styled context.severity style shown' previous cs)
+      → AreAsLong (styled_after context.severity style shown previous cs)
+      (styled_after context.severity style shown' previous cs)
   styled_as_long style shown shown' e previous [] = as_long
       (style_change context.severity previous None)
   styled_as_long style shown shown' e previous (c ∷ cs) =
@@ -143,38 +145,28 @@ module _ (context : RowContext) (chars : Chars) where
       (same_after (style_change context.severity previous (style c)) (shown c) (shown' c) (e c))
       (styled_as_long style shown shown' e (style c) cs)
 
-  caret_glyphs_as_long : (end : ℕ) (style : Option LabelStyle) (c : Metrics)
-      → AreAsLong (caret_glyphs chars end style c) (caret_glyphs context.chars end style c)
-  unfolding caret_glyphs
-  caret_glyphs_as_long end None c = as_long _
-  caret_glyphs_as_long end (Some style) c = repeats c.unicode_width _ _
-
   carets_as_long : (labels : List LabelModel) (cs : List Metrics)
       → AreAsLong (carets other labels cs) (carets context labels cs)
-  unfolding carets
   carets_as_long labels cs =
-      styled_as_long (style_under labels) _ _
-      (λ c. caret_glyphs_as_long (max_label_end labels) (style_under labels c) c) None cs
+      rw (carets-is other labels cs, carets-is context labels cs)
+      (styled_as_long (style_under labels) _ _ (λ c. repeats c.unicode_width _ _) None
+      (metrics_before (max_label_end labels) cs))
 
-  pointed : (points : Bool) (style : LabelStyle) (after without : Stream)
-      → AreAsLong
-      (if points then label_glyph context.severity style chars.pointer_left ++ after else without)
-      (if points then label_glyph context.severity style context.chars.pointer_left ++ after
-      else without)
-  pointed true style after without =
-      same_before _ _ after
+  pointer_glyphs_as_long : (style : Option LabelStyle) (c : Metrics)
+      → AreAsLong (pointer_glyphs other style c) (pointer_glyphs context style c)
+  unfolding pointer_glyphs
+  pointer_glyphs_as_long None c = as_long (spaces c.unicode_width)
+  pointer_glyphs_as_long (Some style) c =
+      same_before _ _ (spaces (c.unicode_width - 1))
       (in_style context.severity style chars.pointer_left context.chars.pointer_left)
-  pointed false style after without = as_long without
 
   pointers_as_long : (labels : List LabelModel) (cs : List Metrics)
       → AreAsLong (pointers other labels cs) (pointers context labels cs)
-  unfolding pointers pointer_at
+  unfolding pointers
   pointers_as_long labels cs =
       flat_as_long _ _
-      (λ c. pointed (list_any (starts_in c) (hanging_labels labels))
-      (pointer_style (hanging_labels labels) c)
-      (spaces_up_to (max_label_start labels) c (c.unicode_width - 1))
-      (spaces_up_to (max_label_start labels) c c.unicode_width)) cs
+      (λ c. pointer_glyphs_as_long (style_of_any (starts_in c) (hanging_labels labels)) c)
+      (metrics_up_to (max_label_start labels) cs)
 
   underline_as_long : (style : LabelStyle) (cs : List Metrics) (multi_label : MultiLabel)
       → AreAsLong (underline chars style cs multi_label)
@@ -202,8 +194,7 @@ module _ (context : RowContext) (chars : Chars) where
       (start_text context.chars.snippet_start)
       → (row : Row)
       → AreAsLong (stream_of other row) (stream_of context row)
-  unfolding empty_row break_row source_row caret_row pointer_row hanging_row underline_row
-      first_note_row colored_text inner_gutter
+  unfolding first_note_row colored_text inner_gutter
   rows_as_long e (HeaderRow at header_text) = as_long _
   rows_as_long e (SnippetStartRow at) = start_as_long e at
   rows_as_long e (EmptyRow lanes) =

@@ -17,9 +17,10 @@ use Rattle.codespan_output.specs.declared.lane_shapes.Shape.TheVariants.{BottomC
 use Rattle.codespan_output.specs.Lanes.{underline_char, crossing_characters, label_glyph}
 use Rattle.codespan_output.specs.Lanes.{lane_mark_in, lane_characters}
 use Rattle.codespan_output.specs.Rows.{RowContext, Lanes}
-use Rattle.codespan_output.specs.RowParts.{inner_gutter_column, lanes_in}
-use Rattle.codespan_output.proofs.Texts.{row_length-append, row_length-glyph, row_length-style_mark}
-use Rattle.codespan_output.proofs.Texts.{row_length-repeated, row_length-spaces}
+use Rattle.codespan_output.proofs.Utf8.Texts.{row_length-append, row_length-glyph}
+use Rattle.codespan_output.proofs.Utf8.Texts.{row_length-style_mark, row_length-repeated}
+use Rattle.codespan_output.proofs.Utf8.Texts.{row_length-spaces}
+use Rattle.codespan_output.specs.Private.LineViews.{inner_gutter_column, lanes_in}
 
 -- a stream between two style marks is as long as it is alone
 row_length-between_style_marks : (m : StyleMark) (s : Stream)
@@ -79,7 +80,6 @@ row_length-lane_characters severity chars crossing style BottomCorner =
 pub row_length-inner_gutter_column : (context : RowContext) (crossing : Option LaneMark)
     (shape : MultiLabel → Shape) (lane_mark : Option LaneMark)
     → row_length (inner_gutter_column context crossing shape lane_mark) ≡ 2
-unfolding inner_gutter_column
 row_length-inner_gutter_column context crossing shape None =
     row_length-lane_characters context.severity context.chars crossing Primary Space
 row_length-inner_gutter_column context crossing shape (Some m) =

@@ -12,11 +12,11 @@ use Rattle.codespan_base.specs.Labels.{LabelModel, is_primary, is_single, first_
 use Rattle.codespan_base.specs.Labels.{multi_line_labels, single_labels}
 use Rattle.codespan_output.specs.Snippets.{least, if_any, locus_byte_of}
 use Rattle.codespan_laws.specs.OrderLaws.{has_drawn_range}
-use Rattle.codespan_output.proofs.OrderSorts.{has_range, sorted-same}
-use Rattle.codespan_output.proofs.HangingStarts.{any-filter}
-use Rattle.codespan_output.proofs.RefillLemmas.{any-map, filter-map}
-use Rattle.codespan_output.proofs.ListElements.{any-filtered, filter-filter}
-use Rattle.codespan_output.proofs.SortedFilters.{filter-reverse}
+use Rattle.codespan_output.proofs.Order.OrderSorts.{has_range, sorted-same}
+use Rattle.codespan_output.proofs.Pointers.HangingStarts.{any-filter}
+use Rattle.codespan_output.proofs.Slots.RefilledLabels.{any-map, filter-map}
+use Rattle.codespan_output.proofs.Utf8.ListElements.{any-filtered, filter-filter}
+use Rattle.codespan_output.proofs.Order.SortedFilters.{filter-reverse}
 
 -- ---- the orders of one file
 

@@ -17,20 +17,22 @@ use Rattle.codespan_base.specs.Labels.{multi_label_on, lane_mark_of}
 use Rattle.codespan_output.specs.CharMetrics.{text_without_line_end}
 use Rattle.codespan_output.specs.LineLaws.{shown_lines}
 use Rattle.codespan_output.specs.Lines.{shows, is_shown, drawn_lines, spans}
-use Rattle.codespan_output.specs.Padding.{spanned_lines, numbered_lines, digits_of}
-use Rattle.codespan_output.specs.OutputStreams.{context_of, rendered, snippet_locus_byte}
+use Rattle.codespan_output.specs.Padding.{numbered_lines}
+use Rattle.codespan_output.specs.OutputStreams.{context_of, rendered}
 use Rattle.codespan_output.specs.RowStreams.{stream_of_rows}
 use Rattle.codespan_output.specs.Rows.{Locus, HeaderText, Lanes, Line, HeaderRow, SnippetStartRow}
 use Rattle.codespan_output.specs.Rows.{EmptyRow, FinalRow}
 use Rattle.codespan_output.specs.Snippets.{LabeledFileModel, LabelInFile, labeled_file_model}
 use Rattle.codespan_output.specs.Snippets.{empty_lanes, line_at, rows_of_drawn, rows_of_shown}
-use Rattle.codespan_output.specs.Snippets.{labeled_file_models, snippet, has_any, empty_row_after}
-use Rattle.codespan_output.specs.Snippets.{snippets, note_rows}
+use Rattle.codespan_output.specs.Snippets.{labeled_file_models, snippet, empty_row_after, snippets}
+use Rattle.codespan_output.specs.Snippets.{note_rows}
 use mathlib.Core.Path.{fun_ext}
 use Rattle.codespan_laws.specs.OrderLaws.{ReorderingChangesNothing}
-use Rattle.codespan_output.proofs.FillLemmas.{rows_of_shown_lines}
+use Rattle.codespan_output.proofs.DrawnLines.Filled.{rows_of_shown_lines}
 use Rattle.codespan_laws.proofs.OrderMembers.{AreEqual, SameTests, same-tests, locus-same}
 use Rattle.codespan_laws.proofs.OrderMembers.{singles-same}
+use Rattle.codespan_output.specs.Private.LineRows.{has_any}
+use Rattle.codespan_output.specs.Private.LocusBytes.{snippet_locus_byte, digits_of, spanned_lines}
 
 -- ---- one file
 

@@ -19,8 +19,10 @@ use Rattle.codespan_output.specs.declared.lane_shapes.Shape.TheVariants.{BottomC
 use Rattle.codespan_output.specs.Lanes.{crossing_characters, label_glyph, lane_characters}
 use Rattle.codespan_output.specs.Lanes.{lane_mark_in}
 use Rattle.codespan_output.specs.Rows.{RowContext, Lanes}
-use Rattle.codespan_output.specs.RowParts.{style_change, styled, inner_gutter_column, lanes_in}
+use Rattle.codespan_output.specs.RowParts.{style_change}
 use Rattle.codespan_output.specs.RowLaws.{is_reset, ends_reset}
+use Rattle.codespan_output.specs.Private.LineViews.{inner_gutter_column, lanes_in}
+use Rattle.codespan_output.specs.Private.Runs.{styled_after}
 
 -- one stream after another
 pub ends_reset-append : (closed : Bool) (s t : Stream)
@@ -105,7 +107,6 @@ closes-lane_characters severity chars crossing style BottomCorner =
 closes-inner_gutter_column : (context : RowContext) (crossing : Option LaneMark)
     (shape : MultiLabel → Shape) (lane_mark : Option LaneMark)
     → Closes (inner_gutter_column context crossing shape lane_mark)
-unfolding inner_gutter_column
 closes-inner_gutter_column context crossing shape None =
     closes-lane_characters context.severity context.chars crossing Primary Space
 closes-inner_gutter_column context crossing shape (Some m) =
@@ -152,11 +153,11 @@ pub ends_reset-styled : (severity : Severity) (style : Metrics → Option LabelS
     (shown : Metrics → Stream)
     → ((closed : Bool) (c : Metrics) → ends_reset closed (shown c) ≡ closed)
     → (previous : Option LabelStyle) (cs : List Metrics)
-    → ends_reset (is_none previous) (styled severity style shown previous cs) ≡ true
+    → ends_reset (is_none previous) (styled_after severity style shown previous cs) ≡ true
 ends_reset-styled severity style shown plain previous [] = ends_reset-style_change severity previous
     None
 ends_reset-styled severity style shown plain previous (c ∷ cs) =
-    let rest = styled severity style shown (style c) cs in
+    let rest = styled_after severity style shown (style c) cs in
     let first = style_change severity previous (style c) in
     ends_reset-append (is_none previous) (first ++ shown c) rest
     ∙ ap (λ o. ends_reset o rest)

@@ -1,30 +1,27 @@
 -- For `rows_end_reset`: the rows of an output.
-use Rattle.std.proofs.Common.{◌≡◌, ℕ, ◌+◌, ◌-◌, nat_le, nat_lt, Bool, true, false}
-use Rattle.std.proofs.Common.{List, [], ◌++◌, Option, Some, None, refl}
+use Rattle.std.proofs.Common.{◌≡◌, ℕ, ◌+◌, ◌-◌, Bool, true, false, List, []}
+use Rattle.std.proofs.Common.{◌++◌, Option, Some, None, refl}
 use Rattle.std.specs.Prelude.{◌==◌, if◌then◌else◌}
-use Rattle.std.specs.List.{list_any}
 use Rattle.codespan_base.specs.declared.diagnostic.Severity.{Severity}
 use Rattle.codespan_base.specs.declared.diagnostic.LabelStyle.{LabelStyle}
 use Rattle.codespan_base.specs.declared.term.config.chars.Chars.{Chars}
 use Rattle.codespan_base.specs.Labels.{LabelModel}
-use Rattle.codespan_base.specs.Streams.{Stream, byte_stream, spaces, glyph, space}
+use Rattle.codespan_base.specs.Streams.{Stream, byte_stream, spaces, glyph, space, repeated}
 use Rattle.codespan_base.specs.declared.term.config.style_mark.StyleMark.TheVariants.{Label}
 use Rattle.codespan_output.specs.declared.char_metrics.Metrics.{Metrics}
-use Rattle.codespan_output.specs.Carets.{style_under, max_label_end}
+use Rattle.codespan_output.specs.Carets.{style_under, max_label_end, style_of_any, caret_for}
 use Rattle.codespan_output.specs.Lanes.{label_glyph}
 use Rattle.codespan_output.specs.Rows.{Locus, RowContext, Line, Row, HeaderRow, SnippetStartRow}
 use Rattle.codespan_output.specs.Rows.{EmptyRow, BreakRow, SourceRow, CaretRow, PointerRow}
 use Rattle.codespan_output.specs.Rows.{HangingRow, UnderlineRow, FirstNoteRow, LaterNoteRow}
 use Rattle.codespan_output.specs.Rows.{FinalRow, hanging_labels}
 use Rattle.codespan_output.specs.RowParts.{inner_gutter, source_glyph, source_style, colored_text}
-use Rattle.codespan_output.specs.RowParts.{caret_glyphs, carets, trailing_message, label_message}
-use Rattle.codespan_output.specs.RowParts.{spaces_up_to, pointer_at, pointer_style, pointers}
+use Rattle.codespan_output.specs.RowParts.{carets, trailing_message, label_message, pointers}
 use Rattle.codespan_output.specs.RowParts.{starts_in, max_label_start, outer_gutter}
 use Rattle.codespan_output.specs.RowParts.{outer_gutter_number, border_left, border_left_break}
-use Rattle.codespan_output.specs.RowParts.{snippet_locus, line_metrics}
-use Rattle.codespan_output.specs.RowStreams.{stream_of, header_row, snippet_start_row, empty_row}
-use Rattle.codespan_output.specs.RowStreams.{break_row, source_row, row_start, caret_row}
-use Rattle.codespan_output.specs.RowStreams.{pointer_row, hanging_row, underline_row}
+use Rattle.codespan_output.specs.RowParts.{snippet_locus, line_metrics, pointer_glyphs}
+use Rattle.codespan_output.specs.RowParts.{metrics_up_to, metrics_before}
+use Rattle.codespan_output.specs.RowStreams.{stream_of, header_row, snippet_start_row}
 use Rattle.codespan_output.specs.RowStreams.{first_note_row, later_note_row}
 use Rattle.codespan_output.specs.RowLaws.{ends_reset, RowsEndReset}
 use Rattle.codespan_laws.proofs.ResetLemmas.{Closes, closes-append, closes-reset}
@@ -32,6 +29,8 @@ use Rattle.codespan_laws.proofs.ResetLemmas.{ends_reset-byte_stream, ends_reset-
 use Rattle.codespan_laws.proofs.ResetLemmas.{ends_reset-repeated, closes-in_style}
 use Rattle.codespan_laws.proofs.ResetLemmas.{closes-label_glyph, closes-flat_map, closes-lanes_in}
 use Rattle.codespan_laws.proofs.ResetLemmas.{ends_reset-styled}
+use Rattle.codespan_output.specs.Private.LineRows.{row_start}
+use Rattle.codespan_output.proofs.Characters.Styled.{carets-is, colored_text-is}
 
 -- ---- rows
 
@@ -48,40 +47,25 @@ ends_reset-source_glyph closed c = by_test (c.ch == 9)
     by_test true = ends_reset-spaces closed c.unicode_width
     by_test false = ends_reset-byte_stream closed _
 
-ends_reset-caret_glyphs : (chars : Chars) (end : ℕ) (style : Option LabelStyle) (closed : Bool)
-    (c : Metrics)
-    → ends_reset closed (caret_glyphs chars end style c) ≡ closed
-unfolding caret_glyphs
-ends_reset-caret_glyphs chars end (Some style) closed c =
-    ends_reset-repeated closed c.unicode_width _
-ends_reset-caret_glyphs chars end None closed c = by_test (nat_lt c.byte_index end)
-  where
-    by_test : (b : Bool) → ends_reset closed (if b then spaces c.unicode_width else []) ≡ closed
-    by_test true = ends_reset-spaces closed c.unicode_width
-    by_test false = refl
-
 closes-carets : (context : RowContext) (labels : List LabelModel) (cs : List Metrics)
     → Closes (carets context labels cs)
-unfolding carets
 closes-carets context labels cs =
-    record {
+    rw (carets-is context labels cs) (record {
       closed =
           ends_reset-styled context.severity (style_under labels)
-          (λ c. caret_glyphs context.chars (max_label_end labels) (style_under labels c) c)
-          (λ closed c. ends_reset-caret_glyphs context.chars (max_label_end labels)
-          (style_under labels c) closed c)
-          None cs;
-    }
+          (λ c. repeated c.unicode_width (caret_for context.chars (style_under labels c)))
+          (λ closed c. ends_reset-repeated closed c.unicode_width _) None
+          (metrics_before (max_label_end labels) cs);
+    })
 
 closes-colored_text : (context : RowContext) (line : Line) → Closes (colored_text context line)
-unfolding colored_text
 closes-colored_text context line =
-    record {
+    rw (colored_text-is context line) (record {
       closed =
           ends_reset-styled context.severity (source_style line) source_glyph
           ends_reset-source_glyph None
           (line_metrics context line);
-    }
+    })
 
 closes-label_message : (severity : Severity) (style : LabelStyle) (message : Stream)
     → Closes (label_message severity style message)
@@ -96,38 +80,23 @@ closes-trailing_message severity None = record { closed = refl }
 closes-trailing_message severity (Some x) =
     closes-append space _ (closes-byte_stream _) (closes-label_message severity x.style x.message)
 
-closes-spaces_up_to : (byte_index : ℕ) (c : Metrics) (n : ℕ)
-    → Closes (spaces_up_to byte_index c n)
-unfolding spaces_up_to
-closes-spaces_up_to byte_index c n = by_test (nat_le c.byte_index byte_index)
-  where
-    by_test : (b : Bool) → Closes (if b then spaces n else [])
-    by_test true = record { closed = ends_reset-spaces true n }
-    by_test false = record { closed = refl }
-
-closes-pointer_at : (context : RowContext) (labels xs : List LabelModel) (c : Metrics)
-    → Closes (pointer_at context labels xs c)
-unfolding pointer_at
-closes-pointer_at context labels xs c = by_test (list_any (starts_in c) xs)
-  where
-    by_test : (b : Bool)
-        → Closes
-        (if b then label_glyph context.severity (pointer_style xs c) context.chars.pointer_left
-        ++ spaces_up_to (max_label_start labels) c (c.unicode_width - 1)
-        else spaces_up_to (max_label_start labels) c c.unicode_width)
-    by_test true =
-        closes-append (label_glyph context.severity (pointer_style xs c) context.chars.pointer_left)
-        (spaces_up_to (max_label_start labels) c (c.unicode_width - 1))
-        (closes-label_glyph context.severity (pointer_style xs c) context.chars.pointer_left)
-        (closes-spaces_up_to (max_label_start labels) c (c.unicode_width - 1))
-    by_test false = closes-spaces_up_to (max_label_start labels) c c.unicode_width
+closes-pointer_glyphs : (context : RowContext) (style : Option LabelStyle) (c : Metrics)
+    → Closes (pointer_glyphs context style c)
+unfolding pointer_glyphs
+closes-pointer_glyphs context None c = record { closed = ends_reset-spaces true c.unicode_width }
+closes-pointer_glyphs context (Some style) c =
+    closes-append (label_glyph context.severity style context.chars.pointer_left)
+    (spaces (c.unicode_width - 1))
+    (closes-label_glyph context.severity style context.chars.pointer_left)
+    (record { closed = ends_reset-spaces true (c.unicode_width - 1) })
 
 closes-pointers : (context : RowContext) (labels : List LabelModel) (cs : List Metrics)
     → Closes (pointers context labels cs)
 unfolding pointers
 closes-pointers context labels cs =
-    closes-flat_map (pointer_at context labels (hanging_labels labels))
-    (closes-pointer_at context labels (hanging_labels labels)) cs
+    closes-flat_map
+    (λ c. pointer_glyphs context (style_of_any (starts_in c) (hanging_labels labels)) c)
+    (λ c. closes-pointer_glyphs context _ c) (metrics_up_to (max_label_start labels) cs)
 
 closes-outer_gutter : (n : ℕ) → Closes (outer_gutter n)
 unfolding outer_gutter
@@ -156,7 +125,7 @@ closes-locus p =
     (closes-byte_stream _)
 
 closes-row_start : (context : RowContext) (line : Line) → Closes (row_start context line)
-unfolding row_start inner_gutter
+unfolding inner_gutter
 closes-row_start context line =
     closes-append _ space
     (closes-append _ _ (closes-append _ _ (closes-outer_gutter _) (closes-border_left _))
@@ -164,8 +133,7 @@ closes-row_start context line =
     (closes-byte_stream _)
 
 closes-row : (context : RowContext) (row : Row) → Closes (stream_of context row)
-unfolding header_row snippet_start_row empty_row break_row source_row caret_row pointer_row
-    hanging_row underline_row first_note_row later_note_row inner_gutter
+unfolding header_row snippet_start_row first_note_row later_note_row inner_gutter
 closes-row context (HeaderRow at header_text) = closes-reset _
 closes-row context (SnippetStartRow at) =
     closes-append _ (snippet_locus at)

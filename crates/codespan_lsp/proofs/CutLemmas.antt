@@ -1,6 +1,6 @@
 -- Facts on a line cut after a prefix, for the value of `position_to_byte_index` and for the laws.
 use Rattle.std.proofs.Common.{◌≡◌, ℕ, ◌+◌, ◌-◌, ◌<◌, ◌≤◌, List, ◌++◌}
-use Rattle.std.proofs.Common.{length, take, drop, Result, Ok, Err, ap, sym, ◌∙◌, refl, subst}
+use Rattle.std.proofs.Common.{length, take, drop, Result, Ok, Err, ap, sym, ◌∙◌, refl}
 use Rattle.std.proofs.Common.{arith, append_assoc, length-append, length-take}
 use Rattle.std.specs.Prelude.{encode_utf8_all, slice_range, IfOk}
 use Rattle.std.proofs.lemmas.List.{take_at, take-append-drop, drop-drop}
@@ -16,6 +16,7 @@ use Rattle.codespan_lsp.specs.declared.positions.Position.{Position}
 use Rattle.codespan_lsp.specs.Units.{total_units, code_units, prefix_within}
 use Rattle.codespan_lsp.specs.declared.encoding.PositionEncoding.{PositionEncoding}
 use Rattle.codespan_lsp.proofs.PrefixLemmas.{Cut, prefix-cut}
+use Rattle.std.proofs.lemmas.Grind.{common_steps}
 
 -- what a line's prefix of whole characters is in the text
 pub record IsPrefixAt (encoding : PositionEncoding) (text : List ℕ) (start end n : ℕ) : Type 0
@@ -125,16 +126,5 @@ module _ (encoding : PositionEncoding) (f : FileModel) (law : IsLawful f) (p : P
       ≡ p.character)
       → IfOk r (IsByteAt encoding f p)
   returned-is-at start line start_is line_is (Ok byte) at units =
-      let here : byte ≡ line_start f p.line
-      + length
-      (encode_utf8_all (prefix_within encoding p.character (chars (line_text f p.line)))) =
-      at ∙
-      (ap (λ s. s + length (encode_utf8_all (prefix_within encoding p.character (chars line))))
-      start_is
-      ∙ ap (λ l. line_start f p.line
-      + length (encode_utf8_all (prefix_within encoding p.character (chars l)))) line_is) in
-      subst (IsByteAt encoding f p) (sym here)
-      (prefix-is-at
-      (ap (λ l. total_units encoding (prefix_within encoding p.character (chars l)))
-      (sym line_is) ∙ units))
+      grind (arith, common_steps, prefix-is-at)
   returned-is-at start line start_is line_is (Err e) at units = tt

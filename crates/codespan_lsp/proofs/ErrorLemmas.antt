@@ -1,6 +1,6 @@
 -- The error of a character of a line, case by case, for the clauses of `byte_of_character`.
-use Rattle.std.proofs.Common.{◌≡◌, ℕ, ◌+◌, ◌<◌, List, length, ap, sym, ◌∙◌}
-use Rattle.std.proofs.Common.{refl, arith, inl, inr, length-append}
+use Rattle.std.proofs.Common.{◌≡◌, ℕ, ◌+◌, List, length, ap, sym, ◌∙◌}
+use Rattle.std.proofs.Common.{arith, length-append}
 use Rattle.std.specs.Prelude.{encode_utf8_all, Some, None}
 use Rattle.std.proofs.lemmas.Bool.{cases_lt, lt-ltb, le-ltb, eq-eqb, ne_eqb}
 use Rattle.std.proofs.lemmas.List.Sums.{sum_by-append}
@@ -13,6 +13,7 @@ use Rattle.codespan_lsp.specs.Positions.{character_failure}
 use Rattle.codespan_lsp.specs.declared.encoding.PositionEncoding.{PositionEncoding}
 use Rattle.codespan_lsp.proofs.UnitLemmas.{total_units-le}
 use Rattle.codespan_lsp.proofs.PrefixLemmas.{Cut, prefix-cut, prefix-le, prefix-whole}
+use Rattle.std.proofs.lemmas.Grind.{common_steps}
 
 module _ (encoding : PositionEncoding) (line : List ℕ) (n : ℕ) (utf8 : IsUtf8 line) where
   -- the line has the code units and the bytes of the prefix, and those of what follows it
@@ -44,11 +45,7 @@ module _ (encoding : PositionEncoding) (line : List ℕ) (n : ℕ) (utf8 : IsUtf
   pub character_failure-none : (start : ℕ)
       → total_units encoding (prefix_within encoding n (chars line)) ≡ n
       → character_failure encoding start line n ≡ None
-  character_failure-none start h =
-      rw (
-        le-ltb (code_units encoding line) n (omega (arith, parts.units, h)),
-        eq-eqb (total_units encoding (prefix_within encoding n (chars line))) n h,
-      ) refl
+  character_failure-none start h = grind (arith, common_steps, le-ltb, parts, eq-eqb)
 
   -- past the line's end the prefix is the line
   pub character_failure-past : (start : ℕ)
@@ -57,15 +54,7 @@ module _ (encoding : PositionEncoding) (line : List ℕ) (n : ℕ) (utf8 : IsUtf
       → character_failure encoding start line n
       ≡ Some (ColumnTooLarge n (total_units encoding (prefix_within encoding n (chars line))))
   character_failure-past start apart whole =
-      let few = prefix-le encoding n (chars line) in
-      let none = total_units-le encoding parts.back in
-      let max : code_units encoding line
-      ≡ total_units encoding (prefix_within encoding n (chars line)) =
-      omega (arith, parts.units, parts.bytes, whole, none) in
-      let less : total_units encoding (prefix_within encoding n (chars line)) < n =
-      grind (arith, few, apart) in
-      rw (lt-ltb (code_units encoding line) n (omega (arith, max, less)))
-      (ap (λ m. Some (ColumnTooLarge n m)) max)
+      grind (arith, common_steps, prefix-le, total_units-le, parts, lt-ltb)
 
   -- elsewhere it ends before the character that the code units end in
   pub character_failure-inside : (start : ℕ)
@@ -76,12 +65,4 @@ module _ (encoding : PositionEncoding) (line : List ℕ) (n : ℕ) (utf8 : IsUtf
       (InvalidCharBoundary
       (start + length (encode_utf8_all (prefix_within encoding n (chars line)))))
   character_failure-inside start apart part =
-      elim (cases_lt (code_units encoding line) n) [
-        | inl p ↦ absurd (part (ap length
-            (ap encode_utf8_all (prefix-whole encoding n (chars line) (omega (arith, p)))
-            ∙ encodes-chars line utf8)))
-        | inr p ↦ rw (
-          le-ltb (code_units encoding line) n p,
-          ne_eqb (total_units encoding (prefix_within encoding n (chars line))) n apart,
-        ) refl
-      ]
+      grind (arith, common_steps, cases_lt, prefix-whole, encodes-chars, le-ltb, ne_eqb)

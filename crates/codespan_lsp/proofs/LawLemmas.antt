@@ -25,6 +25,7 @@ use Rattle.codespan_lsp.proofs.PrefixLemmas.{prefix-exact, prefix-inside}
 use Rattle.codespan_lsp.proofs.CutLemmas.{prefix-is-at}
 use Rattle.codespan_lsp.proofs.ErrorLemmas.{character_failure-none, character_failure-past}
 use Rattle.codespan_lsp.proofs.ErrorLemmas.{character_failure-inside}
+use Rattle.std.proofs.lemmas.Grind.{common_steps}
 
 -- a part of a text in two
 slice-parts : (text : List ℕ) (start a b : ℕ) → start ≤ a → a ≤ b
@@ -167,25 +168,15 @@ module _ (encoding : PositionEncoding) (f : FileModel) (law : IsLawful f) where
       → character_failure encoding (line_start f p.line) (line_text f p.line) p.character ≡ None
       → (byte : ℕ) × IsByteAt encoding f p byte
   at-none p exists none =
-      let n : ℕ = p.character in
-      let line : List ℕ = line_text f p.line in
-      let start : ℕ = line_start f p.line in
-      let utf8 : IsUtf8 line = line-utf8 p.line exists in
-      let prefix : List ℕ = prefix_within encoding n (chars line) in
-      elim (cases_eq (total_units encoding prefix) n) [
-        | inl same ↦ (
-          start + length (encode_utf8_all prefix),
-          prefix-is-at encoding f law p exists same,
-        )
-        | inr apart ↦ elim (cases_eq (length (encode_utf8_all prefix)) (length line)) [
-          | inl whole ↦ let past = character_failure-past encoding line n utf8 start apart whole
-              in
-              absurd (cc)
-          | inr part ↦ let inside =
-              character_failure-inside encoding line n utf8 start apart part in
-              absurd (cc)
-        ]
-      ]
+      grind (
+        arith,
+        common_steps,
+        line-utf8,
+        cases_eq,
+        prefix-is-at,
+        character_failure-past,
+        character_failure-inside,
+      )
 
   inside : (p : Position) (byte c : ℕ) → IsInside encoding f p byte c
       → character_failure encoding (line_start f p.line) (line_text f p.line) p.character
@@ -243,8 +234,7 @@ pub positions-ascend : PositionsAscend
 positions-ascend encoding f a b law on_a on_b less = ascends encoding f law a b on_a on_b less
 
 pub errors-have-no-byte : ErrorsHaveNoByte
-errors-have-no-byte encoding f p law exists =
-    (at-none encoding f law p exists, λ at. none-at encoding f law p at.0 at.1)
+errors-have-no-byte encoding f p law exists = grind (arith, common_steps, at-none, none-at)
 
 pub inside-is-no-boundary : InsideIsNoBoundary
 inside-is-no-boundary encoding f p byte c law is = inside encoding f law p byte c is

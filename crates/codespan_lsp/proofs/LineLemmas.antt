@@ -1,12 +1,13 @@
 -- Facts on the line of a byte, for the clauses of `positions`.
 use Rattle.std.proofs.Common.{◌≡◌, ℕ, zero, suc, ◌+◌, ◌<◌, ◌≤◌, List, []}
-use Rattle.std.proofs.Common.{◌∷◌, length, get_or, cond, refl, ◌∙◌, arith, inl, inr}
+use Rattle.std.proofs.Common.{◌∷◌, length, get_or, arith, inl, inr}
 use Rattle.std.specs.Prelude.{count_by, nat_le}
 use Rattle.std.proofs.lemmas.Bool.{cases_lt, le-leb}
 use Rattle.std.proofs.lemmas.List.Sums.{sum_by-cons}
 use Rattle.codespan_base.specs.FileModel.{FileModel, line_of, line_start}
 use Rattle.codespan_base.specs.LawfulFiles.{IsLawful}
 use Rattle.codespan_base.specs.Lemmas.Lines.{count_split}
+use Rattle.std.proofs.lemmas.Grind.{common_steps}
 
 -- of ascending numbers each is at least the first
 first-le : (x : ℕ) (xs : List ℕ)
@@ -14,10 +15,7 @@ first-le : (x : ℕ) (xs : List ℕ)
     → get_or (x ∷ xs) i 0 < get_or (x ∷ xs) (i + 1) 0)
     → (k : ℕ) → k < length (x ∷ xs) → x ≤ get_or (x ∷ xs) k 0
 first-le x xs up zero h = omega arith
-first-le x xs up (suc k) h =
-    let e : k + 1 ≡ suc k = omega arith in
-    let next : get_or (x ∷ xs) k 0 < get_or (x ∷ xs) (suc k) 0 = rw e at (up k (omega arith)) in
-    omega (arith, first-le x xs up k (omega arith), next)
+first-le x xs up (suc k) h = grind (arith, common_steps, first-le x xs up k (omega arith))
 
 -- those after the first ascend too
 rest-ascends : (x : ℕ) (xs : List ℕ)
@@ -39,8 +37,7 @@ none-counted b x xs up h =
 
 one-counted : (b x : ℕ) (xs : List ℕ) → x ≤ b
     → count_by (λ s. nat_le s b) (x ∷ xs) ≡ 1 + count_by (λ s. nat_le s b) xs
-one-counted b x xs h =
-    sum_by-cons (λ s. cond (nat_le s b) 1 0) x xs ∙ rw (le-leb x b h) refl
+one-counted b x xs h = grind (arith, common_steps, sum_by-cons, le-leb)
 
 -- where k + 1 of ascending numbers are at most b, the one at k is
 counted-le : (b : ℕ) (xs : List ℕ)

@@ -7,6 +7,7 @@ use Rattle.std.specs.Str.{all_scalars}
 use Rattle.codespan_lsp.specs.Units.{char_units, total_units, prefix_within}
 use Rattle.codespan_lsp.specs.declared.encoding.PositionEncoding.{PositionEncoding}
 use Rattle.codespan_lsp.proofs.UnitLemmas.{char_units_bounds}
+use Rattle.std.proofs.lemmas.Grind.{common_steps}
 
 -- characters cut in two
 pub record Cut (whole front : List ℕ) : Type 0 where
@@ -17,12 +18,7 @@ pub record Cut (whole front : List ℕ) : Type 0 where
 
 cut-cons : (c : ℕ) (cs front : List ℕ) → all_scalars (c ∷ cs) ≡ true → Cut cs front
     → Cut (c ∷ cs) (c ∷ front)
-cut-cons c cs front all k = record {
-  back = k.back;
-  whole_is = ap (λ xs. c ∷ xs) k.whole_is;
-  front_chars = rw (and_parts _ (all_scalars cs) all).0 k.front_chars;
-  back_chars = k.back_chars;
-}
+cut-cons c cs front all k = grind (arith, common_steps, and_parts)
 
 module _ (encoding : PositionEncoding) where
   -- the prefix is a front of the characters
@@ -42,16 +38,15 @@ module _ (encoding : PositionEncoding) where
       → total_units encoding (prefix_within encoding n cs) ≤ n
   prefix-le n [] = omega arith
   prefix-le n (c ∷ cs) =
-      elim (cases_lt n (char_units encoding c)) [
-        | inl p ↦ rw (lt-leb (char_units encoding c) n p) (omega arith)
-        | inr p ↦ rw (le-leb (char_units encoding c) n p) (omega (
-          arith,
-          p,
-          sum_by-cons (char_units encoding) c
-              (prefix_within encoding (n - char_units encoding c) cs),
-          prefix-le (n - char_units encoding c) cs,
-        ))
-      ]
+      grind (
+        arith,
+        common_steps,
+        cases_lt,
+        lt-leb,
+        le-leb,
+        sum_by-cons,
+        prefix-le (n - char_units encoding c) cs,
+      )
 
   -- it is the whole where the whole has at most n
   pub prefix-whole : (n : ℕ) (cs : List ℕ) → total_units encoding cs ≤ n
@@ -67,9 +62,7 @@ module _ (encoding : PositionEncoding) where
   pub prefix-exact : (n : ℕ) (front back : List ℕ) → total_units encoding front ≡ n
       → prefix_within encoding n (front ++ back) ≡ front
   prefix-exact n [] [] h = refl
-  prefix-exact n [] (c ∷ back) h =
-      rw (lt-leb (char_units encoding c) n (omega (arith, h, (char_units_bounds encoding c).0)))
-      refl
+  prefix-exact n [] (c ∷ back) h = grind (arith, common_steps, lt-leb, char_units_bounds)
   prefix-exact n (c ∷ front) back h =
       let sum = sum_by-cons (char_units encoding) c front in
       rw (le-leb (char_units encoding c) n (omega (arith, sum, h)))
@@ -81,8 +74,7 @@ module _ (encoding : PositionEncoding) where
       → total_units encoding front ≤ n
       → n < total_units encoding front + char_units encoding c
       → prefix_within encoding n (front ++ c ∷ back) ≡ front
-  prefix-inside n [] c back low high =
-      rw (lt-leb (char_units encoding c) n (omega (arith, high))) refl
+  prefix-inside n [] c back low high = grind (arith, common_steps, lt-leb)
   prefix-inside n (d ∷ front) c back low high =
       let sum = sum_by-cons (char_units encoding) d front in
       rw (le-leb (char_units encoding d) n (omega (arith, sum, low)))

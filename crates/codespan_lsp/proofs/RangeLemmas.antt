@@ -1,19 +1,18 @@
 -- The range of a label is ordered: for the clause of `laws::label_ranges_are_ordered`.
-use Rattle.std.proofs.Common.{◌≡◌, ℕ, ◌≤◌, min, max, Bool, true, false, cond, nat_lt}
+use Rattle.std.proofs.Common.{◌≡◌, ℕ, ◌≤◌, min, max, Bool, true, false, cond}
 use Rattle.std.proofs.Common.{List, Option, Some, None, refl, ap, arith, inl, inr}
 use Rattle.std.proofs.lemmas.Bool.{cases_order}
 use Rattle.std.proofs.lemmas.Bool.Decides.{nat_tests}
 use Rattle.std.specs.Str.{IsCharBoundary}
-use Rattle.codespan_base.specs.FileModel.{FileModel, Lookup, line_of, line_start, or_failure}
-use Rattle.codespan_base.specs.FileModel.Lookup.{Source, LineIndex, LineRange}
-use Rattle.codespan_base.specs.LawfulFiles.{IsLawful, line_end}
-use Rattle.codespan_base.specs.Lines.{is_char_boundary}
+use Rattle.codespan_base.specs.FileModel.{FileModel, Lookup, or_failure}
+use Rattle.codespan_base.specs.LawfulFiles.{IsLawful}
 use Rattle.codespan_base.specs.declared.files.Error.{Error}
 use Rattle.codespan_lsp.specs.Positions.{byte_column_failure, position_of, position_failure}
 use Rattle.codespan_lsp.specs.PositionLaws.{IsOnLine, IsOrderedRange, LabelRangesAreOrdered}
 use Rattle.codespan_lsp.specs.Ranges.{range_of}
 use Rattle.codespan_lsp.specs.declared.encoding.PositionEncoding.{PositionEncoding}
 use Rattle.codespan_lsp.proofs.LawLemmas.{positions-ascend}
+use Rattle.std.proofs.lemmas.Grind.{common_steps}
 
 -- neither of two errors
 neither : (o p : Option Error) → or_failure o p ≡ None → (o ≡ None) × (p ≡ None)
@@ -32,25 +31,13 @@ tests-pass false false e e' h = cc
 column-passes : (text : List ℕ) (start end byte : ℕ)
     → byte_column_failure text start end byte ≡ None
     → (byte ≤ end) × IsCharBoundary text byte
-column-passes text start end byte h =
-    let parts = tests-pass (nat_lt end byte) (is_char_boundary text byte) _ _ h in
-    let within : byte ≤ end = grind (arith, nat_tests, parts.0) in
-    let boundary : IsCharBoundary text byte = grind (arith, nat_tests, parts.1) in
-    (within, boundary)
+column-passes text start end byte h = grind (arith, common_steps, tests-pass, nat_tests)
 
 module _ (encoding : PositionEncoding) (f : FileModel) where
   -- so a byte whose position is found is on its line
   found-on-line : (failure : Lookup → Option Error) (byte : ℕ)
       → position_failure encoding f failure byte ≡ None → IsOnLine f byte
-  found-on-line failure byte h =
-      let i = line_of f.starts byte in
-      let after_source = (neither (failure Source) _ h).1 in
-      let after_index = (neither (failure (LineIndex byte)) _ after_source).1 in
-      let after_range = (neither (failure (LineRange i)) _ after_index).1 in
-      let column = byte_column_failure f.text (line_start f i) (line_end f i) byte in
-      let parts = column-passes f.text (line_start f i) (line_end f i) byte
-      (neither column _ after_range).0 in
-      record { to_end = parts.0; boundary = parts.1 }
+  found-on-line failure byte h = grind (arith, common_steps, neither, column-passes)
 
   -- the range from a byte to the same one or to a later one
   range-ordered : IsLawful f → (a b : ℕ) → IsOnLine f a → IsOnLine f b → a ≤ b

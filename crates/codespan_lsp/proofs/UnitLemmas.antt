@@ -1,6 +1,6 @@
 -- Facts on code units, for the clauses of `encoding` and for the units of `IsByteAt`.
 use Rattle.std.proofs.Common.{◌≡◌, ℕ, ◌+◌, ◌-◌, ◌<◌, ◌≤◌, List, []}
-use Rattle.std.proofs.Common.{◌∷◌, ◌++◌, length, ap, refl, arith, inl, inr, length-append}
+use Rattle.std.proofs.Common.{◌∷◌, ◌++◌, length, refl, arith, length-append}
 use Rattle.std.specs.Prelude.{encode_utf8, encode_utf8_all}
 use Rattle.std.proofs.lemmas.Bool.{cases_lt, lt-ltb, le-ltb, le-leb, lt-leb}
 use Rattle.std.proofs.lemmas.List.{nil_from_length}
@@ -13,6 +13,7 @@ use Rattle.std.specs.Str.{chars, IsUtf8}
 use Rattle.codespan_lsp.specs.Units.{char_units, total_units, code_units, prefix_within}
 use Rattle.codespan_lsp.specs.declared.encoding.PositionEncoding.{PositionEncoding}
 use Rattle.codespan_lsp.specs.declared.encoding.PositionEncoding.TheVariants.{Utf8, Utf16, Utf32}
+use Rattle.std.proofs.lemmas.Grind.{common_steps}
 
 -- a character has one or two code units in UTF-16
 pub utf16_len-low : (c : ℕ) → c < 65536 → length (encode_utf16 c) ≡ 1
@@ -23,24 +24,22 @@ utf16_len-high c h = rw (le-ltb c 65536 h) refl
 
 -- and four bytes where it has two
 utf8_len-high : (c : ℕ) → 65536 ≤ c → len_utf8 c ≡ 4
-utf8_len-high c h =
-    rw (le-ltb c 128 (omega arith), le-ltb c 2048 (omega arith), le-ltb c 65536 h) refl
+utf8_len-high c h = grind (arith, common_steps, le-ltb)
 
 -- a character has one code unit at least, and no more than bytes
 pub char_units_bounds : (encoding : PositionEncoding) (c : ℕ)
     → (1 ≤ char_units encoding c) × (char_units encoding c ≤ len_utf8 c)
 char_units_bounds Utf8 c = ((len_utf8_bounds c).0, omega arith)
 char_units_bounds Utf16 c =
-    elim (cases_lt c 65536) [
-      | inl p ↦ (
-        omega (arith, utf16_len-low c p),
-        omega (arith, utf16_len-low c p, len_utf8_bounds c),
-      )
-      | inr p ↦ (
-        omega (arith, utf16_len-high c p),
-        omega (arith, utf16_len-high c p, utf8_len-high c p),
-      )
-    ]
+    grind (
+      arith,
+      common_steps,
+      cases_lt,
+      utf16_len-low,
+      len_utf8_bounds,
+      utf16_len-high,
+      utf8_len-high,
+    )
 char_units_bounds Utf32 c = (omega arith, (len_utf8_bounds c).0)
 
 module _ (encoding : PositionEncoding) where
@@ -52,14 +51,12 @@ module _ (encoding : PositionEncoding) where
   pub code_units-char : (text rest : List ℕ) (c : ℕ) → IsUtf8 text
       → text ≡ encode_utf8 c ++ rest
       → code_units encoding text ≡ char_units encoding c + code_units encoding rest
-  code_units-char text rest c utf8 step =
-      rw (chars_past_char text rest c utf8 step) (sum_by-cons (char_units encoding) c (chars rest))
+  code_units-char text rest c utf8 step = grind (arith, common_steps, chars_past_char, sum_by-cons)
 
   -- those of two texts in a row
   pub code_units-append : (xs ys : List ℕ) → IsUtf8 xs
       → code_units encoding (xs ++ ys) ≡ code_units encoding xs + code_units encoding ys
-  code_units-append xs ys utf8 =
-      rw (chars-append xs ys utf8) (sum_by-append (char_units encoding) (chars xs) (chars ys))
+  code_units-append xs ys utf8 = grind (arith, common_steps, chars-append, sum_by-append)
 
   -- characters have no more code units than bytes
   pub total_units-le : (cs : List ℕ) → total_units encoding cs ≤ length (encode_utf8_all cs)
@@ -81,16 +78,10 @@ module _ (encoding : PositionEncoding) where
   total_units-some (c ∷ cs) h =
       omega (arith, sum_by-cons (char_units encoding) c cs, (char_units_bounds encoding c).0)
 
-  -- a text has no more code units than bytes
-  pub code_units-le : (text : List ℕ) → IsUtf8 text → code_units encoding text ≤ length text
-  code_units-le text utf8 =
-      omega (arith, total_units-le (chars text), ap length (encodes-chars text utf8))
-
   -- and one at least, if it is not empty
   pub code_units-some : (text : List ℕ) → IsUtf8 text → 0 < length text
       → 0 < code_units encoding text
-  code_units-some text utf8 h =
-      total_units-some (chars text) (omega (arith, ap length (encodes-chars text utf8)))
+  code_units-some text utf8 h = grind (arith, common_steps, total_units-some, encodes-chars)
 
   -- a character that fits goes into the prefix
   pub prefix_within-more : (n : ℕ) (text rest : List ℕ) (c : ℕ) → IsUtf8 text

@@ -1,7 +1,7 @@
 -- Searches for what is invalid, for the clauses of `first_invalid`.
 use Rattle.std.proofs.Common.{◌≡◌, ℕ, zero, suc, ◌+◌, ◌<◌, ◌≤◌, Bool, List}
 use Rattle.std.proofs.Common.{[], ◌∷◌, get_or, length, Option, None, Some, inl, inr, arith}
-use Rattle.std.proofs.Common.{refl, subst}
+use Rattle.std.proofs.Common.{refl, rules, subst}
 use Rattle.std.specs.Prelude.{IsTrue, MatchOption}
 use Rattle.std.proofs.lemmas.Bool.{cases_lt}
 use Rattle.std.specs.List.{HoldsAt}
@@ -102,40 +102,7 @@ number_at n (a ∷ more) (suc i) d h below =
     omega (arith, number_at (n + 1) more i d h.1 (omega (arith, below)))
 
 numbered : AreNumbered 1 in_order
-numbered = (
-  refl,
-  (
-    refl,
-    (
-      refl,
-      (
-        refl,
-        (
-          refl,
-          (
-            refl,
-            (
-              refl,
-              (
-                refl,
-                (
-                  refl,
-                  (
-                    refl,
-                    (
-                      refl,
-                      (refl, (refl, (refl, (refl, (refl, (refl, (refl, (refl, tt)))))))),
-                    ),
-                  ),
-                ),
-              ),
-            ),
-          ),
-        ),
-      ),
-    ),
-  ),
-)
+numbered = search rules
 
 module _ (files : List RawFile) (d : RawDiagnostic) (c : RawConfig) (i : ℕ) where
   -- one more argument is valid

@@ -18,8 +18,8 @@ use Rattle.codespan_output.specs.RichLaws.{IsOutput}
 use Rattle.codespan_output.specs.StatedNames.{NamesAreStated}
 use Rattle.codespan_output.specs.ViewPictures.{picture_of_diagnostic_view}
 use Rattle.codespan_views.specs.WriteCalls.{WritesStyled}
-use Rattle.codespan_output.proofs.StatedNames.{output_stated}
-use Rattle.codespan_output.proofs.ViewPictures.{picture-of_view}
+use Rattle.codespan_output.proofs.Outputs.StatedNames.{output_stated}
+use Rattle.codespan_output.proofs.Outputs.ViewPictures.{picture-of_view}
 use Rattle.codespan_native.specs.declared.error.OutOfMemory.{OutOfMemory}
 use Rattle.codespan_native.specs.declared.raw.RawConfig.{RawConfig}
 use Rattle.codespan_native.specs.declared.raw.RawDiagnostic.{RawDiagnostic}

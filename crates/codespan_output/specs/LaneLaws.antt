@@ -1,8 +1,7 @@
 -- The laws of lanes: what a lane shows in each row says where its label goes, and is what the row's
 -- stream has there.
 use Rattle.std.specs.Prelude.{◌≡◌, ℕ, ◌<◌, ◌≤◌, ◌⊎◌, ◌↔◌, false, List}
-use Rattle.std.specs.Prelude.{[], ◌++◌, length, slice_get, flat_map, Option, Some, None}
-use Rattle.std.specs.List.{range_with_len}
+use Rattle.std.specs.Prelude.{[], ◌++◌, length, slice_get, Option, Some}
 use Rattle.std.specs.Option.{option_map, option_map_or}
 use Rattle.codespan_output.specs.Types.{Layout}
 use Rattle.codespan_core.specs.FileModel.{FileModel}
@@ -11,24 +10,11 @@ use Rattle.codespan_core.specs.Streams.{Stream}
 use Rattle.codespan_output.specs.declared.lane_shapes.Shape.{Shape}
 use Rattle.codespan_output.specs.declared.lane_shapes.Shape.TheVariants.{Space, Bar, TopCorner}
 use Rattle.codespan_output.specs.declared.lane_shapes.Shape.TheVariants.{BottomCorner}
-use Rattle.codespan_output.specs.Lanes.{LaneRowKind, Source, EmptyOrBreak, SingleLabels, Underline}
-use Rattle.codespan_output.specs.Lanes.{row_shape, row_crossing, lane_mark_in, shape_of}
-use Rattle.codespan_output.specs.Lanes.{style_of_lane_mark, is_unbroken, lane_characters}
+use Rattle.codespan_output.specs.Lanes.{row_shape, lane_mark_in, shape_of, is_unbroken}
 use Rattle.codespan_output.specs.Rows.{RowContext, Lanes, Line, Row, EmptyRow, BreakRow, SourceRow}
-use Rattle.codespan_output.specs.Rows.{CaretRow, PointerRow, HangingRow, UnderlineRow}
-use Rattle.codespan_output.specs.RowParts.{outer_gutter, outer_gutter_number, border_left}
-use Rattle.codespan_output.specs.RowParts.{border_left_break, leading_of}
 use Rattle.codespan_output.specs.RowStreams.{stream_of}
 use Rattle.codespan_output.specs.Snippets.{LabeledFileModel, line_at}
-
--- the line of a row that has one
-abbrev pub line_of_row : Row → Option Line
-line_of_row (SourceRow line) = Some line
-line_of_row (CaretRow line) = Some line
-line_of_row (PointerRow line) = Some line
-line_of_row (HangingRow line x) = Some line
-line_of_row (UnderlineRow line m) = Some line
-line_of_row _ = None
+use Rattle.codespan_output.specs.RowParts.{line_of_row, lane_row_kind_of, leading_of_row, gutters}
 
 -- the lanes of a row that has them
 abbrev pub lanes_of_row : Row → Option Lanes
@@ -36,20 +22,10 @@ lanes_of_row (EmptyRow lanes) = Some lanes
 lanes_of_row (BreakRow lanes) = Some lanes
 lanes_of_row row = option_map (λ (line : Line). line.lanes) (line_of_row row)
 
--- the kind of a row, as far as its lanes go
-abbrev pub lane_row_kind_of : Row → LaneRowKind
-lane_row_kind_of (SourceRow line) = Source
-lane_row_kind_of (CaretRow line) = SingleLabels
-lane_row_kind_of (PointerRow line) = SingleLabels
-lane_row_kind_of (HangingRow line x) = SingleLabels
-lane_row_kind_of (UnderlineRow line m) = Underline m
-lane_row_kind_of _ = EmptyOrBreak
-
 -- what a row shows in a lane
 abbrev pub shape_in : Layout → Row → ℕ → Shape
 shape_in layout row lane =
-    shape_of
-    (row_shape layout (option_map_or leading_of (line_of_row row) 0) (lane_row_kind_of row) lane)
+    shape_of (row_shape layout (leading_of_row row) (lane_row_kind_of row) lane)
     (lane_mark_in (option_map_or (λ (lanes : Lanes). lanes.lane_marks) (lanes_of_row row) []) lane)
 
 -- the lane is that of this label of the file
@@ -60,8 +36,7 @@ HasLane s lane x = slice_get (multi_line_labels s.file s.labels) lane ≡ Some x
 abbrev pub IsBarLine : FileModel → LabelModel → ℕ → Type 0
 IsBarLine f x l = (first_line f x < l) × (l ≤ last_line f x)
 
--- on source and break rows a lane has a bar exactly on the lines after its label's first,
--- up to its last
+-- on source and break rows a lane has a bar exactly on the bar lines of its label
 abbrev pub BarsAreLabels : Layout → LabeledFileModel → Type 0
 BarsAreLabels layout s = (l lane : ℕ) (x : LabelModel) → HasLane s lane x
     → ((shape_in layout (SourceRow (line_at s l)) lane ≡ Bar) ↔ IsBarLine s.file x l)
@@ -106,29 +81,7 @@ LanesJoinCorners layout s rows =
 
 -- ---- what each lane shows is what the stream of its row has there
 
--- the two characters of what a row shows in each lane, from left to right
-abbrev pub lanes_shown : RowContext → Row → Lanes → Stream
-lanes_shown context row lanes =
-    flat_map (λ lane. lane_characters context.severity context.chars
-    (row_crossing (lane_row_kind_of row) lane)
-    (style_of_lane_mark (lane_mark_in lanes.lane_marks lane)) (shape_in context.layout row lane))
-    (range_with_len 0 lanes.count)
-
--- left of the lanes: the outer gutter, in a source row with the line's number, and the border
-abbrev pub before_lanes : RowContext → Row → Stream
-before_lanes context (SourceRow line) =
-    outer_gutter_number context.padding line.number ++ border_left context.chars
-before_lanes context (BreakRow lanes) =
-    outer_gutter context.padding ++ border_left_break context.chars
-before_lanes context _ = outer_gutter context.padding ++ border_left context.chars
-
--- after the left border the stream of a row has what the row shows in each of these lanes
-pub record ShowsLanes (context : RowContext) (row : Row) (lanes : Lanes) : Type 0 where
-  pub after : Stream
-  pub is : stream_of context row ≡ before_lanes context row ++ lanes_shown context row lanes
-      ++ after
-
--- the stream of each row that has lanes has what the row shows in each of them
+-- the stream of a row that has lanes begins with its gutters, which have what it shows in each lane
 abbrev pub LanesAreShown : RowContext → Type 0
-LanesAreShown context = (row : Row) (lanes : Lanes)
-    → lanes_of_row row ≡ Some lanes → ShowsLanes context row lanes
+LanesAreShown context = (row : Row) (lanes : Lanes) → lanes_of_row row ≡ Some lanes
+    → (after : Stream) × (stream_of context row ≡ gutters context row lanes ++ after)

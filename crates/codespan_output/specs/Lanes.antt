@@ -8,42 +8,17 @@ use Rattle.codespan_core.specs.declared.term.config.style_mark.StyleMark.TheVari
 use Rattle.codespan_output.specs.declared.lane_shapes.Shape.{Shape}
 use Rattle.codespan_output.specs.declared.lane_shapes.Shape.TheVariants.{Space, Bar, TopCorner}
 use Rattle.codespan_output.specs.declared.lane_shapes.Shape.TheVariants.{BottomCorner}
-use Rattle.codespan_core.specs.Labels.{LaneMark, MultiLabel, Top, Left, Bottom}
+use Rattle.codespan_core.specs.Labels.{LaneMark, MultiLabel, Top, Bottom}
 
 -- a lane whose label starts at this byte index begins in the source row: the text of the line
 -- begins with `leading` bytes of white space, and nothing else is before the start
 abbrev pub begins_in_source_row : ℕ → ℕ → Bool
 begins_in_source_row leading start = nat_le start leading
 
--- what a multi-line label mark shows in the source row
-abbrev pub source_shape : ℕ → MultiLabel → Shape
-source_shape leading (Top start) = if begins_in_source_row leading start then TopCorner else Space
-source_shape leading _ = Bar
-
--- what it shows in an empty row, and in a break row, which has the lane marks of the line after it
-abbrev pub empty_or_break_shape : MultiLabel → Shape
-empty_or_break_shape (Top start) = Space
-empty_or_break_shape _ = Bar
-
 -- the layout in which a lane continues in every row below its corner in a source row
 abbrev pub is_unbroken : Layout → Bool
 is_unbroken Classic = false
 is_unbroken Unbroken = true
-
--- what it shows in the caret, pointer and hanging rows
-abbrev pub single_labels_shape : Layout → ℕ → MultiLabel → Shape
-single_labels_shape layout leading (Top start) =
-    if is_unbroken layout && begins_in_source_row leading start then Bar else Space
-single_labels_shape layout leading _ = Bar
-
--- what it shows in the underline row of the lane `corner_lane`
-abbrev pub underline_shape : Layout → ℕ → ℕ → ℕ → MultiLabel → Shape
-underline_shape layout leading corner_lane lane (Top start) =
-    if is_unbroken layout && begins_in_source_row leading start then Bar
-    else if lane == corner_lane then TopCorner else if nat_lt lane corner_lane then Bar else Space
-underline_shape layout leading corner_lane lane Left = Bar
-underline_shape layout leading corner_lane lane (Bottom end message) =
-    if lane == corner_lane then BottomCorner else if nat_lt lane corner_lane then Space else Bar
 
 -- a kind of row, as far as its lanes go: a source row; an empty or a break row; a caret, pointer or
 -- hanging row; the underline row of a lane mark
@@ -53,12 +28,20 @@ pub data LaneRowKind : Type 0 where
   SingleLabels : LaneRowKind
   Underline : LaneMark → LaneRowKind
 
--- the table of lanes: what a multi-line label mark shows in a kind of row
+-- the table of lanes: what a multi-line label mark shows in a kind of row; a break row has the lane
+-- marks of the line after it
 abbrev pub row_shape : Layout → ℕ → LaneRowKind → ℕ → MultiLabel → Shape
-row_shape layout leading Source lane = source_shape leading
-row_shape layout leading EmptyOrBreak lane = empty_or_break_shape
-row_shape layout leading SingleLabels lane = single_labels_shape layout leading
-row_shape layout leading (Underline m) lane = underline_shape layout leading m.lane lane
+row_shape layout leading Source lane (Top start) =
+    if begins_in_source_row leading start then TopCorner else Space
+row_shape layout leading EmptyOrBreak lane (Top start) = Space
+row_shape layout leading SingleLabels lane (Top start) =
+    if is_unbroken layout && begins_in_source_row leading start then Bar else Space
+row_shape layout leading (Underline m) lane (Top start) =
+    if is_unbroken layout && begins_in_source_row leading start then Bar
+    else if lane == m.lane then TopCorner else if nat_lt lane m.lane then Bar else Space
+row_shape layout leading (Underline m) lane (Bottom end message) =
+    if lane == m.lane then BottomCorner else if nat_lt lane m.lane then Space else Bar
+row_shape layout leading _ lane _ = Bar
 
 -- the crossing of a lane: the lane mark of an underline row whose corner is left of the lane
 abbrev pub row_crossing : LaneRowKind → ℕ → Option LaneMark

@@ -1,19 +1,19 @@
 -- The laws of drawn lines, breaks, and line numbers.
 use Rattle.std.specs.Prelude.{◌≡◌, ℕ, ◌+◌, ◌<◌, ◌≤◌, ◌↔◌, Bool, false}
 use Rattle.std.specs.Prelude.{List, ◌∷◌, Contains, map, filter, filter_map, Option, Some}
-use Rattle.std.specs.Prelude.{None, if◌then◌else◌, IsTrue, ◌*◌, true, sum_by, count_by}
-use Rattle.std.specs.Prelude.{[]}
+use Rattle.std.specs.Prelude.{None, IsTrue, ◌*◌, true, sum_by, count_by, []}
 use Rattle.std.specs.List.{range_with_len}
 use Rattle.codespan_output.specs.Types.{Config, Layout}
 use Rattle.codespan_core.specs.FileModel.{FileModel, line_count}
 use Rattle.codespan_core.specs.Labels.{LabelModel}
 use Rattle.codespan_output.specs.declared.lane_shapes.Shape.TheVariants.{Bar}
 use Rattle.codespan_output.specs.Lanes.{is_unbroken}
-use Rattle.codespan_output.specs.Lines.{drawn_lines, has_break_between, is_shown}
+use Rattle.codespan_output.specs.Lines.{drawn_lines, is_shown}
 use Rattle.codespan_output.specs.Rows.{Lanes, Row, BreakRow, SourceRow}
 use Rattle.codespan_output.specs.Snippets.{LabeledFileModel, rows_of_drawn, rows_of_shown, line_at}
 use Rattle.codespan_output.specs.Padding.{padding_of, count_digits}
 use Rattle.codespan_output.specs.LaneLaws.{shape_in, HasLane, IsBarLine}
+use Rattle.codespan_output.specs.Sequences.{break_between, in_sequence}
 
 -- the shown lines of a file, all of which it has
 abbrev pub shown_lines : Config → LabeledFileModel → List ℕ
@@ -30,11 +30,7 @@ RowsAreOfShownLines config s =
 
 -- of each two consecutive lines in this list with two or more lines between them the later one
 abbrev pub lines_after_breaks : List ℕ → List ℕ
-lines_after_breaks [] = []
-lines_after_breaks (c ∷ []) = []
-lines_after_breaks (c ∷ d ∷ more) =
-    if has_break_between c d then d ∷ lines_after_breaks (d ∷ more)
-    else lines_after_breaks (d ∷ more)
+lines_after_breaks = in_sequence (λ l. l) (break_between (λ d. d ∷ [])) (λ _. []) None
 
 -- the lanes of a break row
 abbrev pub break_lanes : Row → Option Lanes

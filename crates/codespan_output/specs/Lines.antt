@@ -38,7 +38,3 @@ is_drawn config f labels l =
 -- the drawn lines of a file
 abbrev pub drawn_lines : Config → FileModel → List LabelModel → List ℕ
 drawn_lines config f labels = filter (is_drawn config f labels) (range_with_len 0 (line_count f))
-
--- there is a break between two consecutive drawn lines: two or more lines are left out there
-abbrev pub has_break_between : ℕ → ℕ → Bool
-has_break_between c d = nat_le (c + 3) d

@@ -6,7 +6,7 @@ use Rattle.std.specs.Prelude.{true, false}
 use Rattle.std.specs.List.{range_with_len}
 use Rattle.codespan_output.specs.Types.{Config, DisplayStyle, Rich, Layout, Classic, Unbroken}
 use Rattle.codespan_output.specs.Types.{Diagnostic, Error, FormatError, LineTooLarge, OutOfMemory}
-use Rattle.codespan_core.specs.FileModel.{FileDatabase, FileModel, Lookup, line_count, or_failure}
+use Rattle.codespan_core.specs.FileModel.{FileDatabase, FileModel, Lookup, line_count}
 use Rattle.codespan_core.specs.FileModel.Lookup.{Name, Source, LineIndex, LineNumber, LocationAt}
 use Rattle.codespan_core.specs.FileModel.Lookup.{LineRange}
 use Rattle.codespan_core.specs.Labels.{LabelModel, first_line, last_line}
@@ -14,6 +14,7 @@ use Rattle.codespan_output.specs.Lines.{is_around, is_drawn, is_shown, spans}
 use Rattle.codespan_output.specs.Snippets.{LabeledFileModel, LabelInFile, file_ids}
 use Rattle.codespan_output.specs.Snippets.{labeled_file_model, locus_byte_of, primary_of}
 use Rattle.codespan_output.specs.OutputStreams.{labels_of}
+use Rattle.std.specs.Option.{option_or}
 
 -- the error that a lookup of a file fails with, if any
 abbrev pub Failures : Type 0 → Type 0
@@ -86,10 +87,6 @@ module _ {Id : Type 0} (files : FileDatabase Id) (xs : List (LabelInFile Id)) wh
   abbrev pub file_at : Id → LabeledFileModel
   file_at id = labeled_file_model files.same files.file xs id
 
-  -- those of the locus of a file's snippet: the file's name, and the location of a byte
-  abbrev pub locus_lookups : Id → List Lookup
-  locus_lookups id = Name ∷ LocationAt (locus_byte_of (file_at id).labels) ∷ []
-
   module _ (config : Config) where
     -- the numbers of filled lines that the padding needs
     abbrev pub numbers_for_padding : Layout → Id → List Lookup
@@ -101,21 +98,22 @@ module _ {Id : Type 0} (files : FileDatabase Id) (xs : List (LabelInFile Id)) wh
     snippet_lookups id =
         Source ∷ flat_map (filled_line_lookups config.layout) (filled_lines config (file_at id))
 
-    -- in rich style, those before the header: where one of these fails nothing is written
+    -- in rich style, those before the header: where one fails nothing is written
     abbrev pub early_lookups : List (Id × Lookup)
     early_lookups =
         label_lookups config files xs
         ++ flat_map (λ id. lookups_of_file id (numbers_for_padding config.layout id))
         (file_ids files.same xs)
-        ++ flat_map (λ id. lookups_of_file id (locus_lookups id)) (file_ids files.same xs)
+        ++ flat_map
+        (λ id. lookups_of_file id (Name ∷ LocationAt (locus_byte_of (file_at id).labels) ∷ []))
+        (file_ids files.same xs)
 
     -- those after the header, file by file
     abbrev pub late_lookups : List (Id × Lookup)
     late_lookups = flat_map (λ id. lookups_of_file id (snippet_lookups id))
         (file_ids files.same xs)
 
--- in short and medium style, those of a label's header: the name of its file, and the location of
--- its start
+-- those of a label's header: the name of its file, and the location of its start
 abbrev pub header_lookups_of : {Id : Type 0} → LabelInFile Id → List (Id × Lookup)
 header_lookups_of x = lookups_of_file x.file_id (Name ∷ LocationAt x.label.start ∷ [])
 
@@ -129,7 +127,7 @@ lookups_in _ config files d = flat_map header_lookups_of (primary_of (labels_of 
 -- the error of the first of these lookups that fails
 abbrev pub first_error : {Id : Type 0} → Failures Id → List (Id × Lookup) → Option Error
 first_error failure [] = None
-first_error failure (l ∷ ls) = or_failure (failure l.0 l.1) (first_error failure ls)
+first_error failure (l ∷ ls) = option_or (failure l.0 l.1) (first_error failure ls)
 
 -- none of these lookups fails
 abbrev pub AllSucceed : {Id : Type 0} → Failures Id → List (Id × Lookup) → Type 0

@@ -5,7 +5,7 @@ use Rattle.std.specs.List.{enumerate_from}
 use Rattle.std.specs.Option.{option_map_or}
 use Rattle.codespan_output.specs.Types.{Config, Diagnostic, Rich}
 use Rattle.codespan_core.specs.FileModel.{FileDatabase}
-use Rattle.codespan_core.specs.Labels.{has_message, is_empty_stream}
+use Rattle.codespan_core.specs.Labels.{has_message, is_empty}
 use Rattle.codespan_core.specs.Streams.{Stream, Item, Slot, text_of, with_messages}
 use Rattle.codespan_output.specs.Rows.{Locus}
 use Rattle.codespan_output.specs.Snippets.{LabelInFile, labeled_file_models}
@@ -15,7 +15,7 @@ use Rattle.codespan_output.specs.OutputStreams.{header_text_of, labels_of, notes
 abbrev pub slotted : {Id : Type 0} → ℕ → LabelInFile Id → LabelInFile Id
 slotted k x = record x {
   label = record x.label
-      { message = if is_empty_stream x.label.message then [] else Slot k ∷ [] };
+      { message = if is_empty x.label.message then [] else Slot k ∷ [] };
 }
 
 -- the labels with slots instead of their messages, each slot with its label's index

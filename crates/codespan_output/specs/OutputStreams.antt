@@ -55,22 +55,16 @@ pub record IsLocus (at : FileModel × ℕ) (locus : Locus) : Type 0 where
   pub location : locus.location ≡ at.0.location at.1
   pub name : IfSome at.0.name (λ name. locus.name ≡ name)
 
--- the file, and the byte index in it whose locus its snippet shows
-abbrev pub snippet_locus_byte : LabeledFileModel → FileModel × ℕ
-snippet_locus_byte s = (s.file, locus_byte_of s.labels)
-
--- the file of a label, and the byte index in it at which the label starts
-abbrev pub label_locus_byte : {Id : Type 0} → (Id → FileModel) → LabelInFile Id
-    → FileModel × ℕ
-label_locus_byte file x = (file x.file_id, x.label.start)
-
 module _ {Id : Type 0} (same : Id → Id → Bool) (file : Id → FileModel)
     (xs : List (LabelInFile Id)) where
   -- the files, with byte indices in them, whose loci the output shows: in rich style that of each
   -- file's snippet, in medium and short style the start of each primary label
   abbrev pub locus_bytes : DisplayStyle → List (FileModel × ℕ)
-  locus_bytes Rich = map snippet_locus_byte (labeled_file_models same file xs)
-  locus_bytes _ = map (label_locus_byte file) (primary_of xs)
+  locus_bytes Rich =
+      map (λ (s : LabeledFileModel). (s.file, locus_byte_of s.labels))
+      (labeled_file_models same file xs)
+  locus_bytes _ =
+      map (λ (x : LabelInFile Id). (file x.file_id, x.label.start)) (primary_of xs)
 
 -- the names of these loci are UTF-8
 abbrev pub NamesAreUtf8 : List Locus → Type 0

@@ -13,23 +13,19 @@ use Rattle.codespan_output.specs.Snippets.{LabeledFileModel}
 abbrev pub count_digits : ℕ → ℕ
 count_digits n = length (decimal n)
 
--- the lines that labels of the file span
-abbrev pub spanned_lines : LabeledFileModel → List ℕ
-spanned_lines s =
-    filter (λ l. list_any (λ x. spans (first_line s.file x) (last_line s.file x) l) s.labels)
-    (range_with_len 0 (line_count s.file))
-
--- the lines whose numbers the padding fits: those of the labels, or, in the unbroken layout, those
--- that are drawn
+-- the lines whose numbers the padding fits: in the unbroken layout the drawn ones, else those that
+-- labels of the file span
 abbrev pub numbered_lines : Config → LabeledFileModel → List ℕ
 numbered_lines config s =
-    if is_unbroken config.layout then drawn_lines config s.file s.labels else spanned_lines s
+    if is_unbroken config.layout then drawn_lines config s.file s.labels
+    else filter (λ l. list_any (λ x. spans (first_line s.file x) (last_line s.file x) l) s.labels)
+    (range_with_len 0 (line_count s.file))
 
--- the digit counts of these lines' numbers
-abbrev pub digits_of : LabeledFileModel → List ℕ → List ℕ
-digits_of s ls = map (λ l. count_digits (s.file.line_number l)) ls
-
--- the greatest digit count among them, 0 where there is none
+-- the greatest digit count of these lines' numbers, 0 where there is none
 abbrev pub padding_of : Config → List LabeledFileModel → ℕ
 padding_of config ss =
-    fold max 0 (flat_map (λ (s : LabeledFileModel). digits_of s (numbered_lines config s)) ss)
+    fold max 0
+    (flat_map
+    (λ (s : LabeledFileModel). map (λ l. count_digits (s.file.line_number l))
+    (numbered_lines config s))
+    ss)

@@ -10,9 +10,9 @@ use Rattle.codespan_output.specs.CharMetrics.{text_without_line_end}
 use Rattle.codespan_output.specs.Arguments.{SingleLabelTuple, LaneMarkTuple, lanes_of, locus_view}
 use Rattle.codespan_output.specs.Arguments.{single_label_views, text_now}
 use Rattle.codespan_output.specs.OutputStreams.{context_of}
-use Rattle.codespan_output.specs.Rows.{Line, rows_of}
-use Rattle.codespan_output.specs.RowStreams.{break_row, empty_row, header_row, snippet_start_row}
-use Rattle.codespan_output.specs.RowStreams.{stream_of_rows, first_note_row, later_note_row}
+use Rattle.codespan_output.specs.Rows.{Line, rows_of, EmptyRow, BreakRow}
+use Rattle.codespan_output.specs.RowStreams.{header_row, snippet_start_row, stream_of_rows}
+use Rattle.codespan_output.specs.RowStreams.{first_note_row, later_note_row, stream_of}
 
 -- the header of a diagnostic
 abbrev pub rendered_header : Option (Bor rust_locus.Locus) → Severity → Option (Bor (List ℕ))
@@ -45,12 +45,14 @@ rendered_source config severity padding line =
 abbrev pub rendered_snippet_empty : Config → Severity → ℕ → ℕ → List LaneMarkTuple
     → Stream
 rendered_snippet_empty config severity padding num_multi_labels lane_marks =
-    empty_row (context_of config severity padding) (lanes_of num_multi_labels lane_marks) ++ newline
+    stream_of (context_of config severity padding)
+    (EmptyRow (lanes_of num_multi_labels lane_marks)) ++ newline
 
 -- the row of a break
 abbrev pub rendered_break : Config → Severity → ℕ → ℕ → List LaneMarkTuple → Stream
 rendered_break config severity padding num_multi_labels lane_marks =
-    break_row (context_of config severity padding) (lanes_of num_multi_labels lane_marks) ++ newline
+    stream_of (context_of config severity padding)
+    (BreakRow (lanes_of num_multi_labels lane_marks)) ++ newline
 
 -- the rows of the lines of a note after the first
 abbrev pub later_note_rows_stream : ℕ → List (List ℕ) → Stream

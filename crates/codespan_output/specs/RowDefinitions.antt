@@ -3,21 +3,18 @@ use Rattle.codespan_core.specs.Streams.{style_mark, byte_stream, spaces, repeate
 use Rattle.codespan_output.specs.Lanes.{label_glyph, crossing_characters, lane_characters}
 use Rattle.codespan_output.specs.RowParts.{snippet_locus, outer_gutter, outer_gutter_number}
 use Rattle.codespan_output.specs.RowParts.{border_left, border_left_break, style_change}
-use Rattle.codespan_output.specs.RowParts.{label_message, inner_gutter_column, inner_gutter}
-use Rattle.codespan_output.specs.RowParts.{source_glyph, colored_text, caret_glyphs, carets}
-use Rattle.codespan_output.specs.RowParts.{trailing_message, spaces_up_to, pointer_at, pointers}
+use Rattle.codespan_output.specs.RowParts.{label_message, inner_gutter, source_glyph, colored_text}
+use Rattle.codespan_output.specs.RowParts.{carets, trailing_message, pointer_glyphs, pointers}
 use Rattle.codespan_output.specs.RowParts.{underline_message, underline}
-use Rattle.codespan_output.specs.RowStreams.{bracketed, header_locus, header_row}
-use Rattle.codespan_output.specs.RowStreams.{snippet_start_row, empty_row, break_row, source_row}
-use Rattle.codespan_output.specs.RowStreams.{row_start, caret_row, pointer_row, hanging_row}
-use Rattle.codespan_output.specs.RowStreams.{underline_row, first_note_row, later_note_row}
+use Rattle.codespan_output.specs.RowStreams.{bracketed, header_locus, header_row, snippet_start_row}
+use Rattle.codespan_output.specs.RowStreams.{first_note_row, later_note_row}
 
 -- opens all definitions of rows at once, as `unfolding row_definitions`
 unfoldable pub row_definitions : Unit {0}
 unfolding byte_stream style_mark spaces repeated label_glyph crossing_characters lane_characters
     snippet_locus outer_gutter outer_gutter_number border_left border_left_break style_change
-    label_message inner_gutter_column inner_gutter source_glyph colored_text caret_glyphs carets
-    trailing_message spaces_up_to pointer_at pointers underline_message underline bracketed
-    header_locus header_row snippet_start_row empty_row break_row source_row row_start caret_row
-    pointer_row hanging_row underline_row first_note_row later_note_row
+    label_message inner_gutter source_glyph colored_text carets
+    trailing_message pointer_glyphs pointers underline_message underline bracketed
+    header_locus header_row snippet_start_row
+    first_note_row later_note_row
 row_definitions = tt

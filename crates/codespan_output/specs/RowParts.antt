@@ -2,9 +2,10 @@
 -- unfolds them: calls that write one after another then match their parts from left to right.
 use Rattle.std.specs.Prelude.{ℕ, ◌+◌, ◌-◌, Bool, true, ◌||◌, ◌&&◌, ◌==◌}
 use Rattle.std.specs.Prelude.{nat_lt, nat_le, max, List, [], ◌∷◌, ◌++◌, filter, length}
-use Rattle.std.specs.Prelude.{fold, flat_map, Option, Some, None, if◌then◌else◌, codes}
-use Rattle.std.specs.Prelude.{decimal}
-use Rattle.std.specs.List.{list_any, range_with_len}
+use Rattle.std.specs.Prelude.{fold, flat_map, Option, Some, None, codes, decimal, map}
+use Rattle.std.specs.Prelude.{if◌then◌else◌}
+use Rattle.std.specs.Option.{option_and_then, option_map_or}
+use Rattle.std.specs.List.{list_any, range_with_len, zip, last_or}
 use Rattle.codespan_output.specs.Types.{Severity, LabelStyle, Primary, Secondary, Chars}
 use Rattle.codespan_core.specs.Streams.{Stream, style_mark, glyph, byte_stream, spaces, space}
 use Rattle.codespan_core.specs.Streams.{repeated}
@@ -16,11 +17,14 @@ use Rattle.codespan_core.specs.Labels.{MultiLabel, Top, Left, Bottom}
 use Rattle.codespan_output.specs.declared.char_metrics.Metrics.{Metrics}
 use Rattle.codespan_output.specs.CharMetrics.{char_metrics, char_metrics_to_end, width_of}
 use Rattle.codespan_output.specs.CharMetrics.{leading_whitespace}
-use Rattle.codespan_output.specs.Carets.{covers, style_under, caret_for, max_label_end}
-use Rattle.codespan_output.specs.declared.lane_shapes.Shape.{Shape}
+use Rattle.codespan_output.specs.Carets.{covers, caret_for, max_label_end, style_of_any}
+use Rattle.codespan_output.specs.Carets.{style_under}
 use Rattle.codespan_output.specs.Lanes.{LaneRowKind, row_shape, row_crossing, lane_mark_in}
 use Rattle.codespan_output.specs.Lanes.{shape_of, style_of_lane_mark, lane_characters, label_glyph}
-use Rattle.codespan_output.specs.Rows.{Locus, RowContext, Lanes, Line, hanging_labels}
+use Rattle.codespan_output.specs.Lanes.{Source, EmptyOrBreak, SingleLabels, Underline}
+use Rattle.codespan_output.specs.Rows.{Locus, RowContext, hanging_labels, Lanes, Line, Row}
+use Rattle.codespan_output.specs.Rows.{SourceRow, BreakRow, CaretRow, PointerRow, HangingRow}
+use Rattle.codespan_output.specs.Rows.{UnderlineRow}
 
 -- ---- parts of rows
 
@@ -59,13 +63,14 @@ style_change severity (Some Primary) (Some Primary) = []
 style_change severity (Some Secondary) (Some Secondary) = []
 style_change severity (Some _) (Some style) = style_mark (Label severity style)
 
--- these characters, each as `shown` shows it and in its style; `previous` is the style before them
-abbrev pub styled : Severity
-    → (Metrics → Option LabelStyle) → (Metrics → Stream) → Option LabelStyle
+-- these characters, as `shown` shows them: before each the change from the style of the one before
+-- it, and after all the change to none
+abbrev pub styled : Severity → (Metrics → Option LabelStyle) → (Metrics → Stream)
     → List Metrics → Stream
-styled severity style shown previous [] = style_change severity previous None
-styled severity style shown previous (c ∷ cs) =
-    style_change severity previous (style c) ++ shown c ++ styled severity style shown (style c) cs
+styled severity style shown cs =
+    flat_map (λ (x : Option LabelStyle × Metrics).
+    style_change severity x.0 (style x.1) ++ shown x.1) (zip (None ∷ map style cs) cs)
+    ++ style_change severity (option_and_then style (last_or None cs)) None
 
 -- a label's message in its style
 unfoldable pub label_message : Severity → LabelStyle → Stream → Stream
@@ -74,28 +79,53 @@ label_message severity style message =
 
 -- ---- the lanes of a row
 
--- one lane, from the lane mark in it
-unfoldable pub inner_gutter_column : RowContext → Option LaneMark → (MultiLabel → Shape)
-    → Option LaneMark → Stream
-inner_gutter_column context crossing shape lane_mark =
-    lane_characters context.severity context.chars crossing (style_of_lane_mark lane_mark)
-    (shape_of shape lane_mark)
+-- the line of a row that has one
+abbrev pub line_of_row : Row → Option Line
+line_of_row (SourceRow line) = Some line
+line_of_row (CaretRow line) = Some line
+line_of_row (PointerRow line) = Some line
+line_of_row (HangingRow line x) = Some line
+line_of_row (UnderlineRow line m) = Some line
+line_of_row _ = None
 
--- the lanes from left to right
-abbrev pub lanes_in : RowContext → (ℕ → Option LaneMark) → (ℕ → MultiLabel → Shape)
-    → Lanes → Stream
-lanes_in context crossing shape lanes =
-    flat_map
-    (λ lane.
-    inner_gutter_column context (crossing lane) (shape lane) (lane_mark_in lanes.lane_marks lane))
-    (range_with_len 0 lanes.count)
+-- how many bytes of white space its line begins with, 0 where it has none
+abbrev pub leading_of_row : Row → ℕ
+leading_of_row row =
+    option_map_or (λ (line : Line). leading_whitespace line.text) (line_of_row row) 0
 
--- the lanes of a kind of row, of a line whose text begins with `leading` bytes of white space
+-- the kind of a row, as far as its lanes go
+abbrev pub lane_row_kind_of : Row → LaneRowKind
+lane_row_kind_of (SourceRow line) = Source
+lane_row_kind_of (CaretRow line) = SingleLabels
+lane_row_kind_of (PointerRow line) = SingleLabels
+lane_row_kind_of (HangingRow line x) = SingleLabels
+lane_row_kind_of (UnderlineRow line m) = Underline m
+lane_row_kind_of _ = EmptyOrBreak
+
+-- the lanes of a kind of row, from left to right, each from the lane mark in it
 unfoldable pub inner_gutter : RowContext → ℕ → LaneRowKind → Lanes → Stream
 inner_gutter context leading row lanes =
-    lanes_in context (row_crossing row) (row_shape context.layout leading row) lanes
+    flat_map
+    (λ lane. lane_characters context.severity context.chars (row_crossing row lane)
+    (style_of_lane_mark (lane_mark_in lanes.lane_marks lane))
+    (shape_of (row_shape context.layout leading row lane) (lane_mark_in lanes.lane_marks lane)))
+    (range_with_len 0 lanes.count)
 
--- ---- the source text and the carets under it
+-- left of the lanes: the outer gutter, in a source row with the line's number, and the border
+abbrev pub before_lanes : RowContext → Row → Stream
+before_lanes context (SourceRow line) =
+    outer_gutter_number context.padding line.number ++ border_left context.chars
+before_lanes context (BreakRow lanes) =
+    outer_gutter context.padding ++ border_left_break context.chars
+before_lanes context _ = outer_gutter context.padding ++ border_left context.chars
+
+-- what a row of a snippet begins with: the outer gutter, the border and these lanes
+abbrev pub gutters : RowContext → Row → Lanes → Stream
+gutters context row lanes =
+    before_lanes context row
+    ++ inner_gutter context (leading_of_row row) (lane_row_kind_of row) lanes
+
+-- ---- the text of a row
 
 -- the characters of a line
 abbrev pub line_metrics : RowContext → Line → List Metrics
@@ -105,9 +135,15 @@ line_metrics context line = char_metrics context.tab_width line.text
 abbrev pub line_metrics_to_end : RowContext → Line → List Metrics
 line_metrics_to_end context line = char_metrics_to_end context.tab_width line.text
 
--- how many bytes of white space a line begins with
-abbrev pub leading_of : Line → ℕ
-leading_of line = leading_whitespace line.text
+-- the characters of a line that begin before a byte index
+abbrev pub metrics_before : ℕ → List Metrics → List Metrics
+metrics_before byte_index cs = filter (λ (c : Metrics). nat_lt c.byte_index byte_index) cs
+
+-- the characters of a line that begin at a byte index or before it
+abbrev pub metrics_up_to : ℕ → List Metrics → List Metrics
+metrics_up_to byte_index cs = filter (λ (c : Metrics). nat_le c.byte_index byte_index) cs
+
+-- ---- underlines
 
 -- a multi-line label covers the character on this line
 abbrev pub multi_label_covers : Metrics → MultiLabel → Bool
@@ -130,18 +166,14 @@ source_glyph c = if c.ch == 9 then spaces c.unicode_width else glyph c.ch
 -- the text of a source row
 unfoldable pub colored_text : RowContext → Line → Stream
 colored_text context line =
-    styled context.severity (source_style line) source_glyph None (line_metrics context line)
+    styled context.severity (source_style line) source_glyph (line_metrics context line)
 
--- the carets under a character, or where it has no style the spaces, up to the greatest end
-unfoldable pub caret_glyphs : Chars → ℕ → Option LabelStyle → Metrics → Stream
-caret_glyphs chars end None c = if nat_lt c.byte_index end then spaces c.unicode_width else []
-caret_glyphs chars end (Some style) c = repeated c.unicode_width (caret_for chars (Some style))
-
--- the carets under these characters
+-- the carets under these characters, and spaces where no label is, up to the greatest end
 unfoldable pub carets : RowContext → List LabelModel → List Metrics → Stream
 carets context labels cs =
     styled context.severity (style_under labels)
-    (λ c. caret_glyphs context.chars (max_label_end labels) (style_under labels c) c) None cs
+    (λ c. repeated c.unicode_width (caret_for context.chars (style_under labels c)))
+    (metrics_before (max_label_end labels) cs)
 
 -- after the carets a space and the trailing message, if there is one
 unfoldable pub trailing_message : Severity → Option LabelModel → Stream
@@ -158,37 +190,17 @@ starts_in c x = nat_le c.byte_index x.start && nat_lt x.start (c.byte_index + c.
 abbrev pub max_label_start : List LabelModel → ℕ
 max_label_start labels = fold (λ m (x : LabelModel). max m x.start) 0 labels
 
--- `n` spaces under a character that begins at this byte index or before it, none under a later one
-unfoldable pub spaces_up_to : ℕ → Metrics → ℕ → Stream
-spaces_up_to byte_index c n = if nat_le c.byte_index byte_index then spaces n else []
+-- a pointer of this style in the first cell of a character, or spaces for none
+unfoldable pub pointer_glyphs : RowContext → Option LabelStyle → Metrics → Stream
+pointer_glyphs context None c = spaces c.unicode_width
+pointer_glyphs context (Some style) c =
+    label_glyph context.severity style context.chars.pointer_left ++ spaces (c.unicode_width - 1)
 
--- the style of a pointer: primary where a primary label starts in the character
-abbrev pub pointer_style : List LabelModel → Metrics → LabelStyle
-pointer_style labels c =
-    if list_any (λ x. is_primary x && starts_in c x) labels then Primary else Secondary
-
--- the pointer under a character with the spaces after it, or spaces where no hanging label starts
-unfoldable pub pointer_at : RowContext → List LabelModel → List LabelModel → Metrics
-    → Stream
-pointer_at context labels hanging_labels c =
-    if list_any (starts_in c) hanging_labels then
-    label_glyph context.severity (pointer_style hanging_labels c) context.chars.pointer_left
-    ++ spaces_up_to (max_label_start labels) c (c.unicode_width - 1)
-    else spaces_up_to (max_label_start labels) c c.unicode_width
-
--- the pointers under these characters
+-- the pointers under these characters, up to the greatest start: where hanging labels start
 unfoldable pub pointers : RowContext → List LabelModel → List Metrics → Stream
-pointers context labels cs = flat_map (pointer_at context labels (hanging_labels labels)) cs
-
--- the characters of a line that begin before a byte index
-abbrev pub metrics_before : ℕ → List Metrics → List Metrics
-metrics_before byte_index cs = filter (λ (c : Metrics). nat_lt c.byte_index byte_index) cs
-
--- the characters of a line that begin at a byte index or before it
-abbrev pub metrics_up_to : ℕ → List Metrics → List Metrics
-metrics_up_to byte_index cs = filter (λ (c : Metrics). nat_le c.byte_index byte_index) cs
-
--- ---- underlines
+pointers context labels cs =
+    flat_map (λ c. pointer_glyphs context (style_of_any (starts_in c) (hanging_labels labels)) c)
+    (metrics_up_to (max_label_start labels) cs)
 
 -- the caret under a multi-line label's start
 abbrev pub start_caret : Chars → LabelStyle → ℕ

@@ -2,7 +2,7 @@
 use Rattle.std.specs.Prelude.{ℕ, Bool, true, false, not, ◌&&◌, ◌==◌, List, [], ◌∷◌}
 use Rattle.std.specs.Prelude.{◌++◌, map, filter, reverse, Option, Some, None}
 use Rattle.std.specs.Prelude.{if◌then◌else◌}
-use Rattle.std.specs.List.{list_any, enumerate_from, last_or, remove}
+use Rattle.std.specs.List.{list_any, last_or}
 use Rattle.std.specs.Option.{option_and_then, option_map, option_map_or}
 use Rattle.codespan_output.specs.Types.{Severity, Chars, Layout, Location}
 use Rattle.codespan_core.specs.Labels.{LabelModel, has_message, LaneMark, MultiLabel, Top, Left}
@@ -58,39 +58,42 @@ pub data Row : Type 0 where
 
 -- ---- trailing and hanging labels
 
--- the last of the labels with this end, with its index
-abbrev pub last_with_end : ℕ → List LabelModel → Option (ℕ × LabelModel)
-last_with_end end labels =
-    last_or None (filter (λ (e : ℕ × LabelModel). e.1.end == end) (enumerate_from 0 labels))
+-- each of the labels, with the others
+abbrev pub with_others : List LabelModel → List (LabelModel × List LabelModel)
+with_others [] = []
+with_others (x ∷ xs) =
+    (x, xs) ∷ map (λ (e : LabelModel × List LabelModel). (e.0, x ∷ e.1)) (with_others xs)
 
--- one of the other labels overlaps the label
-abbrev pub overlaps_any : LabelModel → List LabelModel → Bool
-overlaps_any x others = list_any (λ (y : LabelModel). is_overlapping x y.start y.end) others
+-- the message of a label among others trails: it is not empty, and none of them overlaps the label
+abbrev pub trails : LabelModel × List LabelModel → Bool
+trails e =
+    has_message e.0
+    && not (list_any (λ (y : LabelModel). is_overlapping e.0 y.start y.end) e.1)
 
--- the label's message trails: it is not empty, and no other label of the line overlaps the label
-abbrev pub does_trail : List LabelModel → ℕ × LabelModel → Bool
-does_trail labels e = has_message e.1 && not (overlaps_any e.1 (remove labels e.0))
-
--- the last of the labels with the greatest end, where its message trails
-abbrev pub indexed_trailing_label : List LabelModel → Option (ℕ × LabelModel)
-indexed_trailing_label labels =
-    option_and_then (λ e. if does_trail labels e then Some e else None)
-    (last_with_end (max_label_end labels) labels)
+-- the last of the labels with the greatest end, with the others, where its message trails
+abbrev pub trailing_and_others : List LabelModel → Option (LabelModel × List LabelModel)
+trailing_and_others labels =
+    option_and_then (λ e. if trails e then Some e else None)
+    (last_or None
+    (filter (λ (e : LabelModel × List LabelModel). e.0.end == max_label_end labels)
+    (with_others labels)))
 
 -- the label whose message trails
 abbrev pub trailing_label : List LabelModel → Option LabelModel
-trailing_label labels = option_map (λ (e : ℕ × LabelModel). e.1) (indexed_trailing_label labels)
+trailing_label labels =
+    option_map (λ (e : LabelModel × List LabelModel). e.0) (trailing_and_others labels)
 
 -- the labels that hang: all others with a message
 abbrev pub hanging_labels : List LabelModel → List LabelModel
 hanging_labels labels =
     filter has_message
-    (option_map_or (λ e. remove labels e.0) (indexed_trailing_label labels) labels)
+    (option_map_or (λ (e : LabelModel × List LabelModel). e.1) (trailing_and_others labels)
+    labels)
 
 -- ---- underlines
 
--- a multi-line label mark has an underline row: each top whose corner is not in the source row, and
--- each bottom; the text of the line begins with `leading` bytes of white space
+-- a multi-line label mark has an underline row: a top whose corner is not in the source row, or a
+-- bottom
 abbrev pub has_underline : ℕ → MultiLabel → Bool
 has_underline leading (Top start) = not (begins_in_source_row leading start)
 has_underline leading Left = false
@@ -98,26 +101,18 @@ has_underline leading (Bottom end message) = true
 
 -- ---- the rows of a line
 
--- a line with labels has a caret row
-abbrev pub caret_rows : Line → List LabelModel → List Row
-caret_rows line [] = []
-caret_rows line (x ∷ xs) = CaretRow line ∷ []
+-- this row, where the list has an element
+abbrev pub row_if_any : {A : Type 0} → List A → Row → List Row
+row_if_any [] row = []
+row_if_any (x ∷ xs) row = row ∷ []
 
--- where labels hang: the pointers, and a row for each message, that of the last label first
-abbrev pub pointer_and_hanging_rows : Line → List LabelModel → List Row
-pointer_and_hanging_rows line [] = []
-pointer_and_hanging_rows line (x ∷ xs) = PointerRow line ∷ map (HangingRow line)
-    (reverse (x ∷ xs))
-
--- the underlines, in the order of the lanes
-abbrev pub underline_rows : Line → List Row
-underline_rows line =
-    map (UnderlineRow line)
-    (filter (λ (m : LaneMark). has_underline (leading_whitespace line.text) m.multi_label)
-    line.lanes.lane_marks)
-
--- all rows of a line
+-- all rows of a line: the source, and the carets where it has labels; the pointers where labels
+-- hang, and a row for each message, that of the last label first; the underlines by their lanes
 abbrev pub rows_of : Line → List Row
 rows_of line =
-    (SourceRow line ∷ caret_rows line line.labels)
-    ++ pointer_and_hanging_rows line (hanging_labels line.labels) ++ underline_rows line
+    (SourceRow line ∷ row_if_any line.labels (CaretRow line))
+    ++ (row_if_any (hanging_labels line.labels) (PointerRow line)
+    ++ map (HangingRow line) (reverse (hanging_labels line.labels)))
+    ++ map (UnderlineRow line)
+    (filter (λ (m : LaneMark). has_underline (leading_whitespace line.text) m.multi_label)
+    line.lanes.lane_marks)

@@ -1,12 +1,11 @@
 -- The rows of an output: of each line, of each file, and of all, with the loci in them.
-use Rattle.std.specs.Prelude.{ℕ, Bool, true, false, ◌||◌, min, List, [], ◌∷◌, ◌++◌}
-use Rattle.std.specs.Prelude.{map, filter, fold, flat_map, Option, Some, None, if◌then◌else◌}
-use Rattle.std.specs.Prelude.{length}
+use Rattle.std.specs.Prelude.{ℕ, Bool, ◌||◌, min, List, [], ◌∷◌, ◌++◌, map, filter}
+use Rattle.std.specs.Prelude.{fold, flat_map, Option, Some, None, length, if◌then◌else◌, not}
 use Rattle.std.specs.Str.Lines.{lines}
 use Rattle.codespan_output.specs.Types.{Config}
 use Rattle.codespan_core.specs.FileModel.{FileModel, line_text}
 use Rattle.codespan_core.specs.Labels.{LabelModel, is_primary, first_seen, multi_line_labels}
-use Rattle.codespan_core.specs.Labels.{single_labels, lane_marks_on}
+use Rattle.codespan_core.specs.Labels.{single_labels, lane_marks_on, is_empty}
 use Rattle.codespan_output.specs.CharMetrics.{text_without_line_end}
 use Rattle.codespan_output.specs.Lines.{drawn_lines}
 use Rattle.codespan_output.specs.Rows.{Locus, HeaderText, Lanes, Line, Row, HeaderRow}
@@ -48,13 +47,9 @@ labeled_file_models same file labels =
 
 -- ---- the rows of one file
 
--- how many lanes a file has
-abbrev pub num_multi_labels : LabeledFileModel → ℕ
-num_multi_labels s = length (multi_line_labels s.file s.labels)
-
 -- the lanes of the file, with no lane mark in them
 abbrev pub empty_lanes : LabeledFileModel → Lanes
-empty_lanes s = record { count = num_multi_labels s; lane_marks = [] }
+empty_lanes s = record { count = length (multi_line_labels s.file s.labels); lane_marks = [] }
 
 -- a line of the file, with what its labels do on it
 abbrev pub line_at : LabeledFileModel → ℕ → Line
@@ -62,26 +57,21 @@ line_at s l = record {
   number = s.file.line_number l;
   text = text_without_line_end (line_text s.file l);
   labels = single_labels s.file s.labels l;
-  lanes = record { count = num_multi_labels s; lane_marks = lane_marks_on s.file s.labels l };
+  lanes = record (empty_lanes s) { lane_marks = lane_marks_on s.file s.labels l };
 }
-
--- the rows of a line
-abbrev pub line_rows : (ℕ → Line) → ℕ → List Row
-line_rows line l = rows_of (line l)
-
--- the row of a break before a line
-abbrev pub break_rows : (ℕ → Line) → ℕ → List Row
-break_rows line d = BreakRow (line d).lanes ∷ []
 
 -- the rows of drawn lines with their breaks, where the optional line is drawn before them
 abbrev pub rows_of_drawn : LabeledFileModel → Option ℕ → List ℕ → List Row
 rows_of_drawn s =
-    in_sequence (λ l. l) (break_between (break_rows (line_at s))) (line_rows (line_at s))
+    in_sequence (λ l. l) (break_between (λ d. BreakRow (line_at s d).lanes ∷ []))
+    (λ l. rows_of (line_at s l))
 
 -- the same rows, from the shown lines alone, in ascending order
 abbrev pub rows_of_shown : (ℕ → Line) → Option ℕ → List ℕ → List Row
 rows_of_shown line =
-    in_sequence (λ l. l) (gap_between (line_rows line) (break_rows line)) (line_rows line)
+    in_sequence (λ l. l)
+    (gap_between (λ l. rows_of (line l)) (λ d. BreakRow (line d).lanes ∷ []))
+    (λ l. rows_of (line l))
 
 -- ---- the locus of a snippet
 
@@ -95,8 +85,7 @@ abbrev pub if_any : {A : Type 0} → List A → List A → List A
 if_any [] others = others
 if_any (x ∷ xs) others = x ∷ xs
 
--- the byte of a file's locus: the least start of a primary label, or of any label where none is
--- primary
+-- the byte of a file's locus: the least start of its primary labels, or of all where none is
 abbrev pub locus_byte_of : List LabelModel → ℕ
 locus_byte_of labels =
     least (map (λ (x : LabelModel). x.start) (if_any (filter is_primary labels) labels))
@@ -113,18 +102,13 @@ empty_row_after followed s = if followed then EmptyRow (empty_lanes s) ∷ [] el
 
 -- ---- the rows of all files
 
--- the list has an element
-abbrev pub has_any : {A : Type 0} → List A → Bool
-has_any [] = false
-has_any (x ∷ xs) = true
-
 -- the snippets of files with these loci. An empty row follows each but the last, and the last too
 -- where notes follow
 abbrev pub snippets : Config → Bool → List Locus → List LabeledFileModel → List Row
 snippets config has_notes [] ss = []
 snippets config has_notes (p ∷ ps) [] = []
 snippets config has_notes (p ∷ ps) (s ∷ ss) =
-    snippet config p s ++ empty_row_after (has_any ss || has_notes) s
+    snippet config p s ++ empty_row_after (not (is_empty ss) || has_notes) s
     ++ snippets config has_notes ps ss
 
 -- the rows of a note's lines
@@ -141,7 +125,7 @@ abbrev pub rich_rows : Config → HeaderText → List Locus → List LabeledFile
     → List (List ℕ)
     → List Row
 rich_rows config header_text loci ss notes =
-    (HeaderRow None header_text ∷ snippets config (has_any notes) loci ss)
+    (HeaderRow None header_text ∷ snippets config (not (is_empty notes)) loci ss)
     ++ note_rows notes ++ (FinalRow ∷ [])
 
 -- ---- short and medium style

@@ -4,7 +4,7 @@ use Rattle.std.specs.Prelude.{Some, length, take, Bool, ◌&&◌, map, is_none, 
 use Rattle.codespan_output.specs.Types.{Diagnostic, Error, Config, DisplayStyle, Short}
 use Rattle.codespan_core.specs.FileModel.{FileDatabase}
 use Rattle.codespan_output.specs.Lookups.{AllSucceed, first_error, header_lookups_of, Failures}
-use Rattle.codespan_output.specs.OutputStreams.{AreLoci, labels_of, output, label_locus_byte}
+use Rattle.codespan_output.specs.OutputStreams.{AreLoci, labels_of, output}
 use Rattle.codespan_output.specs.Picture.{headers_at, picture, stated_locus}
 use Rattle.codespan_output.specs.Rows.{Locus}
 use Rattle.codespan_output.specs.Snippets.{LabelInFile, primary_of}
@@ -39,7 +39,7 @@ module _ {Id : Type 0} (files : FileDatabase Id) (d : Diagnostic Id) where
   abbrev pub headers_before_failure : Config → Stream
   headers_before_failure config =
       headers_at config d
-      (map (λ (x : LabelInFile Id). stated_locus (label_locus_byte files.file x))
+      (map (λ (x : LabelInFile Id). stated_locus (files.file x.file_id, x.label.start))
       (labels_before_failure files.failure (labels_of d)))
 
   -- where a lookup of a primary label fails, and none of those of the primary labels before it, the

@@ -4,7 +4,7 @@ ghost use Rattle.std.specs.Prelude.{◌≡◌, ◌<◌, ◌≤◌, ℕ, decimal,
 ghost use Rattle.codespan_output.specs.Padding.{count_digits};
 
 /// Returns how many digits a number has in decimal; 0 has one.
-#[tactic(auto, using(crate::proofs::Digits::counting))]
+#[tactic(auto, using(crate::proofs::DrawnLines::Digits::counting))]
 pub fn count_digits(number: usize) -> usize
     ensures { result ≡ count_digits number }
 {

@@ -1,8 +1,8 @@
 -- The cached characters of a line and the scan of the others: serves `cache_metrics`, and the
 -- cursors of a cached line.
-use Rattle.codespan_core.proofs.Std.{◌≡◌, ℕ, ◌-◌, ◌<◌, Bool, List, [], ◌∷◌}
-use Rattle.codespan_core.proofs.Std.{◌++◌, take, drop, length, append_assoc, sym, ap, ◌∙◌}
-use Rattle.codespan_core.proofs.Std.{arith, chars}
+use Rattle.codespan_core.proofs.Std.{◌≡◌, ℕ, ◌-◌, ◌<◌, Bool, List, [], ◌++◌}
+use Rattle.codespan_core.proofs.Std.{take, drop, length, append_assoc, sym, ap, ◌∙◌, arith}
+use Rattle.codespan_core.proofs.Std.{chars, common_steps}
 use Rattle.std.specs.Str.Iter.{chars_rest}
 use Rattle.codespan_output.specs.declared.char_metrics.Metrics.{Metrics}
 use Rattle.codespan_output.specs.CharMetrics.{metrics_then}
@@ -10,8 +10,8 @@ use Rattle.codespan_output.specs.RowParts.{metrics_up_to}
 use Rattle.codespan_renderer.specs.declared.term.renderer.char_metrics.CharMetrics.{CharMetrics}
 use Rattle.codespan_renderer.specs.Private.{MetricsAfterEnd, GoesOver, after_last, metrics_from}
 use Rattle.codespan_renderer.specs.Private.{remaining_metrics, no_more, AreCached}
-use Rattle.codespan_output.proofs.Consecutive.{char_metrics-consecutive}
-use Rattle.codespan_output.proofs.Pieces.{taken-dropped}
+use Rattle.codespan_output.proofs.Characters.Consecutive.{char_metrics-consecutive}
+use Rattle.codespan_output.proofs.Messages.Pieces.{taken-dropped}
 use Rattle.codespan_renderer.proofs.WidthSearch.{past-none}
 
 -- a scan that goes on elsewhere yields what the first one would
@@ -22,10 +22,7 @@ cached-after : (tab : ℕ) (text : List ℕ) (cached : List Metrics) (rest fork 
     → fork.has_placeholder ≡ has_placeholder
     → cached ++ remaining_metrics fork ≡ metrics_then (after_last has_placeholder) tab 0 0
     (chars text)
-cached-after tab text cached rest fork has_placeholder are same end =
-    ap (λ (e : Bool). cached ++ metrics_from (after_last e) fork) end
-    ∙ ap (λ (cs : List Metrics). cached ++ cs) (same (after_last has_placeholder))
-    ∙ are (after_last has_placeholder)
+cached-after tab text cached rest fork has_placeholder are same end = grind (arith, common_steps)
 
 -- the same, where the first ones of the cache are left out
 pub cached-from : (tab : ℕ) (text : List ℕ) (cached : List Metrics) (rest fork : CharMetrics)
@@ -41,23 +38,6 @@ cached-from tab text cached rest fork has_placeholder n are same end =
     (remaining_metrics fork))
     ∙ ap (λ (cs : List Metrics). cs ++ remaining_metrics fork) (taken-dropped n cached)
     ∙ cached-after tab text cached rest fork has_placeholder are same end
-
--- one more character is cached
-cached-more : (tab : ℕ) (text : List ℕ) (cached : List Metrics) (c : Metrics)
-    (old new : CharMetrics)
-    → GoesOver c old new → AreCached tab text cached old
-    → AreCached tab text (cached ++ c ∷ []) new
-cached-more tab text cached c old new over are = λ (after : MetricsAfterEnd).
-    append_assoc cached (c ∷ []) (metrics_from after new)
-    ∙ ap (λ (cs : List Metrics). cached ++ cs) (sym (over.yields after)) ∙ are after
-
--- the same of characters to which this one was pushed
-pub cached-pushed : (tab : ℕ) (text : List ℕ) (cached : List Metrics) (c : Metrics)
-    (pushed : List Metrics) (old new : CharMetrics)
-    → pushed ≡ cached ++ c ∷ [] → GoesOver c old new
-    → AreCached tab text cached old → AreCached tab text pushed new
-cached-pushed tab text cached c pushed old new is over are =
-    rw is (cached-more tab text cached c old new over are)
 
 -- after a character past a byte index all begin past it
 pub past-scan : (byte_index : ℕ) (c : Metrics) (old new : CharMetrics) → GoesOver c old new

@@ -2,16 +2,16 @@
 -- over the labels of a line, which passes them as they start.
 use Rattle.codespan_core.proofs.Std.{◌≡◌, ℕ, ◌+◌, ◌<◌, ◌≤◌, max, Bool, true}
 use Rattle.codespan_core.proofs.Std.{false, ◌&&◌, ◌||◌, nat_lt, nat_le, List, [], ◌∷◌}
-use Rattle.codespan_core.proofs.Std.{◌++◌, length, drop, get_or, drop-cons, add-one, refl, sym}
-use Rattle.codespan_core.proofs.Std.{ap, subst, ◌∙◌, arith, Option, Some, None}
-use Rattle.codespan_core.proofs.Std.{if◌then◌else◌, IfSome, and_parts, nat_tests, len_utf8}
-use Rattle.codespan_core.proofs.Std.{chars, len_utf8_bounds}
+use Rattle.codespan_core.proofs.Std.{◌++◌, length, drop, get_or, drop-cons, add-one, refl}
+use Rattle.codespan_core.proofs.Std.{arith, Option, Some, None, if◌then◌else◌, IfSome}
+use Rattle.codespan_core.proofs.Std.{and_parts, nat_tests, len_utf8, chars, len_utf8_bounds}
+use Rattle.codespan_core.proofs.Std.{common_steps}
 use Rattle.std.proofs.Props.{props}
 use Rattle.std.proofs.Math.Logic.{∥∥₁_elim}
 use Rattle.std.specs.Iterator.{YieldsFirst}
 use Rattle.codespan_core.specs.Labels.{LabelModel}
 use Rattle.codespan_output.specs.declared.char_metrics.Metrics.{Metrics}
-use Rattle.codespan_output.specs.CharMetrics.{metrics_then, placeholder, width_at}
+use Rattle.codespan_output.specs.CharMetrics.{metrics_then, width_at}
 use Rattle.codespan_output.specs.Carets.{covers}
 use Rattle.codespan_output.specs.Arguments.{SingleLabelTuple, single_label_view, single_label_views}
 use Rattle.codespan_output.specs.Arguments.{starts_from}
@@ -55,13 +55,8 @@ pub reached-more : (test : LabelModel → Bool) (labels left rest : List LabelMo
     → left ≡ x ∷ rest → x.start < byte_index
     → IsCoverEnd test labels left byte_index end
     → IsCoverEnd test labels rest byte_index (end_with (test x) end x)
-reached-more test labels left rest x byte_index end step prefix r = record {
-  is = λ c h some. r.is c h some
-      ∙ ap (λ (xs : List LabelModel). nat_lt c.byte_index end || is_covered test xs c) step
-      ∙ or-assoc (nat_lt c.byte_index end) (test x && covers x c) (is_covered test rest c)
-      ∙ ap (λ (b : Bool). b || is_covered test rest c)
-      (sym (end-raised (test x) end x c (omega arith) some));
-}
+reached-more test labels left rest x byte_index end step prefix r =
+    grind (arith, common_steps, or-assoc, end-raised)
 
 -- labels that start at the character's end or later do not cover it
 uncovered : (test : LabelModel → Bool) (xs : List LabelModel) (byte_index : ℕ) (c : Metrics)
@@ -90,10 +85,7 @@ pub reached-here : (test : LabelModel → Bool) (labels left : List LabelModel)
     → starts_from byte_index left ≡ true → IsCoverEnd test labels left byte_index end
     → is_covered test labels c ≡ nat_lt c.byte_index end
 reached-here test labels left byte_index end c ends some ordered r =
-    r.is c (omega arith) some
-    ∙ ap (λ (b : Bool). nat_lt c.byte_index end || b)
-    (uncovered test left byte_index c ordered (omega arith))
-    ∙ or-false (nat_lt c.byte_index end)
+    grind (arith, common_steps, uncovered, or-false)
 
 -- ---- labels in order
 
@@ -108,29 +100,18 @@ labels-step ys xs i d same h = rw (same, drop-cons xs i d h, add-one) refl
 pub starts-lower : (xs : List LabelModel) (low byte_index : ℕ) → low ≤ byte_index
     → starts_from byte_index xs ≡ true → starts_from low xs ≡ true
 starts-lower [] low byte_index h ordered = refl
-starts-lower (x ∷ xs) low byte_index h ordered =
-    let parts = and_parts (nat_le byte_index x.start) (starts_from x.start xs) ordered in
-    let here : nat_le low x.start ≡ true = (let far = parts.0 in grind (arith, nat_tests)) in
-    rw (here, parts.1) refl
+starts-lower (x ∷ xs) low byte_index h ordered = grind (arith, common_steps, and_parts)
 
 -- those after the first one
 pub starts-next : (low : ℕ) (left rest : List LabelModel) (x : LabelModel) → left ≡ x ∷ rest
     → starts_from low left ≡ true → starts_from low rest ≡ true
-starts-next low left rest x step ordered =
-    let parts = and_parts (nat_le low x.start) (starts_from x.start rest) (rw step at ordered) in
-    let far : low ≤ x.start = (let test = parts.0 in grind (arith, nat_tests)) in
-    starts-lower rest low x.start far parts.1
+starts-next low left rest x step ordered = grind (arith, common_steps, and_parts, starts-lower)
 
 -- the first one of those that are left starts no earlier than they do
 pub starts-first : (low : ℕ) (ys xs : List SingleLabelTuple) (i : ℕ) (d : SingleLabelTuple)
     → ys ≡ xs → i < length xs → starts_from low (single_label_views (drop i ys)) ≡ true
     → low ≤ (get_or xs i d).1.start
-starts-first low ys xs i d same h ordered =
-    let x = single_label_view (get_or xs i d) in
-    let parts =
-    and_parts (nat_le low x.start) (starts_from x.start (single_label_views (drop (i + 1) ys)))
-    (rw (labels-step ys xs i d same h) at ordered) in
-    let test = parts.0 in grind (arith, nat_tests)
+starts-first low ys xs i d same h ordered = grind (arith, common_steps, and_parts, labels-step)
 
 -- those after one that starts before a byte index
 pub starts-rest : (low : ℕ) (ys xs : List SingleLabelTuple) (i : ℕ) (d : SingleLabelTuple)
@@ -150,13 +131,7 @@ pub starts-past : (low : ℕ) (ys xs : List SingleLabelTuple) (i byte_index : �
     → starts_from low (single_label_views (drop i ys)) ≡ true
     → starts_from byte_index (single_label_views (drop i ys)) ≡ true
 starts-past low ys xs i byte_index d same h late ordered =
-    let step = labels-step ys xs i d same h in
-    let x = single_label_view (get_or xs i d) in
-    let parts =
-    and_parts (nat_le low x.start) (starts_from x.start (single_label_views (drop (i + 1) ys)))
-    (rw step at ordered) in
-    let here : nat_le byte_index x.start ≡ true = grind (arith, nat_tests) in
-    rw (step, here, parts.1) refl
+    grind (arith, common_steps, labels-step, and_parts)
 
 -- ---- characters one after another
 
@@ -175,22 +150,14 @@ follow-then after tab byte_index column (c ∷ cs) last = (
 -- the characters of a line, and the placeholder where `has_placeholder` is set
 pub follow-after : (has_placeholder : Bool) (tab : ℕ) (text : List ℕ)
     → AreContiguous 0 (metrics_then (after_last has_placeholder) tab 0 0 (chars text))
-follow-after true tab text =
-    follow-then placeholder tab 0 0 (chars text) (λ p q. (refl, omega arith, tt))
+follow-after true tab text = grind (arith, common_steps, follow-then)
 follow-after false tab text = follow-then no_more tab 0 0 (chars text) (λ p q. tt)
 
 -- ---- a cursor over labels and characters
 
-passed-prop : (byte_index : ℕ) (s : LabelCursor) → IsProp (HasPassedLabels byte_index s)
-passed-prop byte_index s = Prim.hlevel props
-
 passed-later : (s : LabelCursor) (p q : ℕ) → p ≤ q → HasPassedLabels p s
     → HasPassedLabels q s
-passed-later s p q h m = record {
-  primary = record { is = λ c low some. m.primary.is c (omega arith) some };
-  any = record { is = λ c low some. m.any.is c (omega arith) some };
-  ordered = m.ordered;
-}
+passed-later s p q h m = grind (arith, common_steps)
 
 -- the characters after some of those that follow one another
 follow-rest : (byte_index : ℕ) (before left : List Metrics)
@@ -198,20 +165,12 @@ follow-rest : (byte_index : ℕ) (before left : List Metrics)
     → (q : ℕ) × (byte_index ≤ q) × AreContiguous q left
 follow-rest byte_index [] left follow = (byte_index, omega arith, follow)
 follow-rest byte_index (c ∷ cs) left follow =
-    let later = follow-rest (byte_index + c.bytes) cs left follow.2 in
-    (later.0, omega (arith, later.1), later.2)
+    grind (arith, common_steps, follow-rest (byte_index + c.bytes) cs left follow.2)
 
 -- before some characters of a line, the first ones left out
 pub cursor-start : (s : LabelCursor) (before left : List Metrics) → HasPassedLabels 0 s
     → AreContiguous 0 (before ++ left) → ∥ IsBefore s left ∥₁
-cursor-start s before left passed follow =
-    let later = follow-rest 0 before left follow in
-    ∣ record {
-      byte_index = later.0;
-      passed = passed-later s 0 later.0 later.1 passed;
-      contiguous =
-          later.2;
-    } ∣₁
+cursor-start s before left passed follow = grind (arith, common_steps, follow-rest, passed-later)
 
 module _ (s : LabelCursor) (left rest : List Metrics) (c : Metrics) (step : left ≡ c ∷ rest)
   where
@@ -255,8 +214,7 @@ pub cursor-next : (s : LabelCursor) (old new : MetricsFromCache) (r : Option Met
 cursor-next s old new (Some c) step before_it =
     cursor-goes_on s (remaining_from_cache new) c
     (cursor-returns s (remaining_from_cache old) (remaining_from_cache new) c step before_it)
-cursor-next s old new None ends before_it =
-    subst (λ (cs : List Metrics). ∥ IsBefore s cs ∥₁) (ends.0 ∙ sym ends.1) before_it
+cursor-next s old new None ends before_it = grind (arith, common_steps)
 
 -- what it has returned
 pub cursor-next_returned : (s : LabelCursor) (old new : MetricsFromCache) (r : Option Metrics)
@@ -277,13 +235,3 @@ cursor-passed s t rest c returned passed =
       passed = passed;
       contiguous = g.contiguous;
     } ∣₁)
-
--- the labels that it has passed, and the character that it has returned
-pub returned-passed : (s : LabelCursor) (rest : List Metrics) (c : Metrics)
-    → ∥ HasReturned c s rest ∥₁ → HasPassedLabels c.byte_index s
-returned-passed s rest c returned = ∥∥₁_elim returned (passed-prop c.byte_index s)
-    (λ g. g.passed)
-
-pub returned-some : (s : LabelCursor) (rest : List Metrics) (c : Metrics)
-    → ∥ HasReturned c s rest ∥₁ → 1 ≤ c.bytes
-returned-some s rest c returned = ∥∥₁_elim returned (Prim.hlevel props) (λ g. g.has_byte)

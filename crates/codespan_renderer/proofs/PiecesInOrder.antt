@@ -8,7 +8,7 @@ use Rattle.codespan_output.specs.Arguments.{SingleLabelTuple, single_label_views
 use Rattle.codespan_output.specs.Arguments.{starts_in_order}
 use Rattle.codespan_output.specs.Private.RowLabels.{ArePrefixAndSuffix}
 use Rattle.codespan_renderer.proofs.LabelCursorSteps.{starts-lower}
-use Rattle.codespan_output.proofs.Pieces.{whole}
+use Rattle.codespan_output.proofs.Messages.Pieces.{whole}
 
 front-ordered : (low : ℕ) (xs ys : List LabelModel) → starts_from low (xs ++ ys) ≡ true
     → starts_from low xs ≡ true

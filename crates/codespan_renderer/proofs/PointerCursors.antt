@@ -1,25 +1,25 @@
 -- For `find_pointers` and `next_pointer`: what finds the pointers of a line.
 use Rattle.codespan_core.proofs.Std.{◌≡◌, ℕ, ◌+◌, ◌<◌, ◌≤◌, arith, List, []}
-use Rattle.codespan_core.proofs.Std.{◌∷◌, ◌++◌, Option, Some, None, refl, ◌∙◌}
-use Rattle.codespan_core.proofs.Std.{append_assoc, filter, chars}
+use Rattle.codespan_core.proofs.Std.{◌∷◌, ◌++◌, Option, Some, None, refl, append_assoc}
+use Rattle.codespan_core.proofs.Std.{filter, chars, common_steps}
 use Rattle.std.specs.Str.Iter.{chars_rest}
 use Rattle.codespan_core.specs.Labels.{LabelModel, has_message}
 use Rattle.codespan_output.specs.Types.{LabelStyle}
-use Rattle.codespan_output.specs.declared.char_metrics.Metrics.{Metrics}
-use Rattle.codespan_output.specs.declared.rows.pointer_cursor.Pointer.{Pointer}
 use Rattle.codespan_output.specs.Arguments.{SingleLabelTuple, single_label_views}
-use Rattle.codespan_output.specs.Private.PointerLists.{pointer_style_if_any, pointer_under}
-use Rattle.codespan_output.specs.Private.PointerLists.{pointers_in}
 use Rattle.codespan_output.specs.Rows.{hanging_labels}
 use Rattle.codespan_output.specs.RowParts.{max_label_start, starts_in}
+use Rattle.codespan_output.specs.declared.char_metrics.Metrics.{Metrics}
+use Rattle.codespan_output.specs.declared.rows.pointer_cursor.Pointer.{Pointer}
+use Rattle.codespan_output.specs.Private.PointerLists.{pointer_style_if_any, pointer_under}
+use Rattle.codespan_output.specs.Private.PointerLists.{pointers_in}
 use Rattle.codespan_output.specs.Private.RowLabels.{AreHanging}
 use Rattle.codespan_renderer.specs.declared.term.renderer.cached.label_cursor.StartCursor.{StartCursor}
 use Rattle.codespan_renderer.specs.declared.term.renderer.char_metrics.CharMetrics.{CharMetrics}
 use Rattle.codespan_renderer.specs.Private.{HasPassedStarts, GoesOver, metrics_from, no_more}
 use Rattle.codespan_renderer.specs.Private.{preferred_style}
 use Rattle.codespan_renderer.proofs.PointerStyles.{pointer_is}
-use Rattle.codespan_output.proofs.Consecutive.{AreConsecutive, char_metrics-consecutive}
-use Rattle.codespan_output.proofs.SpacedPointers.{pointers-past}
+use Rattle.codespan_output.proofs.Characters.Consecutive.{AreConsecutive, char_metrics-consecutive}
+use Rattle.codespan_output.proofs.Pointers.Spaced.{pointers-past}
 
 -- two cursors have passed the labels of two lists that start before these characters
 pub record IsPassing (before after : List SingleLabelTuple) (s t : StartCursor)
@@ -46,19 +46,7 @@ pub passing-at : (before after : List SingleLabelTuple) (s t : StartCursor) (cs 
     (c : Metrics)
     → cs ≡ c ∷ left → IsPassing before after s t cs
     → IsPassingAt before after s t c left
-passing-at before after s t cs left c step w =
-    let consecutive : AreConsecutive w.byte_index w.column (c ∷ left) = rw step at w.consecutive
-    in
-    let here = consecutive.0 in
-    let at = consecutive.1 in
-    record {
-      some = consecutive.2;
-      early = rw here w.early;
-      late = rw here w.late;
-      same_early = w.same_early;
-      same_late = w.same_late;
-      consecutive = rw (here, at) consecutive.3;
-    }
+passing-at before after s t cs left c step w = grind (arith, common_steps)
 
 pub passing-more : (before after : List SingleLabelTuple) (s t u v : StartCursor) (c : Metrics)
     (left : List Metrics)
@@ -66,15 +54,7 @@ pub passing-more : (before after : List SingleLabelTuple) (s t u v : StartCursor
     → HasPassedStarts (c.byte_index + c.bytes) u → HasPassedStarts (c.byte_index + c.bytes) v
     → u.labels.now ≡ s.labels.now → v.labels.now ≡ t.labels.now
     → IsPassing before after u v left
-passing-more before after s t u v c left w early late same same2 = record {
-  byte_index = c.byte_index + c.bytes;
-  column = c.column + c.unicode_width;
-  early = early;
-  late = late;
-  same_early = same ∙ w.same_early;
-  same_late = same2 ∙ w.same_late;
-  consecutive = w.consecutive;
-}
+passing-more before after s t u v c left w early late same same2 = grind (arith, common_steps)
 
 -- the style that the two cursors find
 pub found-style : (labels before after bs ds : List SingleLabelTuple) (c : Metrics)
@@ -98,9 +78,7 @@ pub found-some : (labels : List LabelModel) (ps : List Pointer) (cs left : List 
     → pointer_style_if_any (hanging_labels labels) c ≡ Some style
     → (ps ++ pointer_under c style ∷ []) ++ pointers_in (hanging_labels labels)
     left ≡ ps ++ pointers_in (hanging_labels labels) cs
-found-some labels ps cs left c style step is =
-    rw (step, is)
-    (append_assoc ps (pointer_under c style ∷ []) (pointers_in (hanging_labels labels) left))
+found-some labels ps cs left c style step is = grind (arith, common_steps, append_assoc)
 
 -- none does
 pub found-none : (labels : List LabelModel) (ps : List Pointer) (cs left : List Metrics)
@@ -116,15 +94,8 @@ pub passing-start : (before after : List SingleLabelTuple) (s t : StartCursor) (
     → HasPassedStarts 0 s → HasPassedStarts 0 t → s.labels.now ≡ before
     → t.labels.now ≡ after
     → AreConsecutive 0 0 cs → IsPassing before after s t cs
-passing-start before after s t cs early late same_early same_late consecutive = record {
-  byte_index = 0;
-  column = 0;
-  early = early;
-  late = late;
-  same_early = same_early;
-  same_late = same_late;
-  consecutive = consecutive;
-}
+passing-start before after s t cs early late same_early same_late consecutive =
+    grind (arith, common_steps)
 
 -- ---- past the greatest start
 
@@ -136,10 +107,7 @@ pub pointers-past-at : (labels before after : List SingleLabelTuple) (s t : Star
     → greatest_start ≡ max_label_start (single_label_views labels)
     → pointers_in (hanging_labels (single_label_views labels)) cs ≡ []
 pointers-past-at labels before after s t greatest_start cs left c step w past e =
-    let consecutive : AreConsecutive w.byte_index w.column (c ∷ left) = rw step at w.consecutive
-    in
-    pointers-past (single_label_views labels) w.byte_index w.column cs w.consecutive
-    (omega (arith, e, past, consecutive.0))
+    grind (arith, common_steps, pointers-past)
 
 -- a scan has none left there
 scan-past : (labels : List LabelModel) (s : CharMetrics) → max_label_start labels < s.byte_index
@@ -153,7 +121,4 @@ pub scan-past-at : (labels : List LabelModel) (reach : ℕ) (c : Metrics) (old n
     → GoesOver c old new → reach < c.byte_index → reach ≡ max_label_start labels
     → (pointers_in (hanging_labels labels) (metrics_from no_more old) ≡ [])
     × (pointers_in (hanging_labels labels) (metrics_from no_more new) ≡ [])
-scan-past-at labels reach c old new over past far = (
-  scan-past labels old (omega (arith, over.starts_at_byte, past, far)),
-  scan-past labels new (omega (arith, over.starts_at_byte, over.byte_index, past, far)),
-)
+scan-past-at labels reach c old new over past far = grind (arith, common_steps, scan-past)

@@ -1,31 +1,28 @@
 -- For `next_pointer` and `find_pointers`: the style of a pointer.
 use Rattle.codespan_core.proofs.Std.{◌≡◌, ℕ, suc, ◌+◌, ◌<◌, Bool, true, false, cond}
 use Rattle.codespan_core.proofs.Std.{◌==◌, ◌&&◌, ◌||◌, List, [], ◌∷◌, ◌++◌}
-use Rattle.codespan_core.proofs.Std.{length, get_or, drop, filter, fold, Option, Some, None, refl}
-use Rattle.codespan_core.proofs.Std.{sym, ap, ◌∙◌, drop-cons, add-one, not}
-use Rattle.codespan_core.proofs.Std.{if◌then◌else◌, list_any, filter-append, fold-append}
+use Rattle.codespan_core.proofs.Std.{length, get_or, drop, filter, Option, Some, None, refl, sym}
+use Rattle.codespan_core.proofs.Std.{ap, ◌∙◌, drop-cons, add-one, not, if◌then◌else◌}
+use Rattle.codespan_core.proofs.Std.{list_any, filter-append, fold-append, arith, common_steps}
 use Rattle.codespan_core.specs.Labels.{LabelModel, has_message, is_primary, is_primary_style}
 use Rattle.codespan_output.specs.Types.{LabelStyle, Primary, Secondary}
-use Rattle.codespan_output.specs.declared.char_metrics.Metrics.{Metrics}
 use Rattle.codespan_output.specs.Arguments.{SingleLabelTuple, single_label_view, single_label_views}
 use Rattle.codespan_output.specs.Rows.{hanging_labels}
-use Rattle.codespan_output.specs.RowParts.{starts_in, pointer_style}
-use Rattle.codespan_output.specs.Private.PointerLists.{pointer_style_if_any}
+use Rattle.codespan_output.specs.RowParts.{starts_in}
+use Rattle.codespan_output.specs.declared.char_metrics.Metrics.{Metrics}
+use Rattle.codespan_output.specs.Private.PointerLists.{pointer_style_if_any, pointer_style}
 use Rattle.codespan_output.specs.Private.RowLabels.{AreHanging}
 use Rattle.codespan_renderer.specs.Private.{prefer_primary, preferred_style}
 use Rattle.codespan_renderer.proofs.PreferredStyles.{preferred-cons, preferred-primary}
-use Rattle.codespan_output.proofs.TrailingLabel.{is_empty_bytes}
-use Rattle.codespan_output.proofs.Hanging.{hanging_parts}
+use Rattle.codespan_output.proofs.Messages.TrailingLabel.{is_empty_bytes}
+use Rattle.codespan_output.proofs.Messages.Hanging.{hanging_parts}
 
 -- ---- the style of a pointer
 
 -- the preferred style of two lists
 preferred-append : (p : LabelModel → Bool) (found : Option LabelStyle) (xs ys : List LabelModel)
     → preferred_style p found (xs ++ ys) ≡ preferred_style p (preferred_style p found xs) ys
-preferred-append p found xs ys =
-    let step = λ (best : Option LabelStyle) (x : LabelModel). prefer_primary best x.style in
-    ap (fold step found) (filter-append p xs ys)
-    ∙ fold-append step found (filter p xs) (filter p ys)
+preferred-append p found xs ys = grind (arith, common_steps, filter-append, fold-append)
 
 -- after a secondary style only a primary one counts
 preferred-after_secondary : (c : Metrics) (xs : List LabelModel)

@@ -1,7 +1,7 @@
 -- For `Renders` of the `render_` calls: what rows wrote through the row writer came to the
 -- renderer's writer.
 use Rattle.codespan_core.proofs.Std.{◌≡◌, ℕ, List, [], ◌∷◌, ap, sym, ◌∙◌}
-use Rattle.codespan_core.proofs.Std.{Result, Ok, Err, IfErr}
+use Rattle.codespan_core.proofs.Std.{Result, Ok, Err, IfErr, arith, common_steps}
 use Rattle.std.specs.Borrow.{GName}
 use Rattle.codespan_core.specs.Errors.{IsIo}
 use Rattle.codespan_core.specs.Streams.{Stream}
@@ -47,11 +47,7 @@ pub writes_before : {E : Type 0} (n m : GName) (s : Sink) (items : Stream) (r : 
     → Writes (sink_through n s) items r (sink_through m t) → Writes s items r t
 unfolding with_written is_known rest_of
 writes_before n m s items (Ok x) t p = (ap frame_before p.0, λ known. ap sink_before (p.1 known))
-writes_before n m s items (Err x) t p = (
-  ap frame_before p.0,
-  λ known. let q = p.1 known in
-      record { prefix = q.prefix; rest = q.rest; whole = q.whole; contents = q.contents },
-)
+writes_before n m s items (Err x) t p = grind (arith, common_steps)
 
 -- frames that are equal behind references are equal
 pub same_frame : (n m : GName) (s t : Sink)
@@ -62,28 +58,20 @@ same_frame n m s t p = ap frame_before p
 -- and the references are the same
 pub same_head : (n m : GName) (s t : Sink)
     → (sink_through m t).frame ≡ (sink_through n s).frame → m ≡ n
-same_head n m s t p =
-    let e : (m ∷ t.frame.borrows)
-    ≡ (n ∷ s.frame.borrows) = ap (λ (f : Frame). f.borrows) p in
-    cc
+same_head n m s t p = grind (arith, common_steps)
 
 -- what was written behind a reference was written behind the same one
 pub same_reference : {E : Type 0} (n m : GName) (s : Sink) (items : Stream)
     (r : Result (Unit {0}) E) (t : Sink)
     → Writes (sink_through n s) items r (sink_through m t) → m ≡ n
 same_reference n m s items (Ok x) t p = same_head n m s t p.0
-same_reference n m s items (Err x) t p =
-    let e : (m ∷ t.frame.borrows)
-    ≡ (n ∷ s.frame.borrows) = ap (λ (f : Frame). f.borrows) p.0 in
-    cc
+same_reference n m s items (Err x) t p = grind (arith, common_steps)
 
 -- equal contexts and equal lines make equal rows
 pub same_rows : (context other : RowContext) (line second : Line) → context ≡ other
     → line ≡ second
     → stream_of_rows context (rows_of line) ≡ stream_of_rows other (rows_of second)
-same_rows context other line second e h =
-    ap (λ (l : RowContext). stream_of_rows l (rows_of line)) e
-    ∙ ap (λ (x : Line). stream_of_rows other (rows_of x)) h
+same_rows context other line second e h = grind (arith, common_steps)
 
 -- the writer comes back from the row writer that has written a stream, and has received it
 pub renders : {W E : Type 0} (sink : W → Sink) (items others : Stream) (old new : Renderer W)

@@ -13,7 +13,7 @@ use Rattle.codespan_output.specs.Private.LineCharacters.{EndBy}
 use Rattle.codespan_output.specs.Private.RowLabels.{least_start}
 use Rattle.codespan_renderer.specs.declared.term.renderer.char_metrics.CharMetrics.{CharMetrics}
 use Rattle.codespan_renderer.specs.Private.{metrics_from, no_more, AreCached}
-use Rattle.codespan_output.proofs.Consecutive.{AreConsecutive, char_metrics-consecutive}
+use Rattle.codespan_output.proofs.Characters.Consecutive.{AreConsecutive, char_metrics-consecutive}
 use Rattle.codespan_renderer.proofs.WidthSearch.{consecutive-front, consecutive-low}
 
 -- the characters before one that begins at a byte index or before it end by that index

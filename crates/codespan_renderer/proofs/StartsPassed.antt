@@ -2,14 +2,14 @@
 -- passes them.
 use Rattle.codespan_core.proofs.Std.{◌≡◌, ℕ, ◌+◌, ◌<◌, ◌≤◌, Bool, true, false}
 use Rattle.codespan_core.proofs.Std.{cond, ◌==◌, nat_lt, nat_le, List, [], ◌∷◌, length}
-use Rattle.codespan_core.proofs.Std.{drop, get_or, filter, Option, refl, sym, ◌∙◌, arith, not}
-use Rattle.codespan_core.proofs.Std.{if◌then◌else◌, and_parts, nat_tests}
+use Rattle.codespan_core.proofs.Std.{drop, get_or, filter, Option, refl, ◌∙◌, arith, not}
+use Rattle.codespan_core.proofs.Std.{if◌then◌else◌, and_parts, nat_tests, common_steps}
 use Rattle.codespan_core.specs.Labels.{LabelModel, has_message}
 use Rattle.codespan_output.specs.Types.{LabelStyle}
-use Rattle.codespan_output.specs.declared.char_metrics.Metrics.{Metrics}
 use Rattle.codespan_output.specs.Arguments.{SingleLabelTuple, single_label_view, single_label_views}
 use Rattle.codespan_output.specs.Arguments.{starts_from}
 use Rattle.codespan_output.specs.RowParts.{starts_in}
+use Rattle.codespan_output.specs.declared.char_metrics.Metrics.{Metrics}
 use Rattle.codespan_renderer.specs.Private.{prefer_primary, preferred_style}
 use Rattle.codespan_renderer.proofs.PreferredStyles.{preferred-cons}
 use Rattle.codespan_renderer.proofs.PointerStyles.{preferred-step}
@@ -44,13 +44,7 @@ pub start-before : (c : Metrics) (found : Option LabelStyle) (ys xs : List Singl
     ≡ preferred_style (starts_in c) found
     (filter has_message (single_label_views (drop (i + 1) ys)))
 start-before c found ys xs i d byte_index same h low past =
-    let outside : starts_in c (single_label_view (get_or xs i d)) ≡ false =
-    grind (arith, nat_tests) in
-    let empty = length (get_or xs i d).2.now == 0 in
-    rw same
-    (sym
-    (preferred-step c found found xs i d empty h refl
-    (rw outside (same-found (not empty) found))))
+    grind (arith, common_steps, preferred-step, same-found)
 
 -- labels that start after the character
 pub none-start : (c : Metrics) (found : Option LabelStyle) (byte_index : ℕ) (xs : List LabelModel)

@@ -1,8 +1,7 @@
 -- For `put` of `Renderer` and `RowWriter`, the `set_` calls and `reset` of `Renderer`, and
 -- `put_mark` of `RowWriter`: a writer behind a reference takes what the writer takes.
-use Rattle.codespan_core.proofs.Std.{◌≡◌, ℕ, Bool, true, false, cond, List, ◌∷◌}
-use Rattle.codespan_core.proofs.Std.{length, refl, ap, ◌∙◌, Result, Ok, Err, ◌==◌}
-use Rattle.codespan_core.proofs.Std.{◌&&◌, nat_lt}
+use Rattle.codespan_core.proofs.Std.{◌≡◌, ℕ, Bool, true, false, cond, List, ◌∷◌, refl}
+use Rattle.codespan_core.proofs.Std.{ap, Result, Ok, Err, arith, common_steps}
 use Rattle.std.specs.Borrow.{GName}
 use Rattle.codespan_core.specs.Streams.{Stream}
 use Rattle.codespan_core.specs.WriterLaw.{Sink, Frame, is_known, failed_frame, with_written}
@@ -11,8 +10,7 @@ use Rattle.codespan_renderer.specs.{sink_through}
 
 prefix_through : (name : GName) (s : Sink) (items : Stream) (t : Sink) → PrefixWritten s items t
     → PrefixWritten (sink_through name s) items (sink_through name t)
-prefix_through name s items t p =
-    record { prefix = p.prefix; rest = p.rest; whole = p.whole; contents = p.contents }
+prefix_through name s items t p = grind (arith, common_steps)
 
 abbrev frame_through : GName → Frame → Frame
 frame_through name f = record f { borrows = name ∷ f.borrows }
@@ -22,10 +20,8 @@ pub writes_through : {E : Type 0} (name : GName) (s : Sink) (items : Stream)
     (r : Result (Unit {0}) E) (t : Sink)
     → Writes s items r t → Writes (sink_through name s) items r (sink_through name t)
 unfolding with_written is_known
-writes_through name s items (Ok x) t p =
-    (ap (frame_through name) p.0, λ known. ap (sink_through name) (p.1 known))
-writes_through name s items (Err x) t p =
-    (ap (frame_through name) p.0, λ known. prefix_through name s items t (p.1 known))
+writes_through name s items (Ok x) t p = grind (arith, common_steps)
+writes_through name s items (Err x) t p = grind (arith, common_steps, prefix_through)
 
 flag_through : (name : GName) (f : Frame) (b : Bool)
     → frame_through name (cond b (failed_frame f) f)
@@ -39,8 +35,5 @@ pub puts_through : {E : Type 0} (name : GName) (s : Sink) (bs : List ℕ) (r : R
     (t : Sink)
     → Puts s bs r t → Puts (sink_through name s) bs r (sink_through name t)
 unfolding is_known
-puts_through name s bs (Ok n) t p = (
-  ap (frame_through name) p.0 ∙ flag_through name s.frame (n == 0 && nat_lt 0 (length bs)),
-  p.1,
-)
+puts_through name s bs (Ok n) t p = grind (arith, common_steps, flag_through)
 puts_through name s bs (Err x) t p = (ap (frame_through name) p.0, p.1)

@@ -3,7 +3,7 @@
 use Rattle.codespan_core.proofs.Std.{◌≡◌, ℕ, zero, suc, ◌+◌, ◌<◌, ◌≤◌, true}
 use Rattle.codespan_core.proofs.Std.{false, List, [], ◌∷◌, ◌++◌, length, get_or, leb}
 use Rattle.codespan_core.proofs.Std.{refl, sym, ap, subst, arith, lt-leb, len_utf8_bounds, len_utf8}
-use Rattle.codespan_core.proofs.Std.{nat_le, chars, nat_tests}
+use Rattle.codespan_core.proofs.Std.{nat_le, chars, nat_tests, common_steps}
 use Rattle.std.specs.List.Sorted.{IsPartitionPoint}
 use Rattle.std.specs.Str.Iter.{chars_rest}
 use Rattle.codespan_output.specs.declared.char_metrics.Metrics.{Metrics}
@@ -12,9 +12,9 @@ use Rattle.codespan_output.specs.CharMetrics.{width_at}
 use Rattle.codespan_output.specs.RowParts.{metrics_up_to}
 use Rattle.codespan_renderer.specs.declared.term.renderer.char_metrics.CharMetrics.{CharMetrics}
 use Rattle.codespan_renderer.specs.Private.{metrics_from, no_more, AreCached}
-use Rattle.codespan_output.proofs.Consecutive.{AreConsecutive, char_metrics-consecutive}
-use Rattle.codespan_output.proofs.Consecutive.{none-before}
-use Rattle.codespan_output.proofs.Widths.{width-in}
+use Rattle.codespan_output.proofs.Characters.Consecutive.{AreConsecutive, char_metrics-consecutive}
+use Rattle.codespan_output.proofs.Characters.Consecutive.{none-before}
+use Rattle.codespan_output.proofs.Characters.Widths.{width-in}
 
 -- the default of `get_or`, for an index past the end of the list
 abbrev pub default_metrics : Metrics
@@ -27,8 +27,7 @@ pub consecutive-low : (byte_index column : ℕ) (cs : List Metrics) (j : ℕ) (d
     → AreConsecutive byte_index column cs → j < length cs
     → byte_index ≤ (get_or cs j d).byte_index
 consecutive-low byte_index column [] j d adjacent h = absurd (omega arith)
-consecutive-low byte_index column (c ∷ cs) zero d adjacent h = let here = adjacent.0 in omega
-    arith
+consecutive-low byte_index column (c ∷ cs) zero d adjacent h = grind (arith, common_steps)
 consecutive-low byte_index column (c ∷ cs) (suc j) d adjacent h =
     let more = consecutive-low (byte_index + c.bytes) (column + c.unicode_width) cs j d adjacent.3
     (omega arith) in
@@ -41,8 +40,7 @@ pub consecutive-ascends : (byte_index column : ℕ) (cs : List Metrics) (d : Met
     → (get_or cs i d).byte_index ≤ (get_or cs j d).byte_index
 consecutive-ascends byte_index column [] d adjacent i j low h = absurd (omega arith)
 consecutive-ascends byte_index column (c ∷ cs) d adjacent zero j low h =
-    let here = adjacent.0 in
-    let more = consecutive-low byte_index column (c ∷ cs) j d adjacent h in omega arith
+    grind (arith, common_steps, consecutive-low)
 consecutive-ascends byte_index column (c ∷ cs) d adjacent (suc i) zero low h = absurd
     (omega arith)
 consecutive-ascends byte_index column (c ∷ cs) d adjacent (suc i) (suc j) low h =
@@ -88,11 +86,7 @@ pub width-cut : (byte_index from column : ℕ) (d : Metrics) (xs ys : List Metri
     → (get_or xs next d).column ≡ column + width_of (metrics_up_to byte_index (xs ++ ys))
 width-cut byte_index from column d [] ys next adjacent h low high = absurd (omega arith)
 width-cut byte_index from column d (x ∷ xs) ys zero adjacent h low high =
-    let here = adjacent.0 in
-    let at = adjacent.1 in
-    let none =
-    ap width_of (past-none byte_index from column (x ∷ xs ++ ys) adjacent (omega arith)) in
-    omega (arith, none, at)
+    grind (arith, common_steps, past-none)
 width-cut byte_index from column d (x ∷ xs) ys (suc next) adjacent h low high =
     let rest =
     width-cut byte_index (from + x.bytes) (column + x.unicode_width) d xs ys next adjacent.3

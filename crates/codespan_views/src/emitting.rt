@@ -31,11 +31,9 @@ const INITIAL_CAPACITY: usize = 1024;
 /// - Any other error: that of the first lookup that fails.
 ///
 /// Nothing is looked up without labels, and in short and medium style without primary labels. The
-/// order of the lookups is this project's own; `docs/CONTRACTS.md` states it.
+/// order of the lookups is this project's own; the page on contracts states it.
 ///
 /// # Example
-///
-/// The test `quick_start` of `crates/codespan_tests` has this code.
 ///
 /// ```rust
 /// let mut files = SimpleFiles::new(alloc);
@@ -94,8 +92,7 @@ pub fn emit_into_string<'files, F: Files<'files>>(
 ///
 /// # Example
 ///
-/// The test `bare_bug` of `crates/codespan_tests` makes this call, with a string that has a prefix,
-/// and `docs/USING.md` has a proved caller.
+/// The string has a prefix here. The guide on using the library has a proved caller.
 ///
 /// ```rust
 /// let mut string = prefix.to_string(alloc)?;
@@ -138,8 +135,6 @@ pub fn emit_to_string<'files, F: Files<'files>>(
 ///
 /// # Example
 ///
-/// The module `preview` of `crates/examples` has this code.
-///
 /// ```rust
 /// let config = Config {
 ///     display_style,
@@ -170,7 +165,7 @@ pub fn emit_to_io_write<'files, F: Files<'files>, W: Write>(
 ///
 /// # Example
 ///
-/// The module `preview` of `crates/examples` has this code, which writes in color.
+/// This writes in color.
 ///
 /// ```rust
 /// let styles = Styles::default();

@@ -34,8 +34,7 @@ use std::convert::AsStr;
 ///
 /// # Example
 ///
-/// The test `bare_views` of `crates/codespan_tests` does the same. It writes the line `bug: ` and
-/// an empty line.
+/// This writes the line `bug: ` and an empty line.
 ///
 /// ```rust
 /// let bug = Diagnostic::bug(alloc);

@@ -19,7 +19,7 @@ use codespan_renderer::term::renderer::Renderer;
 ///
 /// # Example
 ///
-/// The test `bare_views` of `crates/codespan_tests` does the same. It writes the line `bug: `.
+/// This writes the line `bug: `.
 ///
 /// ```rust
 /// let bug = Diagnostic::bug(alloc);

@@ -1,8 +1,11 @@
 -- What the rows of a line are rendered from, by the structs of `rows::line` and the enum of
 -- `rows::lanes`.
-use Rattle.std.specs.Prelude.{ℕ, Option}
+use Rattle.std.specs.Prelude.{ℕ, flat_map, Option}
+use Rattle.std.specs.List.{range_with_len}
 use Rattle.std.specs.Option.{option_map}
+use Rattle.codespan_core.specs.Labels.{LaneMark, MultiLabel}
 use Rattle.codespan_core.specs.Streams.{Stream}
+use Rattle.codespan_output.specs.declared.lane_shapes.Shape.{Shape}
 use Rattle.codespan_output.specs.declared.rows.lanes.LaneRowKind.{LaneRowKind as RustLaneRowKind}
 use Rattle.codespan_output.specs.declared.rows.lanes.LaneRowKind.TheVariants as rust_variant
 use Rattle.codespan_output.specs.declared.rows.line.RowContext as rust_context
@@ -11,9 +14,10 @@ use Rattle.codespan_output.specs.declared.rows.line.Line as rust_line
 use Rattle.codespan_output.specs.Arguments.{LaneMarkTuple, single_label_views, lanes_of}
 use Rattle.codespan_output.specs.Arguments.{lane_mark_view}
 use Rattle.codespan_output.specs.Lanes.{LaneRowKind, Source, EmptyOrBreak, SingleLabels, Underline}
-use Rattle.codespan_output.specs.Lanes.{row_shape, row_crossing}
+use Rattle.codespan_output.specs.Lanes.{row_shape, row_crossing, lane_mark_in, shape_of}
+use Rattle.codespan_output.specs.Lanes.{style_of_lane_mark, lane_characters}
 use Rattle.codespan_output.specs.Rows.{RowContext, Lanes, Line}
-use Rattle.codespan_output.specs.RowParts.{inner_gutter_column, inner_gutter}
+use Rattle.codespan_output.specs.RowParts.{inner_gutter}
 
 -- what all rows of an output are rendered by
 abbrev pub context_view : rust_context.RowContext → RowContext
@@ -45,6 +49,22 @@ lane_row_kind_view rust_variant.EmptyOrBreak = EmptyOrBreak
 lane_row_kind_view rust_variant.SingleLabels = SingleLabels
 lane_row_kind_view (rust_variant.Underline corner_lane style multi_label) =
     Underline (lane_mark_view (corner_lane, style, multi_label))
+
+-- one lane, from the lane mark in it
+abbrev pub inner_gutter_column : RowContext → Option LaneMark → (MultiLabel → Shape)
+    → Option LaneMark → Stream
+inner_gutter_column context crossing shape lane_mark =
+    lane_characters context.severity context.chars crossing (style_of_lane_mark lane_mark)
+    (shape_of shape lane_mark)
+
+-- the lanes from left to right, by what crosses each, and what a lane mark shows in it
+abbrev pub lanes_in : RowContext → (ℕ → Option LaneMark) → (ℕ → MultiLabel → Shape)
+    → Lanes → Stream
+lanes_in context crossing shape lanes =
+    flat_map
+    (λ lane.
+    inner_gutter_column context (crossing lane) (shape lane) (lane_mark_in lanes.lane_marks lane))
+    (range_with_len 0 lanes.count)
 
 -- one lane of a kind of row, from the lane mark in it
 unfoldable pub row_lane_stream : RowContext → ℕ → RustLaneRowKind → ℕ

@@ -11,7 +11,7 @@ use Rattle.codespan_output.specs.CharMetrics.{char_metrics_to_end}
 use Rattle.codespan_output.specs.Arguments.{SingleLabelTuple, LaneMarkTuple, single_label_view}
 use Rattle.codespan_output.specs.Arguments.{single_label_views, lane_mark_view}
 use Rattle.codespan_output.specs.Lanes.{crossing_characters, label_glyph}
-use Rattle.codespan_output.specs.Rows.{caret_rows, hanging_labels, pointer_and_hanging_rows}
+use Rattle.codespan_output.specs.Rows.{hanging_labels}
 use Rattle.codespan_output.specs.RowParts.{carets, outer_gutter, label_message}
 use Rattle.codespan_output.specs.RowStreams.{stream_of_rows}
 use Rattle.codespan_output.specs.declared.rows.line.RowContext as rust_context
@@ -20,6 +20,7 @@ use Rattle.codespan_output.specs.Private.LineViews.{context_view, line_view}
 use Rattle.codespan_output.specs.Private.RowLabels.{hanging_stream}
 use Rattle.codespan_output.specs.Private.PointerLists.{pointers_before, spaced}
 use Rattle.codespan_output.specs.Private.LineCharacters.{char_input, pointers_of}
+use Rattle.codespan_output.specs.Private.LineRows.{caret_rows, pointer_and_hanging_rows}
 
 -- ---- the lanes of a row
 

@@ -154,7 +154,7 @@ fn write_lane_characters<W: PutStyle>(
 }
 
 /// Writes the two characters of a lane, by the kind of the row and the lane mark in the lane.
-#[tactic(auto, unfolding(crate::specs::RowParts::inner_gutter_column, crate::specs::Private::LineViews::row_lane_stream))]
+#[tactic(auto, unfolding(crate::specs::Private::LineViews::row_lane_stream))]
 fn inner_gutter_column<W: PutStyle>(
     w: &mut W,
     context: RowContext<'_>,
@@ -179,7 +179,7 @@ fn inner_gutter_column<W: PutStyle>(
 
 /// Returns the lane mark at the index `next`, if it is in the lane, and the index of the first lane
 /// mark of a later lane.
-#[tactic(auto, using(crate::proofs::LaneCursor::taking))]
+#[tactic(auto, using(crate::proofs::Lanes::Cursor::taking))]
 fn take_lane_mark<'d>(
     lane_marks: &[(usize, LabelStyle, MultiLabel<'d>)],
     next: usize,

@@ -5,9 +5,8 @@ ghost use Rattle.codespan_output.specs.CharMetrics.{width_of};
 ghost use Rattle.codespan_output.specs.Arguments.{single_label_views};
 ghost use Rattle.codespan_output.specs.RowParts.{metrics_before, metrics_up_to};
 ghost use Rattle.codespan_output.specs.Private.RowLabels.{least_start};
-ghost use Rattle.codespan_output.specs.Private.LineCharacters.{CharInput, LeavesOut};
-ghost use Rattle.codespan_output.specs.Private.LineCharacters.{metrics_of, metrics_to_end_of};
-ghost use Rattle.codespan_output.specs.Private.LineCharacters.{pointers_of};
+ghost use Rattle.codespan_output.specs.Private.LineCharacters.{CharInput, LeavesOut, metrics_of};
+ghost use Rattle.codespan_output.specs.Private.LineCharacters.{metrics_to_end_of, pointers_of};
 
 use crate::rows::char_cursor::CharCursor;
 use crate::rows::pointer_cursor::PointerCursor;
@@ -48,7 +47,7 @@ pub trait LineCharacters {
         ensures { result ≡ width_of (metrics_up_to byte_index (metrics_of (input self.now))) };
 
     /// Returns how many cells the characters that begin before this byte index occupy.
-    #[tactic(auto, using(crate::proofs::Widths::widths_before))]
+    #[tactic(auto, using(crate::proofs::Characters::Widths::widths_before))]
     fn width_before(&self, byte_index: usize) -> u128
         ensures { result ≡ width_of (metrics_before byte_index (metrics_of (input self.now))) }
     {

@@ -7,7 +7,8 @@ ghost use Rattle.codespan_core.specs.Labels.{has_message};
 ghost use Rattle.codespan_output.specs.Arguments.{single_label_view, single_label_views};
 ghost use Rattle.codespan_output.specs.Private.RowLabels.{optional_label_view, indexed_label_view};
 ghost use Rattle.codespan_output.specs.Private.RowLabels.{AreHanging, ArePrefixAndSuffix};
-ghost use Rattle.codespan_output.specs.Rows.{last_with_end, overlaps_any, does_trail};
+ghost use Rattle.codespan_output.specs.Private.LabelIndices.{last_with_end, overlaps_any};
+ghost use Rattle.codespan_output.specs.Private.LabelIndices.{does_trail};
 ghost use Rattle.codespan_output.specs.Rows as of_line;
 ghost use Rattle.std.proofs.Props.{props};
 

@@ -5,9 +5,9 @@ ghost use Rattle.std.specs.Str.Lines.{lines};
 ghost use Rattle.codespan_core.specs.Streams.{newline};
 ghost use Rattle.codespan_core.specs.WriterLaw.{Writes};
 ghost use Rattle.codespan_output.specs.Private.LineViews.{context_view, lanes_view};
-ghost use Rattle.codespan_output.specs.RowStreams.{empty_row, break_row};
 ghost use Rattle.codespan_output.specs.Private.WrittenParts.{note_row_stream};
 ghost use Rattle.codespan_output.specs.RenderedRows.{note_stream};
+ghost use Rattle.codespan_output.specs.Private.LineRows.{empty_row, break_row};
 
 use crate::rows::lanes::{LaneRowKind, inner_gutter};
 use crate::rows::line::{Lanes, RowContext};

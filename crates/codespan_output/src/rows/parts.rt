@@ -8,7 +8,7 @@ ghost use Rattle.codespan_output.specs.Arguments.{locus_view};
 ghost use Rattle.codespan_output.specs.Private.LineViews.{context_view, line_view};
 ghost use Rattle.codespan_output.specs.RowParts.{outer_gutter, outer_gutter_number};
 ghost use Rattle.codespan_output.specs.RowParts.{snippet_locus, style_change};
-ghost use Rattle.codespan_output.specs.RowStreams.{row_start};
+ghost use Rattle.codespan_output.specs.Private.LineRows.{row_start};
 
 use crate::arguments::Locus;
 use crate::padding::count_digits;

@@ -10,7 +10,7 @@ ghost use Rattle.codespan_output.specs.Private.WrittenParts.{pointers_before_str
 ghost use Rattle.codespan_output.specs.Private.WrittenParts.{hanging_rows_stream};
 ghost use Rattle.codespan_output.specs.Private.WrittenParts.{pointer_and_hanging_rows_stream};
 ghost use Rattle.codespan_output.specs.RowParts.{max_label_start};
-ghost use Rattle.codespan_output.specs.RowStreams.{pointer_row, hanging_row};
+ghost use Rattle.codespan_output.specs.Private.LineRows.{pointer_row, hanging_row};
 
 use crate::arguments::SingleLabel;
 use crate::char_metrics::Metrics;

@@ -5,7 +5,7 @@ ghost use Rattle.codespan_core.specs.Streams.{byte_stream, newline};
 ghost use Rattle.codespan_core.specs.WriterLaw.{Writes};
 ghost use Rattle.codespan_output.specs.Private.LineViews.{context_view, line_view};
 ghost use Rattle.codespan_output.specs.RowParts.{style_change, colored_text};
-ghost use Rattle.codespan_output.specs.RowStreams.{source_row};
+ghost use Rattle.codespan_output.specs.Private.LineRows.{source_row};
 
 use crate::rows::char_cursor::CharCursor;
 use crate::rows::lanes::{LaneRowKind, inner_gutter};

@@ -9,9 +9,9 @@ ghost use Rattle.codespan_output.specs.Private.LineViews.{context_view, line_vie
 ghost use Rattle.codespan_output.specs.Private.Underlines.{underline_by_width, underline_width};
 ghost use Rattle.codespan_output.specs.Private.Underlines.{underline_caret, width_if_any};
 ghost use Rattle.codespan_output.specs.Private.LineCharacters.{metrics_of};
-ghost use Rattle.codespan_output.specs.Rows.{underline_rows};
+ghost use Rattle.codespan_output.specs.Private.LineRows.{underline_rows, underline_row};
 ghost use Rattle.codespan_output.specs.RowParts.{underline_message};
-ghost use Rattle.codespan_output.specs.RowStreams.{underline_row, stream_of_rows};
+ghost use Rattle.codespan_output.specs.RowStreams.{stream_of_rows};
 
 use crate::arguments::MultiLabel;
 use crate::rows::lanes::{LaneRowKind, inner_gutter};
@@ -39,7 +39,7 @@ fn underline_caret(chars: &Chars<'_>, style: LabelStyle, multi_label: MultiLabel
 }
 
 /// Writes a space and the message, or nothing where the message is empty.
-#[tactic(auto, using(codespan_core::proofs::Writes::write_chains, crate::proofs::UnderlineRows::underline_messages))]
+#[tactic(auto, using(codespan_core::proofs::Writes::write_chains, crate::proofs::Lanes::UnderlineRows::underline_messages))]
 fn write_underline_message<W: PutStyle>(w: &mut W, message: &str) -> Result<(), W::Error>
     ensures { Writes (W.sink w.old) (underline_message (byte_stream message.now)) result
         (W.sink w.new) }

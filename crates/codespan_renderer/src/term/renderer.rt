@@ -4,7 +4,7 @@ ghost use Rattle.std.specs.Prelude.{◌≡◌};
 ghost use Rattle.codespan_output.specs.Arguments.{lanes_in_order};
 
 pub mod cached;
-mod char_metrics;
+pub mod char_metrics;
 mod label_styles;
 pub mod row_writer;
 mod scanned_line;

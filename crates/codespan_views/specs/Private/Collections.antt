@@ -6,12 +6,12 @@ use Rattle.std.specs.List.Sorted.{IsPermutation, IsSortedBy}
 use Rattle.codespan_core.specs.FileModel.{FileDatabase, FileModel}
 use Rattle.codespan_output.specs.Types.{Config}
 use Rattle.codespan_output.specs.Snippets.{LabelInFile, file_ids, labeled_file_model}
-use Rattle.codespan_output.specs.Snippets.{num_multi_labels}
 use Rattle.codespan_views.specs.Private.Types.{Collected}
 use Rattle.codespan_views.specs.Private.Annotations.{Annotation, IsOfFiles, annotation_view}
 use Rattle.codespan_views.specs.Private.Annotations.{is_before}
 use Rattle.codespan_views.specs.Private.LabelAnnotations.{annotations_of, label_digit_counts}
 use Rattle.codespan_views.specs.Private.LabeledFiles.{AreLabeledFiles, ids_view, index_of_file}
+use Rattle.codespan_output.specs.Private.LineRows.{num_multi_labels}
 
 module _ {Id : Type 0} (same : Id → Id → Bool) (file : Id → FileModel) where
   -- the annotations of a label that comes after these, where the files have these ids

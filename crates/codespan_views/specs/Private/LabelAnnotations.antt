@@ -6,13 +6,15 @@ use Rattle.std.specs.List.{range_with_len}
 use Rattle.std.specs.Option.{option_map}
 use Rattle.codespan_core.specs.FileModel.{FileModel, line_count, line_start, Lookup}
 use Rattle.codespan_core.specs.Labels.{LabelModel, MultiLabel, first_line, last_line, lane_mark_of}
-use Rattle.codespan_core.specs.Labels.{from_line_start, multi_label_at}
+use Rattle.codespan_core.specs.Labels.{from_line_start}
 use Rattle.codespan_output.specs.Types.{Config}
 use Rattle.codespan_output.specs.Lines.{shows, spans}
 use Rattle.codespan_output.specs.Lookups.{looked_up_lines, is_looked_up, line_lookups}
 use Rattle.codespan_output.specs.Padding.{count_digits}
 use Rattle.codespan_views.specs.Private.Annotations.{Annotation, AnnotationKind, Shown, Single}
 use Rattle.codespan_views.specs.Private.Annotations.{Multi, annotation_if_any}
+use Rattle.codespan_core.specs.Labels.{Top, Left, Bottom}
+use Rattle.std.specs.Prelude.{◌-◌, nat_lt}
 
 -- ---- the lines on which a label starts and ends
 
@@ -27,6 +29,14 @@ abbrev pub kind_by_ends : Config → ℕ → ℕ → ℕ → ℕ → ℕ → Lab
 kind_by_ends config index first last l start x =
     if (first == last) && (first == l) then Some (Single index (from_line_start start x))
     else if shows config first last l then Some Shown else None
+
+-- what a label from line `first` to line `last` does on line `l`, as `multi_label_on` says it
+abbrev pub multi_label_at : ℕ → ℕ → ℕ → ℕ → LabelModel → Option MultiLabel
+multi_label_at first last l start x =
+    if first == l then Some (Top (x.start - start))
+    else if last == l then Some (Bottom (x.end - start) x.message)
+    else if nat_lt first l && nat_lt l last then Some Left
+    else None
 
 -- its multi-line label mark there, if it is a multi-line label that has one
 abbrev pub multi_label_by_ends : ℕ → ℕ → ℕ → ℕ → LabelModel → Option MultiLabel

@@ -5,9 +5,10 @@ use Rattle.std.specs.List.{AllByRecursion, list_any, position_or_len}
 use Rattle.codespan_core.specs.FileModel.{FileModel}
 use Rattle.codespan_output.specs.Arguments.{locus_view}
 use Rattle.codespan_output.specs.Rows.{Locus}
-use Rattle.codespan_output.specs.Snippets.{LabelInFile, labeled_file_model, num_multi_labels}
+use Rattle.codespan_output.specs.Snippets.{LabelInFile, labeled_file_model}
 use Rattle.codespan_views.specs.Private.Types.{RustFile, LeastStarts}
 use Rattle.codespan_views.specs.Private.Loci.{file_least_starts}
+use Rattle.codespan_output.specs.Private.LineRows.{num_multi_labels}
 
 -- ---- the ids of files, each at its index
 

@@ -9,10 +9,11 @@ use Rattle.codespan_core.specs.FileModel.{FileModel, Lookup}
 use Rattle.codespan_core.specs.Labels.{LabelModel, is_primary}
 use Rattle.codespan_output.specs.Arguments.{locus_view}
 use Rattle.codespan_output.specs.Lookups.{lookups_of_file}
-use Rattle.codespan_output.specs.OutputStreams.{IsLocus, label_locus_byte, snippet_locus_byte}
+use Rattle.codespan_output.specs.OutputStreams.{IsLocus}
 use Rattle.codespan_output.specs.Rows.{Locus}
 use Rattle.codespan_output.specs.Snippets.{LabelInFile, LabeledFileModel}
 use Rattle.codespan_views.specs.Private.Types.{LeastStarts, RustFile}
+use Rattle.codespan_output.specs.Private.LocusBytes.{snippet_locus_byte, label_locus_byte}
 
 -- the least of some numbers, if there is one
 abbrev pub least_if_any : List ℕ → Option ℕ

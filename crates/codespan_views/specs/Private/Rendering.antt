@@ -15,7 +15,7 @@ use Rattle.codespan_output.specs.declared.arguments.Locus.{Locus as RustLocus}
 use Rattle.codespan_output.specs.Arguments.{locus_view}
 use Rattle.codespan_output.specs.Rows.{EmptyRow, FinalRow, Locus, Row, SnippetStartRow}
 use Rattle.codespan_output.specs.RowStreams.{header_row, stream_of_rows}
-use Rattle.codespan_output.specs.Snippets.{snippets, has_any, labeled_file_models, note_rows}
+use Rattle.codespan_output.specs.Snippets.{snippets, labeled_file_models, note_rows}
 use Rattle.codespan_renderer.specs.declared.term.renderer.Renderer.{Renderer}
 use Rattle.codespan_renderer.specs.declared.term.renderer.row_writer.RowWriter.{RowWriter}
 use Rattle.codespan_renderer.specs.Private.RowWriters.{row_writer_sink}
@@ -23,6 +23,7 @@ use Rattle.codespan_renderer.specs.Renderers.{Renders, config_of}
 use Rattle.codespan_views.specs.Private.Types.{Collected}
 use Rattle.codespan_views.specs.Private.LabeledFiles.{loci_view}
 use Rattle.codespan_views.specs.Private.LookupsWhileRendering.{WritesWithLookups}
+use Rattle.codespan_output.specs.Private.LineRows.{has_any}
 
 -- ---- rows of a snippet of so many lanes
 

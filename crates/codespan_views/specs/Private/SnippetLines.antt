@@ -1,7 +1,7 @@
 -- The lines of a snippet that annotations in order make: shown lines, filled lines, and breaks. The
 -- lookups and the known numbers of filled lines.
 use Rattle.std.specs.List.{AllByRecursion, filter_map}
-use Rattle.std.specs.Prelude.{Option, Some, None, if◌then◌else◌, map, slice_get, ◌≡◌}
+use Rattle.std.specs.Prelude.{Option, Some, None, map, slice_get, ◌≡◌}
 use Rattle.std.specs.Prelude.{ℕ, Bool, true, ◌==◌, ◌&&◌, List, [], ◌∷◌, ◌++◌}
 use Rattle.std.specs.Prelude.{flat_map, zero, suc, ◌-◌, IfSome, drop}
 use Rattle.codespan_core.specs.FileModel.Lookup.{LineNumber}
@@ -10,10 +10,12 @@ use Rattle.codespan_core.specs.Labels.{LabelModel, LaneMark}
 use Rattle.codespan_output.specs.Arguments.{ascend_from, starts_in_order}
 use Rattle.codespan_output.specs.CharMetrics.{text_without_line_end}
 use Rattle.codespan_output.specs.Rows.{Line, Row, BreakRow, rows_of}
-use Rattle.codespan_output.specs.Sequences.{before_line, gap_between}
+use Rattle.codespan_output.specs.Sequences.{gap_between}
 use Rattle.codespan_views.specs.Private.Annotations.{Annotation, AnnotationKind, Single, Multi}
 use Rattle.codespan_views.specs.Private.Annotations.{shows_line}
 use Rattle.codespan_views.specs.Private.SourceFiles.{lookups_of_filled}
+use Rattle.codespan_output.specs.Private.LineRows.{before_line}
+use Rattle.std.specs.Prelude.{if◌then◌else◌}
 
 -- a shown line or the one line between two, with its annotations, or a break before such a line
 pub data SnippetLine : Type 0 where

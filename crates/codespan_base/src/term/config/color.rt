@@ -70,7 +70,7 @@ impl Default for ColorSpec {
 /// [`StylesWriter`](codespan_reporting::term::StylesWriter) makes a
 /// [`WriteStyle`](codespan_reporting::term::WriteStyle) of it.
 ///
-/// `docs/WRITERS.md` implements one.
+/// The guide on writers implements one.
 pub trait WriteColor: Write {
     ghost use Rattle.std.specs.Prelude.{ℕ, List};
     ghost use Rattle.codespan_base.specs.declared.term.config.color.ColorSpec.{ColorSpec};

@@ -26,7 +26,7 @@ pub type GeneralWriteResult = io::Result<()>;
 /// bytes that takes none, set it, and nothing else does. The rules are this project's own.
 ///
 /// Rendering writes bytes by `put` and never by the calls of `Write`, and it never flushes.
-/// `docs/WRITERS.md` goes through the example.
+/// The guide on writers goes through the example.
 ///
 /// # Examples
 ///

@@ -1,4 +1,4 @@
-use Rattle.codespan_output.proofs.RangeLemmas as ranges
+use Rattle.codespan_output.proofs.Lanes.Ranges as ranges
 use Rattle.codespan_laws.proofs.laws.bars_are_labels.Goals as goal
 
 pub returns : goal.returns

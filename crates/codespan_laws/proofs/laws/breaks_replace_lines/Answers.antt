@@ -1,5 +1,5 @@
-use Rattle.codespan_output.proofs.FillLemmas.{rows_of_shown_lines}
-use Rattle.codespan_output.proofs.BreakLemmas as breaks
+use Rattle.codespan_output.proofs.DrawnLines.Filled.{rows_of_shown_lines}
+use Rattle.codespan_output.proofs.DrawnLines.Breaks as breaks
 use Rattle.codespan_laws.proofs.laws.breaks_replace_lines.Goals as goal
 
 pub returns : goal.returns

@@ -1,4 +1,4 @@
-use Rattle.codespan_output.proofs.RichLemmas as meaning
+use Rattle.codespan_output.proofs.Outputs.RichOutputs as meaning
 use Rattle.codespan_laws.proofs.laws.carets_are_cells.Goals as goal
 
 pub returns : goal.returns

@@ -1,4 +1,4 @@
-use Rattle.codespan_output.proofs.MessageLemmas.{trails_or_hangs}
+use Rattle.codespan_output.proofs.Messages.TrailOrHang.{trails_or_hangs}
 use Rattle.codespan_laws.proofs.laws.each_message_trails_or_hangs.Goals as goal
 
 pub returns : goal.returns

@@ -1,4 +1,4 @@
-use Rattle.codespan_output.proofs.LaneLineRuns as lanes
+use Rattle.codespan_output.proofs.Lanes.LineRuns as lanes
 use Rattle.codespan_laws.proofs.laws.lanes_join_corners.Goals as goal
 
 pub returns : goal.returns

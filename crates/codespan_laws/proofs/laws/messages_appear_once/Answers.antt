@@ -1,4 +1,4 @@
-use Rattle.codespan_output.proofs.MessagesOnce as messages
+use Rattle.codespan_output.proofs.Slots.Once as messages
 use Rattle.codespan_laws.proofs.laws.messages_appear_once.Goals as goal
 
 pub returns : goal.returns

@@ -1,4 +1,4 @@
-use Rattle.codespan_output.proofs.PictureTexts.{output_is_utf8, picture_is_utf8}
+use Rattle.codespan_output.proofs.Utf8.Outputs.{output_is_utf8, picture_is_utf8}
 use Rattle.codespan_laws.proofs.laws.outputs_are_utf8.Goals as goal
 
 pub returns-clause-output : goal.returns-clause-output

@@ -1,4 +1,4 @@
-use Rattle.codespan_output.proofs.RichLemmas.{output_means_labels}
+use Rattle.codespan_output.proofs.Outputs.RichOutputs.{output_means_labels}
 use Rattle.codespan_laws.proofs.laws.outputs_mean_labels.Goals as goal
 
 pub returns : goal.returns

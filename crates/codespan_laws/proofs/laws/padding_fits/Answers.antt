@@ -1,4 +1,4 @@
-use Rattle.codespan_output.proofs.PaddingLemmas as padding
+use Rattle.codespan_output.proofs.DrawnLines.Padding as padding
 use Rattle.codespan_laws.proofs.laws.padding_fits.Goals as goal
 
 pub returns : goal.returns

@@ -1,4 +1,4 @@
-use Rattle.codespan_output.proofs.PointerTexts as pointers
+use Rattle.codespan_output.proofs.Pointers.Texts as pointers
 use Rattle.codespan_laws.proofs.laws.pointers_are_cells.Goals as goal
 
 pub returns : goal.returns

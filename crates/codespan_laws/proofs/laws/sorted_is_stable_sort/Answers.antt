@@ -1,4 +1,4 @@
-use Rattle.codespan_output.proofs.OrderSorts.{sorts_labels}
+use Rattle.codespan_output.proofs.Order.OrderSorts.{sorts_labels}
 use Rattle.codespan_laws.proofs.laws.sorted_is_stable_sort.Goals as goal
 
 pub returns : goal.returns

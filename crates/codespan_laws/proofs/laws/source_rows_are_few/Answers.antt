@@ -1,4 +1,4 @@
-use Rattle.codespan_output.proofs.RowBoundLemmas.{source_rows_few}
+use Rattle.codespan_output.proofs.DrawnLines.RowBounds.{source_rows_few}
 use Rattle.codespan_laws.proofs.laws.source_rows_are_few.Goals as goal
 
 pub returns : goal.returns

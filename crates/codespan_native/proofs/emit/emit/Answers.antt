@@ -1,13 +1,6 @@
 use Rattle.std.proofs.Common.{◌∙◌}
-use Rattle.codespan_native.proofs.Emitted.{invalid-emits, out_of_memory-emits, output-emits}
+use Rattle.codespan_native.proofs.Emitted.{out_of_memory-emits, output-emits}
 use Rattle.codespan_native.proofs.emit.emit.Goals as goal
-
--- an argument is invalid
-pub returns-in-Some : goal.returns-in-Some
-returns-in-Some c =
-    invalid-emits c.args.files.now c.args.diagnostic.now c.args.config.now _
-    c.in-Some.invalid.argument c.in-Some.invalid.index _ _ c.in-Some.ensures.some
-    c.status_for.ensures c.number.ensures
 
 -- the output is copied, if it fits
 pub returns-in-Ok : goal.returns-in-Ok

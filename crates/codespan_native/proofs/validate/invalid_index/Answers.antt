@@ -1,4 +1,4 @@
-use Rattle.codespan_native.proofs.FirstInvalid.{by_index, by_test}
+use Rattle.codespan_native.proofs.FirstInvalid.{by_index}
 use Rattle.codespan_native.specs.Validity.{HasValidStyle, HasValidMessage, HasValidName}
 use Rattle.codespan_native.specs.Validity.{HasValidSource, HasValidLines, HasValidLocations}
 use Rattle.codespan_native.specs.Validity.{HasValidFile, IsValidText}
@@ -37,8 +37,3 @@ returns-in-LabelFile c =
 
 pub returns-in-Note : goal.returns-in-Note
 returns-in-Note c = rw c.in-Note.is (by_index IsValidText _ _ c.note_index.ensures)
-
-pub returns-in-Abi : goal.returns-in-Abi
-returns-in-Abi c =
-    rw c.in-Abi.is
-    (by_test _ _ _ c.is_abi_valid.ensures.0 c.is_abi_valid.ensures.1 c.index_unless.ensures)

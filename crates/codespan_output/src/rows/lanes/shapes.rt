@@ -1,13 +1,14 @@
 //! What a multi-line label mark shows in a row.
 
 ghost use Rattle.std.specs.Prelude.{◌≡◌, ◌&&◌};
-ghost use Rattle.codespan_output.specs.Arguments.{multi_label_view};
+ghost use Rattle.codespan_output.specs.Arguments.{lane_mark_view, multi_label_view};
 ghost use Rattle.codespan_output.specs.Lanes.{is_unbroken, begins_in_source_row, row_shape};
-ghost use Rattle.codespan_output.specs.Lanes.{underline_shape};
+ghost use Rattle.codespan_output.specs.Lanes.{Underline};
 ghost use Rattle.codespan_output.specs.Private.LineViews.{lane_row_kind_view};
 
 use crate::arguments::MultiLabel;
 use crate::rows::lanes::{LaneRowKind, Shape};
+use codespan_core::diagnostic::LabelStyle;
 use codespan_core::term::Layout;
 
 /// Returns what a multi-line label mark shows in a row of this kind. `leading` is the length in
@@ -30,8 +31,9 @@ pub fn row_shape(
         (LaneRowKind::SingleLabels, MultiLabel::Top(start)) if goes_on(layout, leading, start) =>
             Shape::Bar,
         (LaneRowKind::SingleLabels, MultiLabel::Top(_)) => Shape::Space,
-        (LaneRowKind::Underline(corner_lane, _, _), multi_label) => {
-            underline_shape(layout, leading, corner_lane, lane, multi_label)
+        (LaneRowKind::Underline(corner_lane, style, underlined), multi_label) => {
+            let corner = (corner_lane, style, underlined);
+            underline_shape(layout, leading, corner, lane, multi_label)
         }
         (
             LaneRowKind::Source | LaneRowKind::EmptyOrBreak | LaneRowKind::SingleLabels,
@@ -50,17 +52,18 @@ fn goes_on(layout: Layout, leading: usize, start: usize) -> bool
     }
 }
 
-/// Returns what a multi-line label mark shows in the underline row of the lane `corner_lane`.
+/// Returns what a multi-line label mark shows in the underline row of the lane mark `corner`.
 fn underline_shape(
     layout: Layout,
     leading: usize,
-    corner_lane: usize,
+    corner: (usize, LabelStyle, MultiLabel<'_>),
     lane: usize,
     multi_label: MultiLabel<'_>,
 ) -> Shape
-    ensures { result ≡ underline_shape layout leading corner_lane lane
+    ensures { result ≡ row_shape layout leading (Underline (lane_mark_view corner.entry)) lane
         (multi_label_view multi_label.entry) }
 {
+    let corner_lane = corner.0;
     match multi_label {
         MultiLabel::Top(start) if goes_on(layout, leading, start) => Shape::Bar,
         MultiLabel::Top(_) if lane == corner_lane => Shape::TopCorner,

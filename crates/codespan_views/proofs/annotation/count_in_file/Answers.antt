@@ -1,5 +1,5 @@
 use Rattle.codespan_core.proofs.Std.{arith, rules}
-use Rattle.codespan_views.proofs.FileLengths.{file-between}
+use Rattle.codespan_views.proofs.Files.Lengths.{file-between}
 use Rattle.codespan_views.proofs.annotation.count_in_file.Goals as goal
 
 pub returns-then-annotations-file_index-clause-value

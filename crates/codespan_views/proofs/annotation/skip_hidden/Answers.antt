@@ -1,7 +1,7 @@
-use Rattle.codespan_core.proofs.Std.{◌≡◌, ◌-◌, ◌≤◌, ℕ, List, drop, length, sym}
-use Rattle.codespan_core.proofs.Std.{arith, common_steps, drop-drop, length-drop}
-use Rattle.codespan_views.proofs.SnippetLineViews.{IsNextGroup, later-are, later-fewer}
-use Rattle.codespan_views.proofs.SnippetLineViews.{views_of-hidden}
+use Rattle.codespan_core.proofs.Std.{◌≡◌, ◌-◌, ◌≤◌, ℕ, List, drop, length, arith}
+use Rattle.codespan_core.proofs.Std.{common_steps, drop-drop, length-drop}
+use Rattle.codespan_views.proofs.Lines.SnippetLineViews.{IsNextGroup, later-are, later-fewer}
+use Rattle.codespan_views.proofs.Lines.SnippetLineViews.{views_of-hidden}
 use Rattle.codespan_views.proofs.annotation.skip_hidden.Given.{Over}
 use Rattle.codespan_views.proofs.annotation.skip_hidden.Goals.{After-count_on_line-count}
 use Rattle.codespan_views.proofs.annotation.skip_hidden.Goals as goal
@@ -16,11 +16,7 @@ drop-fewer xs rest n within few is = grind (arith, common_steps, length-drop, dr
 -- the annotations of a line are counted
 next : (g : Over) (c : After-count_on_line-count g)
     → IsNextGroup c.loop-first.rest.now c.in-Some.first.now c.count_on_line-count.result
-next g c =
-    record {
-      first = sym c.in-Some.ensures.value;
-      counted = c.count_on_line-count.ensures.value;
-    }
+next g c = grind (arith, common_steps)
 
 pub loop-first-preserved : goal.loop-first-preserved
 loop-first-preserved g c = grind

@@ -1,21 +1,21 @@
 use Rattle.codespan_core.proofs.Std.{common_steps, ◌≡◌, ◌<◌, ◌≤◌, rules, ◌+◌}
 use Rattle.codespan_core.proofs.Std.{Err, length, get_or, map, ap, ◌∙◌, arith}
 use Rattle.codespan_core.proofs.Std.{err_from_is_err_and, IsPermutation-map, recursion_from_All}
-use Rattle.codespan_core.proofs.Std.{All-permutation, All-from_recursion, take_all, subst}
+use Rattle.codespan_core.proofs.Std.{All-permutation, All-from_recursion, take_all}
 use Rattle.codespan_core.proofs.Std.{if◌then◌else◌, ◌==◌}
 use Rattle.codespan_output.specs.OutputStreams.{label_of}
 use Rattle.codespan_output.specs.Snippets.{file_ids}
 use Rattle.codespan_views.specs.Private.{IsOfFiles, annotation_view, RustFile, ids_view}
 use Rattle.codespan_views.specs.Private.{index_of_file}
 use contract.Lifetimes.{Lfts}
-use Rattle.codespan_views.proofs.LabelsCollected.{AreCollected, lane-found, failure-ends}
-use Rattle.codespan_views.proofs.LabelsCollected.{failure-lines, file-indexed, collected-more}
-use Rattle.codespan_views.proofs.LabelsCollected.{collected-failed, lane-bound, index-inside}
-use Rattle.codespan_views.proofs.FileIndices.{first_seen-differ}
-use Rattle.codespan_views.proofs.FilesInOrder.{ids-of_labels}
-use Rattle.codespan_views.proofs.LabelIndexing.{AreFiles, are-files}
-use Rattle.codespan_views.proofs.IndexedElements.{IsElementAt}
-use Rattle.codespan_views.proofs.LabelFiles.{before}
+use Rattle.codespan_views.proofs.Labels.Collected.{AreCollected, lane-found, failure-ends}
+use Rattle.codespan_views.proofs.Labels.Collected.{failure-lines, file-indexed, collected-more}
+use Rattle.codespan_views.proofs.Labels.Collected.{collected-failed, lane-bound, index-inside}
+use Rattle.codespan_views.proofs.Files.Indices.{first_seen-differ}
+use Rattle.codespan_views.proofs.Files.InOrder.{ids-of_labels}
+use Rattle.codespan_views.proofs.Labels.Indexing.{AreFiles, are-files}
+use Rattle.codespan_views.proofs.Annotations.IndexedElements.{IsElementAt}
+use Rattle.codespan_views.proofs.Labels.OfFiles.{before}
 use Rattle.codespan_views.proofs.collected.collect.Given.{Over}
 use Rattle.codespan_views.proofs.collected.collect.Goals.{In_ok-file_index, After-index_mut}
 use Rattle.codespan_views.proofs.collected.collect.Goals.{After-loop-index}
@@ -147,14 +147,7 @@ all_done : (g : Over) (c : After-loop-index g)
     (file_ids (g.F.Files.database c.args.files.now).same xs)
     (file_ids (g.F.Files.database c.args.files.now).same xs) xs c.loop-index.collected.files.items
     c.loop-index.collected.annotations.items c.loop-index.collected.padding
-all_done g c past =
-    let same = (g.F.Files.database c.args.files.now).same in
-    let labels = c.args.labels.now in
-    subst (λ ls. AreCollected (g.F.Files.database c.args.files.now) c.args.config.now
-    (file_ids same (map label_of labels)) (file_ids same (map label_of ls)) (map label_of ls)
-    c.loop-index.collected.files.items c.loop-index.collected.annotations.items
-    c.loop-index.collected.padding)
-    (take_all c.loop-index.index labels past) c.loop-index.invariant
+all_done g c past = grind (arith, common_steps, take_all)
 
 pub returns-clause-collected : goal.returns-clause-collected
 returns-clause-collected g c =
@@ -176,9 +169,3 @@ returns-clause-collected g c =
           (All-permutation P all in_order permuted
           (All-from_recursion P all (rw done.added.whole done.added.each))));
     }
-
-pub returns-clause-padding : goal.returns-clause-padding
-returns-clause-padding g c = grind (arith, common_steps, all_done)
-
-pub returns-clause-failed : goal.returns-clause-failed
-returns-clause-failed g c = grind (arith, common_steps, all_done)

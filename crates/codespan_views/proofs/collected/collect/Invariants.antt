@@ -1,8 +1,8 @@
 use Rattle.codespan_core.proofs.Std.{map}
 use Rattle.codespan_output.specs.OutputStreams.{label_of}
 use Rattle.codespan_output.specs.Snippets.{file_ids}
-use Rattle.codespan_views.proofs.LabelFiles.{before}
-use Rattle.codespan_views.proofs.LabelsCollected.{AreCollected}
+use Rattle.codespan_views.proofs.Labels.OfFiles.{before}
+use Rattle.codespan_views.proofs.Labels.Collected.{AreCollected}
 use Rattle.codespan_views.proofs.collected.collect.Given as goal
 
 -- the labels before this one are done with

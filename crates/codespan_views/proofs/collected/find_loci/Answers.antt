@@ -1,8 +1,7 @@
-use Rattle.codespan_core.proofs.Std.{common_steps, ◌≡◌, Err, get_or, ap, ◌∙◌, arith}
-use Rattle.codespan_core.proofs.Std.{err_from_is_err_and}
+use Rattle.codespan_core.proofs.Std.{common_steps, ◌≡◌, get_or, ap, arith}
 use Rattle.codespan_views.specs.Private.{RustFile, without_locus, locus_byte}
-use Rattle.codespan_views.proofs.IndexedElements.{IsElementAt}
-use Rattle.codespan_views.proofs.LociFound.{element-same, loci-count, loci-failed, loci-more}
+use Rattle.codespan_views.proofs.Annotations.IndexedElements.{IsElementAt}
+use Rattle.codespan_views.proofs.Files.LociFound.{element-same, loci-count, loci-more}
 use Rattle.codespan_views.proofs.collected.find_loci.Given.{Over}
 use Rattle.codespan_views.proofs.collected.find_loci.Goals.{After-locus}
 use Rattle.codespan_views.proofs.collected.find_loci.Goals as goal
@@ -17,15 +16,6 @@ there g c is = grind (arith, common_steps, loci-count)
 byte_is : (g : Over) (c : After-locus g)
     → c.locus_byte-byte_index.result ≡ locus_byte c.index.result.now.least_starts
 byte_is g c = grind (arith, common_steps, element-same, there)
-
-pub returns-in_err-labeled_files-clause-failed : goal.returns-in_err-labeled_files-clause-failed
-returns-in_err-labeled_files-clause-failed g c =
-    let here = (goal.at.returns-in_err-labeled_files-clause-failed g c).After-locus in
-    let p = err_from_is_err_and c.from_residual.result c.from_residual.ensures.1 in
-    let failed = rw (byte_is g here) at c.in_err-labeled_files.ensures.failed in
-    rw (p.1 ∙ ap Err p.2)
-    (λ memory display. loci-failed c.loop-index.invariant (there g here c.index.ensures)
-    (failed memory display))
 
 pub loop-index-preserved : goal.loop-index-preserved
 loop-index-preserved g c =

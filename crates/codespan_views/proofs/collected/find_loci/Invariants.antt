@@ -1,4 +1,4 @@
-use Rattle.codespan_views.proofs.LociFound.{LociFound}
+use Rattle.codespan_views.proofs.Files.LociFound.{LociFound}
 use Rattle.codespan_views.proofs.collected.find_loci.Given as goal
 
 -- the files before this one have their loci

@@ -2,11 +2,11 @@ use Rattle.codespan_core.proofs.Std.{◌≡◌, Err, refl, ap, ◌∙◌, arith,
 use Rattle.codespan_core.proofs.Std.{err_from_is_err_and}
 use Rattle.std.proofs.Common.{Vec, Global}
 use Rattle.codespan_views.specs.Private.{RustAnnotation}
-use Rattle.codespan_views.proofs.FileLengths.{rest-sorted}
-use Rattle.codespan_views.proofs.FileSlices.{from_file-first}
-use Rattle.codespan_views.proofs.FileTurns.{IsAtFile, next_inside, next_left, own_lines}
-use Rattle.codespan_views.proofs.FileTurns.{own_snippet_lines}
-use Rattle.codespan_views.proofs.NumbersFound.{files-failed, files-more}
+use Rattle.codespan_views.proofs.Files.Lengths.{rest-sorted}
+use Rattle.codespan_views.proofs.Files.Slices.{from_file-first}
+use Rattle.codespan_views.proofs.Files.Turns.{IsAtFile, next_inside, next_left, own_lines}
+use Rattle.codespan_views.proofs.Files.Turns.{own_snippet_lines}
+use Rattle.codespan_views.proofs.Lines.NumbersFound.{files-failed, files-more}
 use Rattle.codespan_views.proofs.collected.find_numbers.Given.{Over}
 use Rattle.codespan_views.proofs.collected.find_numbers.Goals.{After-count_in_file-len}
 use Rattle.codespan_views.proofs.collected.find_numbers.Goals as goal

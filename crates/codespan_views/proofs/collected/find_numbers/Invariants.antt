@@ -1,7 +1,7 @@
 use Rattle.codespan_core.proofs.Std.{◌≡◌, ◌≤◌, length, map, drop}
 use Rattle.codespan_views.specs.Private.{annotation_view, ids_view}
-use Rattle.codespan_views.proofs.FileSlices.{from_file}
-use Rattle.codespan_views.proofs.NumbersFound.{FilesLeft}
+use Rattle.codespan_views.proofs.Files.Slices.{from_file}
+use Rattle.codespan_views.proofs.Lines.NumbersFound.{FilesLeft}
 use Rattle.codespan_views.proofs.collected.find_numbers.Given as goal
 
 -- the annotations from here on are those of this file and later ones, and their numbers are left;

@@ -1,12 +1,11 @@
-use Rattle.codespan_core.proofs.Std.{◌≡◌, List, [], ◌∷◌, ◌++◌, take, Err, refl, sym}
-use Rattle.codespan_core.proofs.Std.{ap, ◌∙◌, common_steps, arith, All, err_from_is_err_and}
+use Rattle.codespan_core.proofs.Std.{◌≡◌, List, [], ◌∷◌, ◌++◌, take, refl, sym}
+use Rattle.codespan_core.proofs.Std.{common_steps, arith, All, err_from_is_err_and}
 use Rattle.codespan_views.specs.Private.{IsLineOf, SnippetLine, model_of}
-use Rattle.codespan_views.proofs.NumbersFound.{gap-failed, left-gap, left-no_gap, left-same}
-use Rattle.codespan_views.proofs.NumbersFound.{left-shown}
-use Rattle.codespan_views.proofs.SnippetLineViews.{IsNextGroup, first-of, gap_of, later-are}
-use Rattle.codespan_views.proofs.SnippetLineViews.{later-fewer, later_of, later_than, lines_left}
-use Rattle.codespan_views.proofs.SnippetLineViews.{shown_of, views_of, views_of-gap}
-use Rattle.codespan_views.proofs.SnippetLineViews.{views_of-hidden}
+use Rattle.codespan_views.proofs.Lines.NumbersFound.{left-gap, left-no_gap, left-same, left-shown}
+use Rattle.codespan_views.proofs.Lines.SnippetLineViews.{IsNextGroup, first-of, gap_of, later-are}
+use Rattle.codespan_views.proofs.Lines.SnippetLineViews.{later-fewer, later_of, later_than}
+use Rattle.codespan_views.proofs.Lines.SnippetLineViews.{lines_left, shown_of, views_of}
+use Rattle.codespan_views.proofs.Lines.SnippetLineViews.{views_of-gap, views_of-hidden}
 use Rattle.codespan_views.proofs.collected.find_numbers_of_file.Given.{Over}
 use Rattle.codespan_views.proofs.collected.find_numbers_of_file.Goals.{After-count_on_line}
 use Rattle.codespan_views.proofs.collected.find_numbers_of_file.Goals.{After-lines_between}
@@ -17,8 +16,7 @@ use Rattle.codespan_views.proofs.collected.find_numbers_of_file.Goals as goal
 -- the annotations of a line are counted
 next : (g : Over) (c : After-count_on_line g)
     → IsNextGroup c.loop-first.rest.now c.in-Some.first.now c.count_on_line.result
-next g c =
-    record { first = sym c.in-Some.ensures.value; counted = c.count_on_line.ensures.value }
+next g c = grind (arith, common_steps)
 
 -- the lines of later ones are the file's
 later_lines : (g : Over) (c : After-count_on_line g)
@@ -53,12 +51,7 @@ opens g c group =
 
 pub returns-in_err-number-clause-failed : goal.returns-in_err-number-clause-failed
 returns-in_err-number-clause-failed g c =
-    let at = goal.at.returns-in_err-number-clause-failed g c in
-    let same = opens g at.After-lines_between (next g at.After-count_on_line) in
-    let p = err_from_is_err_and c.from_residual.result c.from_residual.ensures.1 in
-    rw (p.1 ∙ ap Err p.2)
-    (λ memory. gap-failed _ _ _ _ _ c.if-lines_between-eq1.true
-    (left-same same c.loop-first.invariant.left) _ (c.in_err-number.ensures.failed memory))
+    grind (arith, common_steps, opens, next, err_from_is_err_and, left-same)
 
 pub loop-first-preserved-after-lines_between-eq1 :
     goal.loop-first-preserved-after-lines_between-eq1

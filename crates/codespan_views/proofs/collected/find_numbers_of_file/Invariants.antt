@@ -1,8 +1,8 @@
 use Rattle.codespan_core.proofs.Std.{◌≤◌, List, length, map, All}
 use Rattle.codespan_views.specs.Private.{RustAnnotation, IsLineOf, annotation_view, lines_of}
 use Rattle.codespan_views.specs.Private.{model_of}
-use Rattle.codespan_views.proofs.NumbersFound.{NumbersLeft}
-use Rattle.codespan_views.proofs.SnippetLineViews.{lines_left}
+use Rattle.codespan_views.proofs.Lines.NumbersFound.{NumbersLeft}
+use Rattle.codespan_views.proofs.Lines.SnippetLineViews.{lines_left}
 use Rattle.codespan_views.proofs.collected.find_numbers_of_file.Given as goal
 
 -- the numbers of some snippet lines were found, and the remaining annotations make the rest

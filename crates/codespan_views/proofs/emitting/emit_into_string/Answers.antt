@@ -3,7 +3,7 @@ use Rattle.codespan_core.specs.LawfulFiles.{IsLawful}
 use Rattle.codespan_core.specs.Streams.{plain_spelling}
 use Rattle.codespan_core.specs.WriterLaw.{Sink}
 use Rattle.codespan_core.specs.Writers.{fresh_sink}
-use Rattle.codespan_views.proofs.EmittedOutputs.{string_rendered, text_is_utf8, text_means_labels}
+use Rattle.codespan_views.proofs.Outputs.Emitted.{string_rendered, text_is_utf8, text_means_labels}
 use Rattle.codespan_views.proofs.emitting.emit_into_string.Goals as goal
 
 -- a writer of plain text over an empty buffer begins with nothing

@@ -1,5 +1,5 @@
 use Rattle.codespan_core.proofs.Std.{rules}
-use Rattle.codespan_views.proofs.EmittedOutputs.{written_back}
+use Rattle.codespan_views.proofs.Outputs.Emitted.{written_back}
 use Rattle.codespan_views.proofs.emitting.emit_to_io_write.Goals as goal
 
 pub returns : goal.returns

@@ -2,9 +2,9 @@ use Rattle.codespan_core.proofs.Std.{get_or, sym, arith, common_steps, ltb-false
 use Rattle.codespan_core.proofs.Std.{ltb-true}
 use Rattle.std.proofs.lemmas.List.Sums.{prefix_len-le-length}
 use Rattle.codespan_views.specs.Private.{ids_view}
-use Rattle.codespan_views.proofs.FileIndices.{same_id-index}
-use Rattle.codespan_views.proofs.FilesInOrder.{index-first, index-later, is-id}
-use Rattle.codespan_views.proofs.IndexedElements.{IsElementAt}
+use Rattle.codespan_views.proofs.Files.Indices.{same_id-index}
+use Rattle.codespan_views.proofs.Files.InOrder.{index-first, index-later, is-id}
+use Rattle.codespan_views.proofs.Annotations.IndexedElements.{IsElementAt}
 use Rattle.codespan_views.proofs.labeled_files.find_file.Given.{Over}
 use Rattle.codespan_views.proofs.labeled_files.find_file.Goals.{After-index-files-index}
 use Rattle.codespan_views.proofs.labeled_files.find_file.Goals.{In-Some-get}
@@ -42,8 +42,7 @@ pub returns-in-Some-get : goal.returns-in-Some-get
 returns-in-Some-get g c = grind (arith, common_steps, index-first, last)
 
 pub returns-in_default : goal.returns-in_default
-returns-in_default g c = grind
-    (arith, common_steps, index-later, last, prefix_len-le-length, length-map)
+returns-in_default g c = grind (arith, common_steps, last, prefix_len-le-length, length-map)
 
 pub returns-in_default-2 : goal.returns-in_default-2
 returns-in_default-2 g c = grind (arith, common_steps, ltb-false, prefix_len-le-length, length-map)

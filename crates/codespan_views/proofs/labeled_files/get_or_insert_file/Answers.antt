@@ -1,6 +1,6 @@
 use Rattle.codespan_core.proofs.Std.{◌≡◌, arith, common_steps, map-append}
 use Rattle.codespan_views.specs.Private.{ids_view, index_of_file}
-use Rattle.codespan_views.proofs.FileIndices.{file-added, file-unchanged}
+use Rattle.codespan_views.proofs.Files.Indices.{file-added, file-unchanged}
 use Rattle.codespan_views.proofs.labeled_files.get_or_insert_file.Given.{Over}
 use Rattle.codespan_views.proofs.labeled_files.get_or_insert_file.Goals.{After-len}
 use Rattle.codespan_views.proofs.labeled_files.get_or_insert_file.Goals as goal

@@ -1,8 +1,8 @@
 use Rattle.codespan_core.proofs.Std.{string_bytes}
 use Rattle.codespan_core.specs.Streams.{newline}
 use Rattle.codespan_output.specs.Types.{Config}
-use Rattle.codespan_views.proofs.NoteRows.{notes-empty}
-use Rattle.codespan_views.proofs.RendererRuns.{exit_is, renders_cut, renders_then}
+use Rattle.codespan_views.proofs.Outputs.NoteRows.{notes-empty}
+use Rattle.codespan_views.proofs.Outputs.RendererRuns.{exit_is, renders_cut, renders_then}
 use Rattle.codespan_views.proofs.rich.render_closing.Goals as goal
 
 pub returns-in_err-render_notes : goal.returns-in_err-render_notes

@@ -1,13 +1,14 @@
-use Rattle.codespan_core.proofs.Std.{◌+◌, Result, take, sym, string_bytes}
+use Rattle.codespan_core.proofs.Std.{◌+◌, Result, take, sym, string_bytes, arith, common_steps}
 use Rattle.std.specs.Str.Lines.{lines}
 use Rattle.codespan_output.specs.Types.{Error, Config}
 use Rattle.codespan_output.specs.OutputStreams.{context_of}
 use Rattle.codespan_output.specs.RenderedRows.{note_stream, rendered_note}
 use Rattle.codespan_renderer.specs.declared.term.renderer.Renderer.{Renderer}
 use Rattle.codespan_renderer.specs.Renderers.{Renders, config_of}
-use Rattle.codespan_views.proofs.NoteRows.{notes-cut, notes-next, stream_of_notes}
-use Rattle.codespan_views.proofs.IndexedElements.{element-equal}
-use Rattle.codespan_views.proofs.RendererRuns.{exit_is, renders_cut, renders_nothing, renders_then}
+use Rattle.codespan_views.proofs.Outputs.NoteRows.{notes-cut, notes-next, stream_of_notes}
+use Rattle.codespan_views.proofs.Annotations.IndexedElements.{element-equal}
+use Rattle.codespan_views.proofs.Outputs.RendererRuns.{exit_is, renders_cut, renders_nothing}
+use Rattle.codespan_views.proofs.Outputs.RendererRuns.{renders_then}
 use Rattle.codespan_views.proofs.rich.render_notes.Given.{Over}
 use Rattle.codespan_views.proofs.rich.render_notes.Goals.{After-render_snippet_note}
 use Rattle.codespan_views.proofs.rich.render_notes.Goals as goal
@@ -46,6 +47,4 @@ returns-in_err-render_snippet_note g c =
     c.in_err-render_snippet_note.ensures))
 
 pub loop-note-preserved : goal.loop-note-preserved
-loop-note-preserved g c =
-    one_more g (goal.at.loop-note-preserved g c).After-render_snippet_note
-    c.in_ok-render_snippet_note.ensures
+loop-note-preserved g c = grind (arith, common_steps, one_more)

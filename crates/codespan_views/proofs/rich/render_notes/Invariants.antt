@@ -1,7 +1,7 @@
 use Rattle.codespan_core.proofs.Std.{Ok, take, string_bytes}
 use Rattle.codespan_output.specs.OutputStreams.{context_of}
 use Rattle.codespan_renderer.specs.Renderers.{Renders, config_of}
-use Rattle.codespan_views.proofs.NoteRows.{stream_of_notes}
+use Rattle.codespan_views.proofs.Outputs.NoteRows.{stream_of_notes}
 use Rattle.codespan_views.proofs.rich.render_notes.Given as goal
 
 -- the notes before this one have been rendered

@@ -1,9 +1,9 @@
 use Rattle.codespan_core.proofs.Std.{[], Ok, rules, refl, sym, ◌∙◌}
 use Rattle.codespan_core.proofs.Writes.{with_written-nil}
-use Rattle.codespan_views.proofs.HeaderRuns.{after_primary, after_secondary, all_written}
-use Rattle.codespan_views.proofs.HeaderRuns.{header_cut, lookup_failed}
-use Rattle.codespan_views.proofs.IndexedElements.{element-equal}
-use Rattle.codespan_views.proofs.RendererRuns.{exit_is, same_renderer, same_twice}
+use Rattle.codespan_views.proofs.Outputs.HeaderRuns.{after_primary, after_secondary, all_written}
+use Rattle.codespan_views.proofs.Outputs.HeaderRuns.{header_cut, lookup_failed}
+use Rattle.codespan_views.proofs.Annotations.IndexedElements.{element-equal}
+use Rattle.codespan_views.proofs.Outputs.RendererRuns.{exit_is, same_renderer, same_twice}
 use Rattle.codespan_views.proofs.short.render_headers.Goals as goal
 
 pub loop-label-init : goal.loop-label-init

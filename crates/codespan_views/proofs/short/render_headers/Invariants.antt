@@ -1,5 +1,5 @@
 use Rattle.codespan_renderer.specs.Renderers.{SameRenderer, config_of, writer_of}
-use Rattle.codespan_views.proofs.HeaderRuns.{HeadersWritten, primary_before}
+use Rattle.codespan_views.proofs.Outputs.HeaderRuns.{HeadersWritten, primary_before}
 use Rattle.codespan_views.proofs.short.render_headers.Given as goal
 
 -- the headers of the labels before this one have been written

@@ -30,8 +30,3 @@ returns-else-prefix-line-clause-failed c = λ _.
     (λ same. c.if-prefix-character.false (prefix.units ∙ same))
     (λ whole. c.if-prefix-line.false (prefix.len ∙ whole))
     ∙ ap (λ len. Some (InvalidCharBoundary (c.args.line_start + len))) (sym prefix.len)
-
--- the prefix has all the code units
-pub returns-then-prefix-character-clause-units : goal.returns-then-prefix-character-clause-units
-returns-then-prefix-character-clause-units c =
-    sym c.prefix_within-prefix.ensures.units ∙ c.if-prefix-character.true

@@ -1,26 +1,7 @@
-use Rattle.std.proofs.Common.{◌≡◌, ℕ, length, length-append, ap, arith}
-use Rattle.std.specs.Str.Iter.{chars_rest}
+use Rattle.std.proofs.Common.{ℕ, length, length-append, ap, arith}
 use Rattle.std.proofs.lemmas.Str.{IsUtf8-past_char, length-encode}
 use Rattle.codespan_lsp.proofs.UnitLemmas.{char_units_bounds, code_units-char, code_units-empty}
 use Rattle.codespan_lsp.proofs.encoding.PositionEncoding.code_units.Goals as goal
-
-pub loop-c-init : goal.loop-c-init
-loop-c-init c =
-    let all : chars_rest c.into_iter-c-iterator.result ≡ c.args.text.now = cc in
-    rw all record { utf8 = c.utf8.text; fits = omega arith; so_far = omega arith }
-
-pub overflow_add-units : goal.overflow_add-units
-overflow_add-units c =
-    let step = c.in-Some.ensures.steps.0 in
-    omega (
-      arith,
-      c.loop-c.invariant.fits,
-      ap length step,
-      length-append {A = ℕ},
-      length-encode,
-      (char_units_bounds c.args.self c.in-Some.c).1,
-      c.char_units-units.ensures,
-    )
 
 pub loop-c-preserved : goal.loop-c-preserved
 loop-c-preserved c =

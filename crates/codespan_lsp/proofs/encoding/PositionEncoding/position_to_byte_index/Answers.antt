@@ -21,7 +21,3 @@ returns-clause-value g c =
     ((g.met.F.Files c.lifetimes (search rules)).lawful c.args.files.now c.args.id) p is.inside
     line.start c.range-text.result.now is.start_is line_is c.byte_of_character.result found.value
     found.units
-
--- the failure is that of the first call that fails
-pub returns-clause-failed : goal.returns-clause-failed
-returns-clause-failed g c = search rules depth 3 fits 200

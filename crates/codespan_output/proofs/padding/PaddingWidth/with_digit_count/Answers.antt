@@ -1,5 +1,5 @@
 use Rattle.codespan_core.proofs.Std.{arith}
-use Rattle.codespan_output.proofs.Digits.{few_digits}
+use Rattle.codespan_output.proofs.DrawnLines.Digits.{few_digits}
 use Rattle.codespan_output.proofs.padding.PaddingWidth.with_digit_count.Goals.{in-1, in-2, in-3}
 use Rattle.codespan_output.proofs.padding.PaddingWidth.with_digit_count.Goals.{in-4, in-5, in-6}
 use Rattle.codespan_output.proofs.padding.PaddingWidth.with_digit_count.Goals.{in_default}

@@ -1,10 +1,10 @@
 use Rattle.codespan_core.proofs.Std.{List, arith, refl, sym, ap, ◌∙◌, nat_tests}
-use Rattle.codespan_output.specs.{SingleLabelTuple, single_label_views, trailing_label, caret_row}
+use Rattle.codespan_output.specs.{SingleLabelTuple, single_label_views, trailing_label}
 use Rattle.codespan_output.specs.Private.{context_view, line_view}
 use Rattle.codespan_core.proofs.Chains.{written-then, failed-then, failed-before, failed}
 use Rattle.codespan_core.proofs.Chains.{writes-last}
 use Rattle.codespan_core.proofs.Writes.{with_written-nil}
-use Rattle.codespan_output.proofs.RowEquations.{caret_rows_none, caret_rows_some}
+use Rattle.codespan_output.proofs.Outputs.RowEquations.{caret_rows_none, caret_rows_some}
 use Rattle.codespan_output.proofs.rows.carets.write_caret_row.Goals as goal
 
 pub returns-then-is_empty : goal.returns-then-is_empty
@@ -16,7 +16,6 @@ returns-then-is_empty g c =
     rw none (refl, λ h. sym (with_written-nil (g.W.PutStyle.sink c.args.w.now)))
 
 pub returns-in_err-write_row_start : goal.returns-in_err-write_row_start
-unfolding caret_row
 returns-in_err-write_row_start g c =
     let some =
     caret_rows_some (context_view c.args.rows.now.context) (line_view c.args.rows.now.line)
@@ -26,7 +25,6 @@ returns-in_err-write_row_start g c =
     (failed-before _ (failed-before _ (failed-before _ c.in_err-write_row_start.ensures))))
 
 pub returns-in_err-write_carets : goal.returns-in_err-write_carets
-unfolding caret_row
 returns-in_err-write_carets g c =
     let some =
     caret_rows_some (context_view c.args.rows.now.context) (line_view c.args.rows.now.line)
@@ -38,7 +36,6 @@ returns-in_err-write_carets g c =
     c.in_err-write_carets.ensures))))
 
 pub returns-in_err-write_trailing_message : goal.returns-in_err-write_trailing_message
-unfolding caret_row
 returns-in_err-write_trailing_message g c =
     let trails = c.args.rows.now.messages.trails
     ∙ ap (λ (xs : List SingleLabelTuple). trailing_label (single_label_views xs))
@@ -53,7 +50,6 @@ returns-in_err-write_trailing_message g c =
     (rw trails at c.in_err-write_trailing_message.ensures))))
 
 pub returns : goal.returns
-unfolding caret_row
 returns g c =
     let trails = c.args.rows.now.messages.trails
     ∙ ap (λ (xs : List SingleLabelTuple). trailing_label (single_label_views xs))

@@ -8,11 +8,12 @@ use Rattle.codespan_output.specs.Private.{context_view, caret_run, CharInput, Ar
 use mir.Syntax.{w128}
 use Rattle.codespan_core.proofs.Loops.{StillToWrite-start, StillToWrite-more, StillToWrite-failed}
 use Rattle.codespan_core.proofs.Loops.{StillToWrite-last}
-use Rattle.codespan_output.proofs.CaretRuns.{caret_count, carets_left, carets-same, carets-turn}
-use Rattle.codespan_output.proofs.CaretRuns.{carets-end, carets-past, counts-all}
-use Rattle.codespan_output.proofs.ScanState.{ScanState, consecutive_within-follow, scan_state-fits}
-use Rattle.codespan_output.proofs.ScanState.{scan_state-to_end, scan_state-more}
-use Rattle.codespan_output.proofs.SkippedCells.{carets-prefix, scan_state-left}
+use Rattle.codespan_output.proofs.Carets.Runs.{caret_count, carets_left, carets-same, carets-turn}
+use Rattle.codespan_output.proofs.Carets.Runs.{carets-end, carets-past, counts-all}
+use Rattle.codespan_output.proofs.Characters.ScanState.{ScanState, consecutive_within-follow}
+use Rattle.codespan_output.proofs.Characters.ScanState.{scan_state-fits, scan_state-to_end}
+use Rattle.codespan_output.proofs.Characters.ScanState.{scan_state-more}
+use Rattle.codespan_output.proofs.Carets.SkippedCells.{carets-prefix, scan_state-left}
 use Rattle.codespan_output.proofs.rows.carets.write_carets.Goals.{then-ne+in_ok-end_caret_run}
 use Rattle.codespan_output.proofs.rows.carets.write_carets.Goals.{else-ne, in_default}
 use Rattle.codespan_output.proofs.rows.carets.write_carets.Goals.{in-Some+then-metrics-end}

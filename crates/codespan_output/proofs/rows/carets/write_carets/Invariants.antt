@@ -2,8 +2,8 @@ use Rattle.codespan_core.proofs.Std.{◌≡◌, ◌+◌, length}
 use Rattle.codespan_output.specs.{char_metrics_to_end, single_label_views, carets}
 use Rattle.codespan_output.specs.Private.{context_view}
 use Rattle.codespan_core.proofs.Loops.{StillToWrite}
-use Rattle.codespan_output.proofs.CaretRuns.{carets_left}
-use Rattle.codespan_output.proofs.ScanState.{ScanState}
+use Rattle.codespan_output.proofs.Carets.Runs.{carets_left}
+use Rattle.codespan_output.proofs.Characters.ScanState.{ScanState}
 use Rattle.codespan_output.proofs.rows.carets.write_carets.Given as goal
 
 abbrev pub invariant-loop-metrics : goal.invariant-loop-metrics

@@ -1,7 +1,7 @@
 use Rattle.codespan_core.proofs.Std.{sym, ◌∙◌}
 use Rattle.codespan_core.proofs.Chains.{written-then, failed-then, failed-before, failed}
 use Rattle.codespan_core.proofs.Chains.{writes-last}
-use Rattle.codespan_output.proofs.RowEquations.{bracketed-some}
+use Rattle.codespan_output.proofs.Outputs.RowEquations.{bracketed-some}
 use Rattle.codespan_output.proofs.rows.header.write_code.Goals as goal
 
 pub returns-in_err-put_all-in-Some : goal.returns-in_err-put_all-in-Some

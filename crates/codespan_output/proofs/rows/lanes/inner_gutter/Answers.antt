@@ -1,7 +1,7 @@
 use Rattle.codespan_core.proofs.Std.{refl, sym, ap, ◌∙◌, arith}
 use Rattle.codespan_core.specs.WriterLaw.{with_written}
 use Rattle.codespan_core.proofs.Writes.{with_written-nil}
-use Rattle.codespan_output.proofs.LaneCursor.{cursor-end, cursor-lanes}
+use Rattle.codespan_output.proofs.Lanes.Cursor.{cursor-end, cursor-lanes}
 use Rattle.codespan_output.proofs.rows.lanes.inner_gutter.Goals as goal
 
 pub returns-then-lanes-eq0 : goal.returns-then-lanes-eq0

@@ -1,8 +1,8 @@
 use Rattle.codespan_core.proofs.Std.{arith, drop, err_from_is_err_and}
 use Rattle.codespan_core.proofs.Loops.{StillToWrite-start, StillToWrite-more, StillToWrite-failed}
 use Rattle.codespan_core.proofs.Loops.{StillToWrite-end}
-use Rattle.codespan_output.proofs.LaneCursor.{cursor-empty_lanes, cursor-next, cursor-end}
-use Rattle.codespan_output.proofs.LaneCursor.{cursor-lanes}
+use Rattle.codespan_output.proofs.Lanes.Cursor.{cursor-empty_lanes, cursor-next, cursor-end}
+use Rattle.codespan_output.proofs.Lanes.Cursor.{cursor-lanes}
 use Rattle.codespan_output.proofs.rows.lanes.inner_gutter_columns.Goals as goal
 
 pub loop-lane-init : goal.loop-lane-init

@@ -1,7 +1,7 @@
 use Rattle.codespan_core.proofs.Std.{◌-◌, drop}
 use Rattle.codespan_output.specs.Private.{context_view, lanes_view, row_lanes_stream}
 use Rattle.codespan_core.proofs.Loops.{StillToWrite}
-use Rattle.codespan_output.proofs.LaneCursor.{cursor}
+use Rattle.codespan_output.proofs.Lanes.Cursor.{cursor}
 use Rattle.codespan_output.proofs.rows.lanes.inner_gutter_columns.Given as goal
 
 abbrev pub invariant-loop-lane : goal.invariant-loop-lane

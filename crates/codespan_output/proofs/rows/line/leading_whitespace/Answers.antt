@@ -2,7 +2,7 @@ use Rattle.codespan_core.proofs.Std.{◌≡◌, ℕ, length, length-append, ap, 
 use Rattle.codespan_core.proofs.Std.{arith, length-encode}
 use Rattle.std.specs.Str.Iter.{chars_rest}
 use Rattle.std.proofs.lemmas.Str.{IsUtf8-past_char}
-use Rattle.codespan_output.proofs.CharSteps.{leading-more, leading-stop, leading-end}
+use Rattle.codespan_output.proofs.Characters.Steps.{leading-more, leading-stop, leading-end}
 use Rattle.codespan_output.proofs.rows.line.leading_whitespace.Goals as goal
 
 pub loop-c-init : goal.loop-c-init

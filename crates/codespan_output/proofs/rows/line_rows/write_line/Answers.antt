@@ -1,7 +1,7 @@
 use Rattle.codespan_output.specs.Private.{context_view, line_view}
 use Rattle.codespan_core.proofs.Chains.{written-then, failed-then, failed-before, failed}
 use Rattle.codespan_core.proofs.Chains.{writes-last}
-use Rattle.codespan_output.proofs.RowEquations.{line_rows}
+use Rattle.codespan_output.proofs.Outputs.RowEquations.{line_rows}
 use Rattle.codespan_output.proofs.rows.line_rows.write_line.Goals as goal
 
 pub returns-in_err-write_source_row : goal.returns-in_err-write_source_row

@@ -1,5 +1,5 @@
 use Rattle.codespan_core.proofs.Std.{arith, common_steps, nat_tests}
-use Rattle.codespan_output.proofs.TrailingLabel.{trails_at}
+use Rattle.codespan_output.proofs.Messages.TrailingLabel.{trails_at}
 use Rattle.codespan_output.proofs.rows.messages.does_trail.Goals.{then-not-is_empty}
 use Rattle.codespan_output.proofs.rows.messages.does_trail.Goals.{else-not-is_empty}
 use Rattle.codespan_output.proofs.rows.messages.does_trail.Goals as goal

@@ -1,5 +1,5 @@
 use Rattle.codespan_core.proofs.Std.{arith, sym, ◌∙◌}
-use Rattle.codespan_output.proofs.TrailingLabel.{any_from}
+use Rattle.codespan_output.proofs.Messages.TrailingLabel.{any_from}
 use Rattle.codespan_output.proofs.rows.messages.has_any_message.Goals as goal
 
 pub returns-then-not-is_empty : goal.returns-then-not-is_empty

@@ -1,5 +1,5 @@
 use Rattle.codespan_core.proofs.Std.{arith}
-use Rattle.codespan_output.proofs.TrailingLabel.{last_here, none_ends}
+use Rattle.codespan_output.proofs.Messages.TrailingLabel.{last_here, none_ends}
 use Rattle.codespan_output.proofs.rows.messages.last_with_end.Goals as goal
 
 pub returns-then-labels-index-clause-value : goal.returns-then-labels-index-clause-value

@@ -1,5 +1,5 @@
 use Rattle.codespan_core.proofs.Std.{drop}
-use Rattle.codespan_output.proofs.TrailingLabel.{NoneEnds}
+use Rattle.codespan_output.proofs.Messages.TrailingLabel.{NoneEnds}
 use Rattle.codespan_output.proofs.rows.messages.last_with_end.Given as goal
 
 -- none of the labels from here on ends there

@@ -1,5 +1,6 @@
 use Rattle.codespan_core.proofs.Std.{◌≡◌, drop}
-use Rattle.codespan_output.specs.{single_label_view, single_label_views, overlaps_any}
+use Rattle.codespan_output.specs.{single_label_view, single_label_views}
+use Rattle.codespan_output.specs.Private.{overlaps_any}
 use Rattle.codespan_output.proofs.rows.messages.overlaps_any.Given as goal
 
 -- the remaining others decide

@@ -3,7 +3,8 @@ use Rattle.std.proofs.lemmas.Iterator.Splits.{YieldsList-from_lines}
 use Rattle.codespan_output.specs.{later_note_rows_stream, note_stream}
 use Rattle.codespan_core.proofs.Loops.{StillToWrite-start, StillToWrite-more, StillToWrite-failed}
 use Rattle.codespan_core.proofs.Loops.{StillToWrite-end}
-use Rattle.codespan_output.proofs.UnderlineRows.{first-note, later-note, lines-next, lines-none}
+use Rattle.codespan_output.proofs.Lanes.UnderlineRows.{first-note, later-note, lines-next}
+use Rattle.codespan_output.proofs.Lanes.UnderlineRows.{lines-none}
 use Rattle.codespan_output.proofs.rows.notes.write_note.Goals as goal
 
 pub returns-in_default : goal.returns-in_default

@@ -1,6 +1,6 @@
 use Rattle.std.specs.Str.Lines.{lines}
 use Rattle.codespan_output.specs.{note_stream}
-use Rattle.codespan_output.proofs.UnderlineRows.{NotesToWrite}
+use Rattle.codespan_output.proofs.Lanes.UnderlineRows.{NotesToWrite}
 use Rattle.codespan_output.proofs.rows.notes.write_note.Given as goal
 
 abbrev pub invariant-loop-note_line : goal.invariant-loop-note_line

@@ -1,4 +1,4 @@
-use Rattle.codespan_output.proofs.RowEquations.{gutter_spaces}
+use Rattle.codespan_output.proofs.Outputs.RowEquations.{gutter_spaces}
 use Rattle.codespan_output.proofs.rows.parts.outer_gutter.Goals as goal
 
 pub returns : goal.returns

@@ -5,7 +5,7 @@ use Rattle.codespan_output.specs.Private.{pointers_of, context_view, pointers_be
 use Rattle.codespan_core.proofs.Chains.{failed-before, failed-then, written-then}
 use Rattle.codespan_core.proofs.Loops.{StillToWrite-start, StillToWrite-more, StillToWrite-failed}
 use Rattle.codespan_core.proofs.Loops.{StillToWrite-last}
-use Rattle.codespan_output.proofs.SpacedPointers.{spaced-next, spaced-stop, spaced-end}
+use Rattle.codespan_output.proofs.Pointers.Spaced.{spaced-next, spaced-stop, spaced-end}
 use Rattle.codespan_output.proofs.rows.pointers.write_caret_pointers.Goals.{in-Some+then-pointer-byte_index}
 use Rattle.codespan_output.proofs.rows.pointers.write_caret_pointers.Goals.{in_default}
 use Rattle.codespan_output.proofs.rows.pointers.write_caret_pointers.Goals as goal

@@ -1,11 +1,10 @@
 use Rattle.codespan_core.proofs.Std.{◌≡◌, chars}
 use Rattle.codespan_output.specs.{single_label_views, char_metrics, metrics_before, pointers}
-use Rattle.codespan_output.specs.{hanging_row}
 use Rattle.codespan_output.specs.Private.{context_view, pointers_before_stream}
 use Rattle.codespan_core.proofs.Chains.{written-then, failed-then, failed-before, failed}
 use Rattle.codespan_core.proofs.Chains.{writes-last}
-use Rattle.codespan_output.proofs.Consecutive.{char_metrics-consecutive}
-use Rattle.codespan_output.proofs.PointersBefore.{spaced-near}
+use Rattle.codespan_output.proofs.Characters.Consecutive.{char_metrics-consecutive}
+use Rattle.codespan_output.proofs.Pointers.Before.{spaced-near}
 use Rattle.codespan_output.proofs.rows.pointers.write_hanging_row.Given.{Over}
 use Rattle.codespan_output.proofs.rows.pointers.write_hanging_row.Goals.{After-width_before-edge}
 use Rattle.codespan_output.proofs.rows.pointers.write_hanging_row.Goals as goal
@@ -27,13 +26,11 @@ before g c =
     c.requires.within_max_start (rw c.args.rows.now.input at c.width_before-edge.ensures)
 
 pub returns-in_err-write_row_start : goal.returns-in_err-write_row_start
-unfolding hanging_row
 returns-in_err-write_row_start g c =
     failed _ _ _ _ _ c.from_residual.ensures.1
     (failed-before _ (failed-before _ (failed-before _ c.in_err-write_row_start.ensures)))
 
 pub returns-in_err-write_caret_pointers : goal.returns-in_err-write_caret_pointers
-unfolding hanging_row
 returns-in_err-write_caret_pointers g c =
     let drawn = before g
     (goal.at.returns-in_err-write_caret_pointers g c).After-width_before-edge in
@@ -44,7 +41,6 @@ returns-in_err-write_caret_pointers g c =
     (rw drawn at c.in_err-write_caret_pointers.ensures))))
 
 pub returns-in_err-write_message : goal.returns-in_err-write_message
-unfolding hanging_row
 returns-in_err-write_message g c =
     let drawn = before g (goal.at.returns-in_err-write_message g c).After-width_before-edge in
     failed _ _ _ _ _ c.from_residual-in_err-write_message.ensures.1
@@ -55,7 +51,6 @@ returns-in_err-write_message g c =
     c.in_err-write_message.ensures))
 
 pub returns : goal.returns
-unfolding hanging_row
 returns g c =
     let drawn = before g (goal.at.returns g c).After-width_before-edge in
     writes-last _ _ _ _ _

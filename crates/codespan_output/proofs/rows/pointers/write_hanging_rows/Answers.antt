@@ -1,8 +1,8 @@
 use Rattle.codespan_core.proofs.Std.{◌≡◌, refl, err_from_is_err_and}
 use Rattle.codespan_core.proofs.Loops.{StillToWrite-start, StillToWrite-more, StillToWrite-same}
 use Rattle.codespan_core.proofs.Loops.{StillToWrite-failed, StillToWrite-end}
-use Rattle.codespan_output.proofs.Hanging.{hanging_first, hanging_skip, hanging_end}
-use Rattle.codespan_output.proofs.Pieces.{near-last}
+use Rattle.codespan_output.proofs.Messages.Hanging.{hanging_first, hanging_skip, hanging_end}
+use Rattle.codespan_output.proofs.Messages.Pieces.{near-last}
 use Rattle.codespan_output.proofs.rows.pointers.write_hanging_rows.Goals as goal
 
 pub loop-label-init : goal.loop-label-init

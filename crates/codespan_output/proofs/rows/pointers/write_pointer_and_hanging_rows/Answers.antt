@@ -1,17 +1,16 @@
 use Rattle.codespan_core.proofs.Std.{◌≡◌, ◌++◌, refl, sym, ◌∙◌, inl, inr}
 use Rattle.codespan_core.specs.Streams.{newline}
 use Rattle.codespan_output.specs.Private.{context_view, line_view, hanging_rows_stream}
-use Rattle.codespan_output.specs.Private.{pointer_and_hanging_rows_stream}
-use Rattle.codespan_output.specs.{pointer_row}
+use Rattle.codespan_output.specs.Private.{pointer_and_hanging_rows_stream, pointer_row}
 use Rattle.codespan_core.proofs.Chains.{written-then, failed-then, failed-before, failed}
 use Rattle.codespan_core.proofs.Chains.{writes-last}
 use Rattle.codespan_core.proofs.Loops.{StillToWrite-start, StillToWrite-end}
-use Rattle.codespan_output.proofs.Hanging.{nothing_hangs, all_hanging}
-use Rattle.codespan_output.proofs.Pieces.{before-near, after-near}
+use Rattle.codespan_output.proofs.Messages.Hanging.{nothing_hangs, all_hanging}
+use Rattle.codespan_output.proofs.Messages.Pieces.{before-near, after-near}
 use Rattle.codespan_output.proofs.rows.pointers.write_pointer_and_hanging_rows.Given.{Over}
 use Rattle.codespan_output.proofs.rows.pointers.write_pointer_and_hanging_rows.Goals.{After-write_pointer_row}
-use Rattle.codespan_output.proofs.rows.pointers.write_pointer_and_hanging_rows.Goals.{else-not-has_any_message-via-then-not-has_any_message+else-not-has_any_message-2}
 use Rattle.codespan_output.proofs.rows.pointers.write_pointer_and_hanging_rows.Goals.{else-not-has_any_message-via-else-not-has_any_message}
+use Rattle.codespan_output.proofs.rows.pointers.write_pointer_and_hanging_rows.Goals.{else-not-has_any_message-via-then-not-has_any_message+else-not-has_any_message-2}
 use Rattle.codespan_output.proofs.rows.pointers.write_pointer_and_hanging_rows.Goals as goal
 
 -- where a message hangs, the rows are the pointer row and those of the messages

@@ -1,11 +1,11 @@
 use Rattle.codespan_core.proofs.Std.{◌≡◌, ◌-◌, ◌^◌, arith, chars, IsUtf8-had}
-use Rattle.codespan_output.specs.{single_label_views, char_metrics, pointers, pointer_row}
+use Rattle.codespan_output.specs.{single_label_views, char_metrics, pointers}
 use Rattle.codespan_output.specs.Private.{context_view, pointers_before_stream}
 use Rattle.codespan_core.proofs.Chains.{written-then, failed-then, failed-before, failed}
 use Rattle.codespan_core.proofs.Chains.{writes-last}
-use Rattle.codespan_output.proofs.Consecutive.{char_metrics-consecutive}
-use Rattle.codespan_output.proofs.PointersBefore.{spaced-all}
-use Rattle.codespan_output.proofs.RowEquations.{all_before}
+use Rattle.codespan_output.proofs.Characters.Consecutive.{char_metrics-consecutive}
+use Rattle.codespan_output.proofs.Pointers.Before.{spaced-all}
+use Rattle.codespan_output.proofs.Outputs.RowEquations.{all_before}
 use Rattle.codespan_output.proofs.rows.pointers.write_pointer_row.Given.{Over}
 use Rattle.codespan_output.proofs.rows.pointers.write_pointer_row.Goals.{After-width_up_to-edge}
 use Rattle.codespan_output.proofs.rows.pointers.write_pointer_row.Goals as goal
@@ -27,13 +27,11 @@ all g c =
     c.max_label_start.ensures (rw c.args.rows.now.input at c.width_up_to-edge.ensures)
 
 pub returns-in_err-write_row_start : goal.returns-in_err-write_row_start
-unfolding pointer_row
 returns-in_err-write_row_start g c =
     failed _ _ _ _ _ c.from_residual.ensures.1
     (failed-before _ (failed-before _ c.in_err-write_row_start.ensures))
 
 pub returns-in_err-write_caret_pointers : goal.returns-in_err-write_caret_pointers
-unfolding pointer_row
 returns-in_err-write_caret_pointers g c =
     let drawn = all g (goal.at.returns-in_err-write_caret_pointers g c).After-width_up_to-edge in
     failed _ _ _ _ _ c.from_residual-in_err-write_caret_pointers.ensures.1
@@ -42,7 +40,6 @@ returns-in_err-write_caret_pointers g c =
     (rw drawn at c.in_err-write_caret_pointers.ensures)))
 
 pub returns : goal.returns
-unfolding pointer_row
 returns g c =
     let drawn = all g (goal.at.returns g c).After-width_up_to-edge in
     writes-last _ _ _ _ _

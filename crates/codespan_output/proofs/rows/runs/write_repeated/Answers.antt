@@ -1,7 +1,7 @@
 use Rattle.codespan_core.proofs.Std.{arith, refl, ◌-◌, ◌^◌, err_from_is_err_and}
 use Rattle.codespan_core.proofs.Loops.{StillToWrite-start, StillToWrite-more, StillToWrite-failed}
 use Rattle.codespan_core.proofs.Loops.{StillToWrite-last}
-use Rattle.codespan_output.proofs.RowEquations.{repeated-past}
+use Rattle.codespan_output.proofs.Outputs.RowEquations.{repeated-past}
 use Rattle.codespan_output.proofs.rows.runs.write_repeated.Goals as goal
 
 pub loop-left-init : goal.loop-left-init

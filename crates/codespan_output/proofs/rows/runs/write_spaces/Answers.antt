@@ -1,7 +1,7 @@
 use Rattle.codespan_core.proofs.Std.{arith, refl, ◌-◌, ◌^◌, err_from_is_err_and}
 use Rattle.codespan_core.proofs.Loops.{StillToWrite-start, StillToWrite-more, StillToWrite-failed}
 use Rattle.codespan_core.proofs.Loops.{StillToWrite-last}
-use Rattle.codespan_output.proofs.RowEquations.{spaces-past}
+use Rattle.codespan_output.proofs.Outputs.RowEquations.{spaces-past}
 use Rattle.codespan_output.proofs.rows.runs.write_spaces.Goals as goal
 
 pub loop-left-init : goal.loop-left-init

@@ -1,24 +1,24 @@
-use Rattle.codespan_output.specs.{source_row, border_left}
+use Rattle.codespan_output.specs.{border_left}
 use Rattle.codespan_core.proofs.Chains.{written-then, failed-then, failed-before, failed}
 use Rattle.codespan_core.proofs.Chains.{writes-last}
-use Rattle.codespan_output.proofs.RowEquations.{source_lanes_are}
+use Rattle.codespan_output.proofs.Outputs.RowEquations.{source_lanes_are}
 use Rattle.codespan_output.proofs.rows.source.write_source_row.Goals as goal
 
 pub returns-in_err-outer_gutter_number : goal.returns-in_err-outer_gutter_number
-unfolding source_row border_left
+unfolding border_left
 returns-in_err-outer_gutter_number g c =
     failed _ _ _ _ _ c.from_residual.ensures.1 (failed-before _ (failed-before _ (failed-before _
     (failed-before _ (failed-before _ c.in_err-outer_gutter_number.ensures)))))
 
 pub returns-in_err-write_glyph : goal.returns-in_err-write_glyph
-unfolding source_row border_left
+unfolding border_left
 returns-in_err-write_glyph g c =
     failed _ _ _ _ _ c.from_residual-in_err-write_glyph.ensures.1 (failed-before _ (failed-before _
     (failed-before _ (failed-before _ (failed-then _ c.in_ok-outer_gutter_number.ensures
     c.in_err-write_glyph.ensures)))))
 
 pub returns-in_err-inner_gutter : goal.returns-in_err-inner_gutter
-unfolding source_row border_left
+unfolding border_left
 returns-in_err-inner_gutter g c =
     failed _ _ _ _ _ c.from_residual-in_err-inner_gutter.ensures.1 (failed-before _ (failed-before _
     (failed-before _ (failed-then _ (written-then _ _ _ c.in_ok-outer_gutter_number.ensures
@@ -26,7 +26,7 @@ returns-in_err-inner_gutter g c =
     c.in_err-inner_gutter.ensures)))))
 
 pub returns-in_err-put_all : goal.returns-in_err-put_all
-unfolding source_row border_left
+unfolding border_left
 returns-in_err-put_all g c =
     failed _ _ _ _ _ c.from_residual-in_err-put_all.ensures.1 (failed-before _ (failed-before _
     (failed-then _ (written-then _ _ _ (written-then _ _ _ c.in_ok-outer_gutter_number.ensures
@@ -34,7 +34,7 @@ returns-in_err-put_all g c =
     c.in_ok-inner_gutter.ensures)) c.in_err-put_all.ensures)))
 
 pub returns-in_err-write_text : goal.returns-in_err-write_text
-unfolding source_row border_left
+unfolding border_left
 returns-in_err-write_text g c =
     failed _ _ _ _ _ c.from_residual-in_err-write_text.ensures.1 (failed-before _ (failed-then _
     (written-then _ _ _ (written-then _ _ _ (written-then _ _ _ c.in_ok-outer_gutter_number.ensures
@@ -42,7 +42,7 @@ returns-in_err-write_text g c =
     c.in_ok-inner_gutter.ensures)) c.in_ok-put_all.ensures) c.in_err-write_text.ensures))
 
 pub returns : goal.returns
-unfolding source_row border_left
+unfolding border_left
 returns g c =
     writes-last _ _ _ _ _ (written-then _ _ _ (written-then _ _ _ (written-then _ _ _
     (written-then _ _ _ c.in_ok-outer_gutter_number.ensures c.in_ok-write_glyph.ensures) (rw

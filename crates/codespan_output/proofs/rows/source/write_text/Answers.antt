@@ -7,9 +7,11 @@ use Rattle.codespan_output.specs.{style_change}
 use Rattle.codespan_core.proofs.Chains.{failed-before, failed-then, written-then}
 use Rattle.codespan_core.proofs.Loops.{StillToWrite-start, StillToWrite-more, StillToWrite-failed}
 use Rattle.codespan_core.proofs.Loops.{StillToWrite-last}
-use Rattle.codespan_output.proofs.TextRuns.{over-start, over-next, piece, piece-grows, text-start}
-use Rattle.codespan_output.proofs.TextRuns.{text-turn, text-same, text-tab, text_rest}
-use Rattle.codespan_output.proofs.PlainText.{tail-taken, text-over, text-past, text-plain}
+use Rattle.codespan_output.proofs.Characters.TextRuns.{over-start, over-next, piece, piece-grows}
+use Rattle.codespan_output.proofs.Characters.TextRuns.{text-start, text-turn, text-same, text-tab}
+use Rattle.codespan_output.proofs.Characters.TextRuns.{text_rest}
+use Rattle.codespan_output.proofs.Characters.PlainText.{tail-taken, text-over, text-past}
+use Rattle.codespan_output.proofs.Characters.PlainText.{text-plain}
 use Rattle.codespan_output.proofs.rows.source.write_text.Given.{Over}
 use Rattle.codespan_output.proofs.rows.source.write_text.Goals.{After-end_text_run-2}
 use Rattle.codespan_output.proofs.rows.source.write_text.Goals.{in-Some+then-end-plain, in_default}

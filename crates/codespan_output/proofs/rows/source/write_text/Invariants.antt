@@ -2,7 +2,7 @@ use Rattle.codespan_core.proofs.Std.{◌≡◌, ◌≤◌, length}
 use Rattle.codespan_output.specs.Private.{context_view, line_view}
 use Rattle.codespan_output.specs.{colored_text}
 use Rattle.codespan_core.proofs.Loops.{StillToWrite}
-use Rattle.codespan_output.proofs.TextRuns.{IsOver, piece, text_rest}
+use Rattle.codespan_output.proofs.Characters.TextRuns.{IsOver, piece, text_rest}
 use Rattle.codespan_output.proofs.rows.source.write_text.Given as goal
 
 abbrev pub invariant-loop-metrics : goal.invariant-loop-metrics

@@ -1,7 +1,7 @@
 use Rattle.codespan_core.proofs.Std.{◌≤◌, ◌==◌, length, ap, arith, sym, ◌∙◌}
 use Rattle.codespan_core.proofs.Std.{list_any}
 use Rattle.codespan_output.specs.Private.{line_view}
-use Rattle.codespan_output.proofs.PlainText.{no-style-past, tail-taken}
+use Rattle.codespan_output.proofs.Characters.PlainText.{no-style-past, tail-taken}
 use Rattle.codespan_output.proofs.rows.text_styles.plain_from.Goals as goal
 
 pub returns-else-contains-clause-style : goal.returns-else-contains-clause-style

@@ -1,6 +1,6 @@
 use Rattle.codespan_core.proofs.Std.{◌<◌, length, arith, nat_tests}
 use Rattle.codespan_core.proofs.Chains.{failed-before, failed, writes-last}
-use Rattle.codespan_output.proofs.UnderlineRows.{underline_message-some}
+use Rattle.codespan_output.proofs.Lanes.UnderlineRows.{underline_message-some}
 use Rattle.codespan_output.proofs.rows.underlines.write_underline_message.Goals as goal
 
 pub returns-in_err-put_all : goal.returns-in_err-put_all

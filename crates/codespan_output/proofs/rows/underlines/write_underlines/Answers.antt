@@ -2,8 +2,8 @@ use Rattle.codespan_core.proofs.Std.{◌≡◌, [], arith, refl, sym, drop, comm
 use Rattle.codespan_core.proofs.Std.{err_from_is_err_and}
 use Rattle.codespan_core.proofs.Loops.{StillToWrite-start, StillToWrite-more, StillToWrite-same}
 use Rattle.codespan_core.proofs.Loops.{StillToWrite-failed, StillToWrite-end}
-use Rattle.codespan_output.proofs.UnderlineRows.{underlines-in, underlines-out, width-some}
-use Rattle.codespan_output.proofs.UnderlineRows.{width-none}
+use Rattle.codespan_output.proofs.Lanes.UnderlineRows.{underlines-in, underlines-out, width-some}
+use Rattle.codespan_output.proofs.Lanes.UnderlineRows.{width-none}
 use Rattle.codespan_output.proofs.rows.underlines.write_underlines.Goals.{in-Some+in_ok-write_underline_row}
 use Rattle.codespan_output.proofs.rows.underlines.write_underlines.Goals.{in_default}
 use Rattle.codespan_output.proofs.rows.underlines.write_underlines.Goals as goal

@@ -1,8 +1,8 @@
 use Rattle.codespan_core.proofs.Std.{drop}
-use Rattle.codespan_output.specs.Private.{context_view, line_view}
-use Rattle.codespan_output.specs.{underline_rows, stream_of_rows}
+use Rattle.codespan_output.specs.Private.{context_view, line_view, underline_rows}
+use Rattle.codespan_output.specs.{stream_of_rows}
 use Rattle.codespan_core.proofs.Loops.{StillToWrite}
-use Rattle.codespan_output.proofs.UnderlineRows.{underlines_of}
+use Rattle.codespan_output.proofs.Lanes.UnderlineRows.{underlines_of}
 use Rattle.codespan_output.proofs.rows.underlines.write_underlines.Given as goal
 
 abbrev pub invariant-loop-lane_mark : goal.invariant-loop-lane_mark

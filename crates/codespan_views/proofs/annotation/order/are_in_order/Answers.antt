@@ -1,7 +1,7 @@
 use Rattle.codespan_core.proofs.Std.{◌∙◌, sym, arith}
 use Rattle.codespan_views.specs.Private.{is_before, annotation_view}
-use Rattle.codespan_output.proofs.SortedLists.{sorted-map}
-use Rattle.codespan_views.proofs.AnnotationOrder.{sorted-join}
+use Rattle.codespan_output.proofs.Order.SortedLists.{sorted-map}
+use Rattle.codespan_views.proofs.Annotations.Order.{sorted-join}
 use Rattle.codespan_views.proofs.annotation.order.are_in_order.Goals as goal
 
 pub loop-end-preserved : goal.loop-end-preserved

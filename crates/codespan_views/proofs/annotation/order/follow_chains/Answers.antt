@@ -1,7 +1,8 @@
 use Rattle.codespan_core.proofs.Std.{ℕ, ◌<◌, ◌==◌, ◌∙◌, ap, Bool, refl, arith, set}
 use Rattle.codespan_core.proofs.Std.{length, ne_eqb, length-append, ◌++◌, ◌∷◌, []}
+use Rattle.codespan_core.proofs.Std.{common_steps}
 use Rattle.codespan_views.specs.declared.annotation.order.TheConstants.{MOVED}
-use Rattle.codespan_views.proofs.KeptElements.{AreKept, AreKept-all, AreKept-more}
+use Rattle.codespan_views.proofs.Annotations.KeptElements.{AreKept, AreKept-all, AreKept-more}
 use Rattle.codespan_views.proofs.annotation.order.follow_chains.Given.{Over}
 use Rattle.codespan_views.proofs.annotation.order.follow_chains.Goals as goal
 
@@ -34,12 +35,7 @@ loop-index-smaller g c =
     omega (arith, (more g c).1, more_items)
 
 pub loop-index-preserved : goal.loop-index-preserved
-loop-index-preserved g c = record {
-  moved = rw c.push_reserved.ensures.items (more g c).0;
-  room = omega (arith, c.push_reserved.ensures.capacity, c.loop-index.invariant.room);
-}
+loop-index-preserved g c = grind (arith, common_steps, more)
 
 pub returns-clause-permutation : goal.returns-clause-permutation
-returns-clause-permutation g c =
-    λ all. AreKept-all is_moved c.args.next.now c.loop-start.next c.args.annotations.now
-    c.loop-start.moved.items c.loop-start.invariant.moved all
+returns-clause-permutation g c = grind (arith, common_steps, AreKept-all)

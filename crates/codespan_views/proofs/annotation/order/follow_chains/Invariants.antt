@@ -1,7 +1,7 @@
 use Rattle.codespan_core.proofs.Std.{◌≤◌, ◌-◌, ◌==◌, length}
 use Rattle.std.specs.Vec.{vec_capacity}
 use Rattle.codespan_views.specs.declared.annotation.order.TheConstants.{MOVED}
-use Rattle.codespan_views.proofs.KeptElements.{AreKept}
+use Rattle.codespan_views.proofs.Annotations.KeptElements.{AreKept}
 use Rattle.codespan_views.proofs.annotation.order.follow_chains.Given as goal
 
 -- the annotations that were moved are those marked, and there is room for all

@@ -1,6 +1,6 @@
 use Rattle.codespan_core.proofs.Std.{◌-◌, get_or, arith, get_or_default, common_steps}
 use Rattle.codespan_views.specs.Private.{IsLaneMarkOn, is_before, annotation_view}
-use Rattle.codespan_views.proofs.AnnotationOrder.{mark_rises, sorted-join}
+use Rattle.codespan_views.proofs.Annotations.Order.{mark_rises, sorted-join}
 use Rattle.codespan_views.proofs.annotation.order.lane_marks_end.Goals as goal
 
 pub loop-end-preserved : goal.loop-end-preserved

@@ -2,8 +2,8 @@ use Rattle.codespan_core.proofs.Std.{rules, ◌≡◌, is_lt, IsPermutation-tran
 use Rattle.codespan_core.proofs.Std.{common_steps}
 use Rattle.std.proofs.lemmas.List.Sorted.{answers_always}
 use Rattle.codespan_views.specs.Private.{is_before, annotation_view}
-use Rattle.codespan_views.proofs.AnnotationOrder.{below_order}
-use Rattle.codespan_output.proofs.SortedLists.{sorted-map}
+use Rattle.codespan_views.proofs.Annotations.Order.{below_order}
+use Rattle.codespan_output.proofs.Order.SortedLists.{sorted-map}
 use Rattle.codespan_views.proofs.annotation.order.put_in_order.Goals as goal
 
 pub returns-clause-permutation : goal.returns-clause-permutation

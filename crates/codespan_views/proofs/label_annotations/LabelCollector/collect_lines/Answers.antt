@@ -7,9 +7,9 @@ use Rattle.codespan_views.specs.declared.label_annotations.LabelCollector.{Label
 use Rattle.codespan_views.specs.Private.{label_of_collector, IsFarInside}
 use Rattle.codespan_views.specs.Private.{line_failure_unless_past_end}
 use contract.Lifetimes.{Lfts}
-use Rattle.codespan_views.proofs.Contexts.{CollectsLabel, CollectsLines, HasEnds, collected-start}
-use Rattle.codespan_views.proofs.Contexts.{collected-context, collected-reach, collected-failed}
-use Rattle.codespan_views.proofs.Contexts.{collected-line}
+use Rattle.codespan_views.proofs.Labels.Contexts.{CollectsLabel, CollectsLines, HasEnds}
+use Rattle.codespan_views.proofs.Labels.Contexts.{collected-start, collected-context}
+use Rattle.codespan_views.proofs.Labels.Contexts.{collected-reach, collected-failed, collected-line}
 use Rattle.codespan_views.proofs.label_annotations.LabelCollector.collect_lines.Given.{Over}
 use Rattle.codespan_views.proofs.label_annotations.LabelCollector.collect_lines.Goals.{After-contains}
 use Rattle.codespan_views.proofs.label_annotations.LabelCollector.collect_lines.Goals.{Else-not-branch}
@@ -118,10 +118,7 @@ one_more g c =
     (known.inside on) (known.added on) (known.padding on) (known.succeeded on)
 
 pub loop-index-preserved : goal.loop-index-preserved
-loop-index-preserved g c = record {
-  lines = one_more g (goal.at.loop-index-preserved g c).Else-not-branch;
-  files = c.in_ok-collect_line.ensures.files ∙ c.loop-index.invariant.files;
-}
+loop-index-preserved g c = grind (arith, common_steps, one_more)
 
 -- the last line is done with
 all_done : (g : Over) (c : goal.Else-not-branch g) → c.max-index-end.result

@@ -1,6 +1,6 @@
 use Rattle.codespan_core.proofs.Std.{◌≡◌}
 use Rattle.codespan_views.specs.Private.{label_of_collector}
-use Rattle.codespan_views.proofs.Contexts.{CollectsLines}
+use Rattle.codespan_views.proofs.Labels.Contexts.{CollectsLines}
 use Rattle.codespan_views.proofs.label_annotations.LabelCollector.collect_lines.Given as goal
 
 -- the lines below this one are done with

@@ -1,7 +1,8 @@
 use Rattle.codespan_views.specs.Private.{label_of_collector}
-use Rattle.codespan_views.proofs.Collecting.{AppendsAnnotations-as, AppendsAnnotations-both}
-use Rattle.codespan_views.proofs.Collecting.{AppendsAnnotations-weaker, annotation_if_any-line}
-use Rattle.codespan_views.proofs.Collecting.{far-kind, far-multi_label}
+use Rattle.codespan_views.proofs.Labels.Collecting.{AppendsAnnotations-as, AppendsAnnotations-both}
+use Rattle.codespan_views.proofs.Labels.Collecting.{AppendsAnnotations-weaker}
+use Rattle.codespan_views.proofs.Labels.Collecting.{annotation_if_any-line, far-kind}
+use Rattle.codespan_views.proofs.Labels.Collecting.{far-multi_label}
 use Rattle.codespan_views.proofs.label_annotations.LabelCollector.push_line.Goals as goal
 
 -- a line far from the ends has the label's lane mark alone

@@ -1,16 +1,17 @@
 use Rattle.codespan_core.proofs.Std.{Err, rules, refl, sym, ◌∙◌, arith, nat_tests}
+use Rattle.codespan_core.proofs.Std.{common_steps}
 use contract.Lifetimes.{Lfts}
 use Rattle.codespan_output.specs.OutputStreams.{context_of}
 use Rattle.codespan_output.specs.RowStreams.{stream_of_rows}
 use Rattle.codespan_views.specs.Private.{closing_rows}
 use Rattle.codespan_views.specs.{diagnostic_of, view_config_of}
 use Rattle.codespan_core.proofs.Chains.{failed-before}
-use Rattle.codespan_views.proofs.CollectedFiles.{failure-is, looked-up}
-use Rattle.codespan_views.proofs.LabelIndexing.{AreFiles, are-files}
-use Rattle.codespan_views.proofs.RendererRuns.{exit_is, renders_then}
-use Rattle.codespan_views.proofs.RichParts.{IsReady, bare-whole, failed-collecting}
-use Rattle.codespan_views.proofs.RichParts.{failed-in_header, failed-in_snippets, failed-looking_up}
-use Rattle.codespan_views.proofs.RichParts.{ready, rendered-whole}
+use Rattle.codespan_views.proofs.Files.Collected.{failure-is, looked-up}
+use Rattle.codespan_views.proofs.Labels.Indexing.{AreFiles, are-files}
+use Rattle.codespan_views.proofs.Outputs.RendererRuns.{exit_is, renders_then}
+use Rattle.codespan_views.proofs.Outputs.RichParts.{IsReady, bare-whole, failed-collecting}
+use Rattle.codespan_views.proofs.Outputs.RichParts.{failed-in_header, failed-in_snippets}
+use Rattle.codespan_views.proofs.Outputs.RichParts.{failed-looking_up, ready, rendered-whole}
 use Rattle.codespan_views.proofs.rich.RichDiagnostic.render.Given.{Over}
 use Rattle.codespan_views.proofs.rich.RichDiagnostic.render.Goals.{In_ok-numbers}
 use Rattle.codespan_views.proofs.rich.RichDiagnostic.render.Goals as goal
@@ -18,10 +19,7 @@ use Rattle.codespan_views.proofs.rich.RichDiagnostic.render.Goals as goal
 -- the files are lawful
 are_lawful : (g : Over) (κs : Lfts 12) → g.claim κs → (files : g.row.F.Denot)
     → AreFiles (g.F.Files.database files)
-are_lawful g κs claim files =
-    let laws = g.met.F.Files κs claim in
-    are-files (laws.same_is_eq files) g.met.FileId.Eq.laws (laws.same_file files)
-    (laws.lawful files)
+are_lawful g κs claim files = grind (arith, common_steps, are-files)
 
 -- what the header waits for has been looked up
 is_ready : (g : Over) (c : In_ok-numbers g)

@@ -1,25 +1,27 @@
 use Rattle.codespan_core.proofs.Std.{◌≡◌, ◌==◌, ◌+◌, ◌||◌, not, rules, List, []}
 use Rattle.codespan_core.proofs.Std.{◌∷◌, length, map, Ok, Err, refl, sym, ap, ◌∙◌}
-use Rattle.codespan_core.proofs.Std.{arith, nat_lt, string_bytes, true, false, Bool, ne_eqb}
+use Rattle.codespan_core.proofs.Std.{arith, nat_lt, true, false, Bool, ne_eqb, common_steps}
 use Rattle.codespan_output.specs.OutputStreams.{labels_of, notes_of}
-use Rattle.codespan_output.specs.Snippets.{has_any, labeled_file_model}
+use Rattle.codespan_output.specs.Snippets.{labeled_file_model}
 use Rattle.codespan_views.specs.Private.{annotation_view, lines_of}
 use Rattle.codespan_views.specs.{diagnostic_of, view_config_of}
-use Rattle.codespan_views.proofs.CollectedFiles.{IsFileOfLabels, file-at}
-use Rattle.codespan_views.proofs.FileLengths.{rest-sorted}
-use Rattle.codespan_views.proofs.FileSlices.{from_file-first, next_slice}
-use Rattle.codespan_views.proofs.FileTurns.{IsAtFile, next_inside, next_left, own_lines}
-use Rattle.codespan_views.proofs.FileTurns.{own_snippet_lines}
-use Rattle.codespan_views.proofs.IndexedElements.{element-equal}
-use Rattle.codespan_views.proofs.LabelIndexing.{are-files}
-use Rattle.codespan_views.proofs.LookupRuns.{left_after, left_cut, run_failed, run_of_writes}
-use Rattle.codespan_views.proofs.RendererRuns.{exit_is, rows-rendered}
-use Rattle.codespan_views.proofs.SnippetsRendered.{left-end, left-lines, left-parts, left-row}
-use Rattle.codespan_views.proofs.SnippetsRendered.{left-source, left-start, own-numbers, own-taken}
+use Rattle.codespan_views.proofs.Files.Collected.{IsFileOfLabels, file-at}
+use Rattle.codespan_views.proofs.Files.Lengths.{rest-sorted}
+use Rattle.codespan_views.proofs.Files.Slices.{from_file-first, next_slice}
+use Rattle.codespan_views.proofs.Files.Turns.{IsAtFile, next_inside, next_left, own_lines}
+use Rattle.codespan_views.proofs.Files.Turns.{own_snippet_lines}
+use Rattle.codespan_views.proofs.Annotations.IndexedElements.{element-equal}
+use Rattle.codespan_views.proofs.Labels.Indexing.{are-files}
+use Rattle.codespan_views.proofs.Errors.LookupRuns.{left_after, left_cut, run_failed, run_of_writes}
+use Rattle.codespan_views.proofs.Outputs.RendererRuns.{exit_is, rows-rendered}
+use Rattle.codespan_views.proofs.Outputs.SnippetsRendered.{left-end, left-lines, left-parts}
+use Rattle.codespan_views.proofs.Outputs.SnippetsRendered.{left-row, left-source, left-start}
+use Rattle.codespan_views.proofs.Outputs.SnippetsRendered.{own-numbers, own-taken}
 use Rattle.codespan_views.proofs.rich.RichDiagnostic.render_snippets.Given.{Over}
 use Rattle.codespan_views.proofs.rich.RichDiagnostic.render_snippets.Goals.{After-deref-in-loop-index}
 use Rattle.codespan_views.proofs.rich.RichDiagnostic.render_snippets.Goals.{Joined-notes_follow}
-use Rattle.codespan_views.proofs.FilesInOrder.{ids-of_labels}
+use Rattle.codespan_views.proofs.Files.InOrder.{ids-of_labels}
+use Rattle.codespan_output.specs.Private.LineRows.{has_any}
 use Rattle.codespan_views.proofs.rich.RichDiagnostic.render_snippets.Goals as goal
 
 -- there is an element where there is one that is mapped
@@ -123,16 +125,7 @@ followed : (g : Over) (c : Joined-notes_follow g)
     → c.if-notes_follow.is_followed
     ≡ (has_any (notes_of (diagnostic_of c.args.self.now))
     || nat_lt (c.loop-index.index + 1) (length c.args.collected.now.files.items))
-followed g c =
-    let notes = (diagnostic_of c.args.self.now).notes in
-    let files = c.args.collected.now.files in
-    let known = ap not (c.is_empty-notes_follow.ensures ∙ ap (λ n. n == 0) notes.ok.0)
-    ∙ any-mapped string_bytes notes.items in
-    elim c.if-notes_follow.branch [
-      | goal.then-notes_follow w ↦ rw (sym known, w.is_followed-is, w.if-notes_follow.true)
-      | goal.else-notes_follow w ↦
-          rw (sym known, w.is_followed-is, w.if-notes_follow.false, w.len.ensures, files.ok.0)
-    ]
+followed g c = grind (arith, common_steps, any-mapped)
 
 pub returns-in_err-render_empty_row-clause-renders :
     goal.returns-in_err-render_empty_row-clause-renders

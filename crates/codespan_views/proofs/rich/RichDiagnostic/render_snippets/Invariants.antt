@@ -5,8 +5,8 @@ use Rattle.codespan_output.specs.Private.LineViews.{context_view}
 use Rattle.codespan_renderer.specs.Private.RowWriters.{row_writer_sink}
 use Rattle.codespan_views.specs.Private.{annotation_view, known_numbers_of_labels, ids_view}
 use Rattle.codespan_views.specs.{diagnostic_of, view_config_of}
-use Rattle.codespan_views.proofs.FileSlices.{from_file}
-use Rattle.codespan_views.proofs.SnippetsRendered.{SnippetsLeft}
+use Rattle.codespan_views.proofs.Files.Slices.{from_file}
+use Rattle.codespan_views.proofs.Outputs.SnippetsRendered.{SnippetsLeft}
 use Rattle.codespan_views.proofs.rich.RichDiagnostic.render_snippets.Given as goal
 
 -- the files before this one have been rendered, and the annotations and the numbers that are left

@@ -1,8 +1,8 @@
 use Rattle.codespan_core.proofs.Std.{◌≡◌, Err, append-nil, ap, ◌∙◌, slice_get}
-use Rattle.codespan_core.proofs.Std.{err_from_is_err_and}
+use Rattle.codespan_core.proofs.Std.{err_from_is_err_and, arith, common_steps}
 use Rattle.std.specs.Slice.Iter.{iter_rest}
-use Rattle.codespan_views.proofs.FilledNumbers.{next-number}
-use Rattle.codespan_views.proofs.LookupRuns.{run_failed}
+use Rattle.codespan_views.proofs.Lines.FilledNumbers.{next-number}
+use Rattle.codespan_views.proofs.Errors.LookupRuns.{run_failed}
 use Rattle.codespan_views.proofs.snippet.Snippet.render_filled.Given.{Over}
 use Rattle.codespan_views.proofs.snippet.Snippet.render_filled.Goals.{After-copied-number}
 use Rattle.codespan_views.proofs.snippet.Snippet.render_filled.Goals as goal
@@ -10,9 +10,7 @@ use Rattle.codespan_views.proofs.snippet.Snippet.render_filled.Goals as goal
 -- the number is the first one that is left
 number-is : (g : Over) (c : After-copied-number g)
     → c.copied-number.result ≡ slice_get (iter_rest c.args.buffers.now.numbers) 0
-number-is g c =
-    c.copied-number.ensures
-    ∙ next-number c.args.buffers.now.numbers c.next.new.self c.next.result c.next.ensures.steps
+number-is g c = grind (arith, common_steps, next-number)
 
 pub returns-in_err-line-clause-renders : goal.returns-in_err-line-clause-renders
 returns-in_err-line-clause-renders g c =

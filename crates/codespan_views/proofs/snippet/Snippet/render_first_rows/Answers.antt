@@ -1,16 +1,11 @@
-use Rattle.codespan_core.proofs.Std.{Err, ap, ◌∙◌, err_from_is_err_and}
+use Rattle.codespan_core.proofs.Std.{err_from_is_err_and, arith, common_steps}
 use Rattle.codespan_core.proofs.Chains.{failed-before, writes-last}
 use Rattle.codespan_renderer.proofs.RowWriters.{writes_as}
 use Rattle.codespan_views.proofs.snippet.Snippet.render_first_rows.Goals as goal
 
 pub returns-in_err-outcome : goal.returns-in_err-outcome
 returns-in_err-outcome g c =
-    let p = err_from_is_err_and c.from_residual.result c.from_residual.ensures.1 in
-    rw (p.1 ∙ ap Err p.2) (record {
-      writes = failed-before _
-          (writes_as _ _ _ _ _ c.in_err-outcome.ensures.same c.write_snippet_start-written.ensures);
-      io = c.in_err-outcome.ensures.io;
-    })
+    grind (arith, common_steps, err_from_is_err_and, failed-before, writes_as)
 
 pub returns : goal.returns
 returns g c = record {

@@ -1,5 +1,5 @@
 use Rattle.codespan_core.proofs.Std.{err_from_is_err_and}
-use Rattle.codespan_views.proofs.LookupRuns.{run_out_of_memory}
+use Rattle.codespan_views.proofs.Errors.LookupRuns.{run_out_of_memory}
 use Rattle.codespan_views.proofs.snippet.Snippet.render_line.Goals as goal
 
 pub returns-in_err-refill-clause-renders : goal.returns-in_err-refill-clause-renders

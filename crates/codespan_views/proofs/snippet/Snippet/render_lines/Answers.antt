@@ -1,17 +1,17 @@
 use Rattle.codespan_core.proofs.Std.{Some, ◌≡◌, List, ◌∷◌, ◌++◌, map, Err, refl}
-use Rattle.codespan_core.proofs.Std.{sym, ap, ◌∙◌, arith, err_from_is_err_and}
+use Rattle.codespan_core.proofs.Std.{sym, ap, ◌∙◌, arith, err_from_is_err_and, common_steps}
 use Rattle.std.specs.Slice.Iter.{iter_rest}
 use Rattle.std.proofs.lemmas.List.Elements.{All-drop}
 use Rattle.codespan_renderer.specs.Private.RowWriters.{row_writer_sink}
 use Rattle.codespan_views.specs.Private.{RustAnnotation, IsLineOf, annotation_view, SnippetLine}
 use Rattle.codespan_views.specs.Private.{lines_of, model_of}
-use Rattle.codespan_views.proofs.FilledNumbers.{gap-break, gap-filled, gap-none}
-use Rattle.codespan_views.proofs.LinesRendered.{LinesLeft, left-cut, left-first, left-more}
-use Rattle.codespan_views.proofs.LinesRendered.{left-none, left-same}
-use Rattle.codespan_views.proofs.SnippetLineViews.{IsNextGroup, later-are, later-fewer, later_than}
-use Rattle.codespan_views.proofs.SnippetLineViews.{later-known, first-of, gap_of, later_of}
-use Rattle.codespan_views.proofs.SnippetLineViews.{lines_left, lines_left-none, shown_of}
-use Rattle.codespan_views.proofs.SnippetLineViews.{views_of-gap}
+use Rattle.codespan_views.proofs.Lines.FilledNumbers.{gap-break, gap-filled, gap-none}
+use Rattle.codespan_views.proofs.Lines.Rendered.{LinesLeft, left-cut, left-first, left-more}
+use Rattle.codespan_views.proofs.Lines.Rendered.{left-none, left-same}
+use Rattle.codespan_views.proofs.Lines.SnippetLineViews.{IsNextGroup, later-are, later-fewer}
+use Rattle.codespan_views.proofs.Lines.SnippetLineViews.{later_than, later-known, first-of, gap_of}
+use Rattle.codespan_views.proofs.Lines.SnippetLineViews.{later_of, lines_left, lines_left-none}
+use Rattle.codespan_views.proofs.Lines.SnippetLineViews.{shown_of, views_of-gap}
 use Rattle.codespan_views.proofs.snippet.Snippet.render_lines.Given.{Over}
 use Rattle.codespan_views.proofs.snippet.Snippet.render_lines.Goals.{After-lines_between-between}
 use Rattle.codespan_views.proofs.snippet.Snippet.render_lines.Goals.{Joined-between-eq1}
@@ -23,11 +23,7 @@ use Rattle.codespan_views.proofs.snippet.Snippet.render_lines.Goals as goal
 -- the annotations of a line are counted
 next : (g : Over) (c : After-lines_between-between g)
     → IsNextGroup c.loop-first.rest.now c.in-Some.first.now c.count_on_line-count.result
-next g c =
-    record {
-      first = sym c.in-Some.ensures.value;
-      counted = c.count_on_line-count.ensures.value;
-    }
+next g c = grind (arith, common_steps)
 
 -- the line of an annotation is the file's
 abbrev OfFile : (g : Over) (c : After-lines_between-between g)
@@ -51,18 +47,10 @@ opens g c =
     c.lines_between-between.ensures.gap
 
 pub render_filled-requires : goal.render_filled-requires
-render_filled-requires g c κs =
-    let at = (goal.at.render_filled-requires g c).After-lines_between-between in
-    let has = (left-first _ (opens g at) (gap-filled _ _ _ _ c.if-between-eq1.true)
-    c.loop-first.invariant.left).has in
-    ((refl, (refl, tt)), (c.requires.drawn.source, (has.numbers_are.0, has.in_order.0)))
+render_filled-requires g c κs = grind (arith, common_steps, left-first, opens, gap-filled)
 
 pub render_break-requires : goal.render_break-requires
-render_break-requires g c κs =
-    let at = (goal.at.render_break-requires g c).After-lines_between-between in
-    let has = (left-first _ (opens g at) (gap-break _ _ _ _ c.if-between-gt1.true)
-    c.loop-first.invariant.left).has in
-    ((refl, (refl, tt)), has.in_order.0)
+render_break-requires g c κs = grind (arith, common_steps, left-first, opens, gap-break)
 
 pub returns-in_err-render_filled-clause-renders : goal.returns-in_err-render_filled-clause-renders
 returns-in_err-render_filled-clause-renders g c =
@@ -147,13 +135,7 @@ returns-in_err-render_line-clause-renders g c =
     rw (p.1 ∙ ap Err p.2) (left-cut before.left c.in_err-render_line.ensures.renders)
 
 pub loop-first-smaller : goal.loop-first-smaller
-loop-first-smaller g c =
-    let at = (goal.at.loop-first-smaller g c).After-lines_between-between in
-    omega (
-      arith,
-      later-fewer (next g at) c.count_on_line-count.ensures.within,
-      c.skip_hidden-skipped.ensures.within,
-    )
+loop-first-smaller g c = grind (arith, common_steps, later-fewer, next)
 
 pub loop-first-preserved : goal.loop-first-preserved
 loop-first-preserved g c =

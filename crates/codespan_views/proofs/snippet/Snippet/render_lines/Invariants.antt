@@ -2,8 +2,8 @@ use Rattle.codespan_core.proofs.Std.{◌≤◌, length, map, All, IfSome, IsTrue
 use Rattle.std.specs.Slice.Iter.{iter_rest}
 use Rattle.codespan_renderer.specs.Private.RowWriters.{row_writer_sink}
 use Rattle.codespan_views.specs.Private.{shows_line, IsLineOf, annotation_view, lines_of, model_of}
-use Rattle.codespan_views.proofs.LinesRendered.{LinesLeft}
-use Rattle.codespan_views.proofs.SnippetLineViews.{lines_left}
+use Rattle.codespan_views.proofs.Lines.Rendered.{LinesLeft}
+use Rattle.codespan_views.proofs.Lines.SnippetLineViews.{lines_left}
 use Rattle.codespan_views.proofs.snippet.Snippet.render_lines.Given as goal
 
 -- some snippet lines have been rendered, and the remaining annotations make the rest

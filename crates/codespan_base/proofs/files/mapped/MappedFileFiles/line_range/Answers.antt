@@ -1,8 +1,8 @@
-use Rattle.codespan_core.proofs.Std.{◌+◌, ◌<◌, length, arith}
+use Rattle.codespan_core.proofs.Std.{◌+◌, ◌<◌, length, arith, common_steps}
 use Rattle.codespan_core.specs.Lemmas.Simple.{end_before_last}
 use Rattle.codespan_core.specs.Lines.{line_starts_of}
 use Rattle.codespan_base.specs.MappedFileViews.{mapped_text_of}
-use Rattle.codespan_base.specs.Lemmas.Mapped.{mapped_end_before_last, next_above}
+use Rattle.codespan_base.specs.Lemmas.Mapped.{next_above}
 use Rattle.codespan_base.proofs.files.mapped.MappedFileFiles.line_range.Goals as goal
 
 -- the next line starts after a newline
@@ -21,22 +21,7 @@ overflow_sub-result g c =
 -- the range of a line before the last leaves out the newline
 pub returns-then-line_index-line_count-clause-value
     : goal.returns-then-line_index-line_count-clause-value
-returns-then-line_index-line_count-clause-value g c =
-    let text = mapped_text_of c.args.self.now in
-    let next : c.args.line_index + 1 < length (line_starts_of text) =
-    omega (arith, c.line_count.ensures.value) in
-    let line = c.in_ok-range.ensures.value in
-    record {
-      inside = line.inside;
-      start_is = line.start_is;
-      end_is =
-          omega (
-            arith,
-            line.end_is,
-            end_before_last text c.args.line_index next,
-            mapped_end_before_last text c.args.line_index next,
-          );
-    }
+returns-then-line_index-line_count-clause-value g c = grind (arith, common_steps)
 
 pub returns-then-line_index-line_count-clause-memory
     : goal.returns-then-line_index-line_count-clause-memory

@@ -6,7 +6,7 @@ pub returns-in-Bottom-2 : goal.returns-in-Bottom-2
 returns-in-Bottom-2 c =
     rw (
       c.in-Bottom-2.is,
-      ne_eqb c.args.lane c.args.corner_lane c.if-lane-corner_lane-3.false,
-      lt-ltb c.args.lane c.args.corner_lane c.if-lane-corner_lane-4.true,
+      ne_eqb c.args.lane c.args.corner.0 c.if-lane-corner_lane-3.false,
+      lt-ltb c.args.lane c.args.corner.0 c.if-lane-corner_lane-4.true,
     )
     refl

@@ -2,8 +2,9 @@ use Rattle.codespan_core.proofs.Std.{◌≡◌, ◌+◌, Some, None, [], refl, s
 use Rattle.codespan_core.proofs.Std.{append-nil, drop, take, take-append-drop}
 use Rattle.codespan_output.specs.{single_label_views, trailing_label}
 use Rattle.codespan_output.specs.Private.{AreHanging}
-use Rattle.codespan_output.proofs.Hanging.{trailing_here, hanging_here, nothing_trails, none_trails}
-use Rattle.codespan_output.proofs.Pieces.{taken-dropped}
+use Rattle.codespan_output.proofs.Messages.Hanging.{trailing_here, hanging_here, nothing_trails}
+use Rattle.codespan_output.proofs.Messages.Hanging.{none_trails}
+use Rattle.codespan_output.proofs.Messages.Pieces.{taken-dropped}
 use Rattle.codespan_output.proofs.rows.messages.Messages.of.Goals.{in-Some, in_default}
 use Rattle.codespan_output.proofs.rows.messages.Messages.of.Goals.{in_default-via-in-Some+else-does_trail}
 use Rattle.codespan_output.proofs.rows.messages.Messages.of.Goals.{in_default-via-in_default}

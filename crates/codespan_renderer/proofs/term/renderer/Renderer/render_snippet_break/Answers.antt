@@ -1,10 +1,16 @@
-use Rattle.codespan_core.proofs.Std.{refl, rules}
+use Rattle.codespan_core.proofs.Std.{◌++◌, ap, rules}
+use Rattle.codespan_core.specs.Streams.{newline}
+use Rattle.codespan_output.specs.Arguments.{lanes_of}
+use Rattle.codespan_output.specs.Rows.{RowContext, BreakRow}
+use Rattle.codespan_output.specs.RowStreams.{stream_of}
 use Rattle.codespan_renderer.proofs.RowWriters.{renders}
 use Rattle.codespan_renderer.proofs.term.renderer.Renderer.render_snippet_break.Goals as goal
 
 pub returns : goal.returns
 returns g c =
     renders _ _ _ _ _ c.new-rows.result c.write_break-written.new.w _ _ _
-    (rw c.context-context.ensures refl)
+    (ap (λ (x : RowContext). stream_of x
+    (BreakRow (lanes_of c.args.num_multi_labels c.args.multi_labels.now)) ++ newline)
+    c.context-context.ensures)
     c.new-rows.ensures.reference c.new-rows.ensures.writer c.write_break-written.ensures
     c.outcome.ensures.same c.outcome.ensures.io (search rules) (search rules)

@@ -4,8 +4,7 @@ use Rattle.codespan_views.specs.Private.{annotation_view, single_labels_in}
 use Rattle.codespan_views.proofs.snippet.line_buffers.LineBuffers.refill.Given as goal
 
 -- the single-line labels that were taken and those that are left make the whole; the lane marks
--- were
--- all taken
+-- were all taken
 abbrev pub invariant-loop-annotation : goal.invariant-loop-annotation
 invariant-loop-annotation g l = record {
   single_labels : single_label_views l.self.single_labels.items

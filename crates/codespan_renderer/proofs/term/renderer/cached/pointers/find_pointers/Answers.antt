@@ -1,11 +1,9 @@
-use Rattle.codespan_core.proofs.Std.{◌≡◌, ◌∙◌, ◌++◌, ap, append-nil, refl, sym}
-use Rattle.codespan_core.proofs.Std.{arith, chars, IsUtf8-had}
-use Rattle.codespan_output.specs.CharMetrics.{char_metrics}
+use Rattle.codespan_core.proofs.Std.{◌∙◌, ◌++◌, ap, append-nil, sym, arith, IsUtf8-had}
+use Rattle.codespan_core.proofs.Std.{common_steps}
 use Rattle.codespan_output.specs.Arguments.{single_label_views}
-use Rattle.codespan_renderer.specs.Private.{remaining_from_cache}
-use Rattle.codespan_output.proofs.Consecutive.{char_metrics-consecutive}
-use Rattle.codespan_output.proofs.Hanging.{none_hangs}
-use Rattle.codespan_output.proofs.ScanState.{scan_state-char_metrics, scan_state-more}
+use Rattle.codespan_output.proofs.Characters.Consecutive.{char_metrics-consecutive}
+use Rattle.codespan_output.proofs.Messages.Hanging.{none_hangs}
+use Rattle.codespan_output.proofs.Characters.ScanState.{scan_state-char_metrics, scan_state-more}
 use Rattle.codespan_renderer.proofs.PiecesInOrder.{before-ordered, after-ordered}
 use Rattle.codespan_renderer.proofs.PointerCursors.{no-pointers, passing-start, passing-at}
 use Rattle.codespan_renderer.proofs.PointerCursors.{passing-more, found-style, found-some}
@@ -15,36 +13,20 @@ use Rattle.codespan_renderer.proofs.term.renderer.cached.pointers.find_pointers.
 pub returns-then-not-has_any_message-2-clause-found :
     goal.returns-then-not-has_any_message-2-clause-found
 returns-then-not-has_any_message-2-clause-found c =
-    let early = sym c.has_any_message.ensures ∙ c.if-not-has_any_message.true in
-    let late =
-    sym c.has_any_message-then-not-has_any_message.ensures ∙ c.if-not-has_any_message-2.true in
-    rw (c.clear.ensures.items, none_hangs _ _ _ c.args.messages.hanging_labels early late)
-    (sym (no-pointers (char_metrics c.args.tab_width c.args.line.text.now)))
+    grind (arith, common_steps, none_hangs, no-pointers)
 
 pub loop-metrics-init : goal.loop-metrics-init
 loop-metrics-init c =
-    let all : remaining_from_cache c.into_iter-metrics-iterator.result
-    ≡ char_metrics c.args.tab_width c.args.line.text.now =
-    ap remaining_from_cache c.into_iter-metrics-iterator.ensures.into_iter_gives
-    ∙ c.requires.characters in
-    rw (all, c.clear.ensures.items) record {
-      cursor =
-          passing-start _ _ _ _ _
-          (record {
-            is = λ x found low. refl;
-            ordered = before-ordered _ _ _ c.args.messages.slices
-                c.requires.ordered;
-          })
-          (record {
-            is = λ x found low. refl;
-            ordered = after-ordered _ _ _ c.args.messages.slices
-                c.requires.ordered;
-          })
-          refl refl
-          (char_metrics-consecutive c.args.tab_width 0 0 (chars c.args.line.text.now));
-      scan_state = scan_state-char_metrics _ _ (IsUtf8-had _ c.args.line.utf8);
-      found = refl;
-    }
+    grind (
+      arith,
+      common_steps,
+      passing-start,
+      before-ordered,
+      after-ordered,
+      char_metrics-consecutive,
+      scan_state-char_metrics,
+      IsUtf8-had,
+    )
 
 pub returns-then-metrics-greatest_start-clause-found :
     goal.returns-then-metrics-greatest_start-clause-found

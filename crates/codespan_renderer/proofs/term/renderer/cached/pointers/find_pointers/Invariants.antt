@@ -1,10 +1,10 @@
 use Rattle.codespan_core.proofs.Std.{◌≡◌, ◌++◌, length}
 use Rattle.codespan_output.specs.CharMetrics.{char_metrics}
 use Rattle.codespan_output.specs.Arguments.{single_label_views}
-use Rattle.codespan_output.specs.Private.PointerLists.{pointers_in}
 use Rattle.codespan_output.specs.Rows.{hanging_labels}
+use Rattle.codespan_output.specs.Private.PointerLists.{pointers_in}
 use Rattle.codespan_renderer.specs.Private.{remaining_from_cache}
-use Rattle.codespan_output.proofs.ScanState.{ScanState}
+use Rattle.codespan_output.proofs.Characters.ScanState.{ScanState}
 use Rattle.codespan_renderer.proofs.PointerCursors.{IsPassing}
 use Rattle.codespan_renderer.proofs.term.renderer.cached.pointers.find_pointers.Given as goal
 

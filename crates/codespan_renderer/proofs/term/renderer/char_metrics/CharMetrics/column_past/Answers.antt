@@ -3,7 +3,7 @@ use Rattle.codespan_output.specs.CharMetrics.{width_of}
 use Rattle.codespan_output.specs.RowParts.{metrics_up_to}
 use Rattle.codespan_renderer.specs.Private.{metrics_from, no_more}
 use Rattle.codespan_renderer.proofs.CachedScans.{past-scan}
-use Rattle.codespan_output.proofs.Widths.{width-out}
+use Rattle.codespan_output.proofs.Characters.Widths.{width-out}
 use Rattle.codespan_renderer.proofs.term.renderer.char_metrics.CharMetrics.column_past.Goals as goal
 
 pub returns-then-metrics-byte_index : goal.returns-then-metrics-byte_index

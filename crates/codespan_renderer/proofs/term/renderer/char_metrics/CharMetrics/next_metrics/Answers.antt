@@ -1,10 +1,9 @@
-use Rattle.codespan_core.proofs.Std.{◌≡◌, refl, sym, ◌∙◌, arith, IsUtf8-had}
-use Rattle.codespan_core.proofs.Std.{len_utf8_bounds}
+use Rattle.codespan_core.proofs.Std.{sym, ◌∙◌, arith, IsUtf8-had, len_utf8_bounds}
+use Rattle.codespan_core.proofs.Std.{common_steps}
 use Rattle.std.specs.Str.Iter.{chars_rest}
 use Rattle.std.proofs.lemmas.Str.{IsUtf8-past_char, drop_past_char}
-use Rattle.codespan_renderer.specs.Private.{MetricsAfterEnd, metrics_from}
 use Rattle.codespan_renderer.proofs.MetricsSteps.{metrics_then-char, metrics_then-end, bytes-taken}
-use Rattle.codespan_output.proofs.CharSteps.{bytes_left}
+use Rattle.codespan_output.proofs.Characters.Steps.{bytes_left}
 use Rattle.codespan_renderer.proofs.term.renderer.char_metrics.CharMetrics.next_metrics.Goals as goal
 
 pub invariant_of-self : goal.invariant_of-self
@@ -28,30 +27,7 @@ invariant_of-self c =
 
 pub returns-in-Some-clause-yields : goal.returns-in-Some-clause-yields
 returns-in-Some-clause-yields c =
-    let step = c.in-Some.ensures.steps.0 in
-    let bytes = bytes-taken c.as_str-left.result.now c.as_str.result.now _ _ c.in-Some.ch
-    c.as_str-left.ensures c.as_str.ensures step in
-    record {
-      yields =
-          λ after. metrics_then-char after _ _ _ _ _ _ _ _ (IsUtf8-had _ c.args.self.now.utf8) step
-          bytes c.width_at.ensures;
-      starts_at_byte = refl;
-      starts_at_column = refl;
-      has_byte = omega (arith, bytes, (len_utf8_bounds c.in-Some.ch).0);
-      byte_index = refl;
-      column = refl;
-    }
+    grind (arith, common_steps, bytes-taken, metrics_then-char, IsUtf8-had, len_utf8_bounds)
 
 pub returns-in-None-clause-yields : goal.returns-in-None-clause-yields
-returns-in-None-clause-yields c =
-    let none = c.in-None.ensures.steps.0 in
-    let end : (after : MetricsAfterEnd) → metrics_from after c.args.self.now
-    ≡ after c.args.self.now.byte_index c.args.self.now.column =
-    λ after. metrics_then-end after c.args.self.now.tab_width c.args.self.now.byte_index
-    c.args.self.now.column (chars_rest c.args.self.now.chars) none.0 in
-    record {
-      none = end;
-      stays = rw none.1 end;
-      byte_index = refl;
-      column = refl;
-    }
+returns-in-None-clause-yields c = grind (arith, common_steps, metrics_then-end)

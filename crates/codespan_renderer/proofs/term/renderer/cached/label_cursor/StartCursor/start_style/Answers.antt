@@ -1,4 +1,4 @@
-use Rattle.codespan_core.proofs.Std.{◌+◌, sym, ◌∙◌, arith}
+use Rattle.codespan_core.proofs.Std.{◌+◌, sym, ◌∙◌, arith, common_steps}
 use Rattle.codespan_renderer.proofs.LabelCursorSteps.{starts-rest, starts-first, starts-past}
 use Rattle.codespan_renderer.proofs.StartsPassed.{start-here, start-before, none-start}
 use Rattle.codespan_renderer.proofs.StartsPassed.{prefix-start}
@@ -41,13 +41,4 @@ loop-self-preserved c =
     }
 
 pub returns-else-starts_before_end-clause-style : goal.returns-else-starts_before_end-clause-style
-returns-else-starts_before_end-clause-style c =
-    let i = c.loop-self.invariant in
-    let late = sym c.starts_before_end.ensures ∙ c.if-starts_before_end.false in
-    let past =
-    starts-past c.args.metrics.byte_index _ c.args.self.now.labels.now c.loop-self.self.next
-    (c.args.metrics.byte_index + c.args.metrics.bytes) _ i.same c.loop-self-test.true late
-    i.ordered in
-    sym (none-start c.args.metrics c.loop-self.best
-    (c.args.metrics.byte_index + c.args.metrics.bytes) _ past (omega arith))
-    ∙ i.here
+returns-else-starts_before_end-clause-style c = grind (arith, common_steps, starts-past, none-start)

@@ -2,9 +2,9 @@ use Rattle.codespan_core.proofs.Std.{◌≡◌, ◌+◌, ◌-◌, ◌≤◌, len
 use Rattle.codespan_core.proofs.Std.{Option}
 use Rattle.codespan_core.specs.Labels.{has_message}
 use Rattle.codespan_output.specs.Types.{LabelStyle}
-use Rattle.codespan_output.specs.declared.char_metrics.Metrics.{Metrics}
 use Rattle.codespan_output.specs.Arguments.{single_label_views, starts_from}
 use Rattle.codespan_output.specs.RowParts.{starts_in}
+use Rattle.codespan_output.specs.declared.char_metrics.Metrics.{Metrics}
 use Rattle.codespan_renderer.specs.Private.{remaining_start_labels, preferred_style}
 use Rattle.codespan_renderer.proofs.term.renderer.cached.label_cursor.StartCursor.start_style.Given as goal
 

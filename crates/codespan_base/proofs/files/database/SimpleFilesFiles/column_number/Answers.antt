@@ -1,5 +1,0 @@
-use Rattle.codespan_base.proofs.files.database.SimpleFilesFiles.column_number.Goals as goal
-
--- the file of the id is the one that was found
-pub returns-clause-value : goal.returns-clause-value
-returns-clause-value g c = rw c.in_ok-get.ensures.found c.column_number.ensures.value

@@ -1,5 +1,0 @@
-use Rattle.codespan_base.proofs.term.config.ansi.AnsiWrite.write.Goals as goal
-
--- the bytes are those that the inner writer took
-pub returns-clause-bytes : goal.returns-clause-bytes
-returns-clause-bytes g c = search

@@ -1,6 +1,0 @@
-use Rattle.codespan_core.proofs.Std.{refl}
-use Rattle.codespan_base.proofs.term.config.styles.Styles.source_border.Goals as goal
-
--- the style that is borrowed is the field
-pub returns : goal.returns
-returns c = refl

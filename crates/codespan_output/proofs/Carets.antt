@@ -1,0 +1,5 @@
+-- carets and their cells
+pub mod Ends
+pub mod Cells
+pub mod Runs
+pub mod SkippedCells

@@ -1,0 +1,4 @@
+-- the order of labels
+pub mod OrderSorts
+pub mod SortedFilters
+pub mod SortedLists
