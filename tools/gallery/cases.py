@@ -4,7 +4,7 @@ import re
 import subprocess
 import unicodedata
 
-from inks import SHOWN, document, glyphs
+from inks import document, glyphs
 
 ROOT = pathlib.Path(__file__).resolve().parents[2]
 PICTURES = ROOT / 'docs/pictures'
@@ -12,6 +12,8 @@ PAGE = PICTURES / 'gallery.html'
 GALLERY = ROOT / 'crates/gallery'
 
 LETTERS = {'n': '\n', 'r': '\r', 't': '\t', '0': '\0', '\\': '\\'}
+# How the stored output shows control characters.
+SHOWN = {'\x1b': '\\e', '\0': '\\0', '\r': '\\r', '\t': '\\t'}
 SPELLED = {'\n': '\\n', '\r': '\\r', '\t': '\\t', '\0': '\\0', '\\': '\\\\'}
 THEIRS = {**LETTERS, 's': ' ', 'e': ''}
 CONTEXT = ('start', 'end', 'before', 'after')

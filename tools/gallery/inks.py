@@ -3,7 +3,16 @@ import re
 import unicodedata
 import xml.etree.ElementTree
 
-SHOWN = {'\x1b': '\\e', '\0': '\\0', '\r': '\\r', '\t': '\\t'}
+# Unicode's property Bidi_Control.
+DIRECTIONAL = '\u061c\u200e\u200f\u202a\u202b\u202c\u202d\u202e\u2066\u2067\u2068\u2069'
+# What safe text leaves out besides control characters, and what it replaces besides noncharacters.
+LEFT_OUT = DIRECTIONAL + '\u00ad\u200d\u3164\ufeff\uffa0'
+REPLACED = '\u2028\u2029\ufff9\ufffa\ufffb'
+# The columns between tab stops, as browsers have them.
+TAB = 8
+SPACES = ' \n\t'
+# The blocks that Unicode has for right-to-left scripts.
+RIGHT_TO_LEFT = ((0x590, 0x8ff), (0xfb1d, 0xfdff), (0xfe70, 0xfeff), (0x10800, 0x10fff), (0x1e800, 0x1efff))
 ENTITIES = {'&': '&amp;', '<': '&lt;', '>': '&gt;'}
 SHADES = ('#6e7681', '#ff7b72', '#7ee787', '#e3b341', '#79c0ff', '#d2a8ff', '#56d4dd', '#b1bac4')
 PLAIN = (None, False)
@@ -23,6 +32,14 @@ def glyphs(text):
         ink = PLAIN if reset else (shade, ink[1] or bool(bold))
 
 
+def shown_character(c):
+    """What safe text has for a character: nothing, U+FFFD, or the character."""
+    if c in LEFT_OUT or (unicodedata.category(c) == 'Cc' and c not in '\t\n'):
+        return ''
+    is_noncharacter = 0xfdd0 <= ord(c) <= 0xfdef or ord(c) & 0xfffe == 0xfffe
+    return '\ufffd' if c in REPLACED or is_noncharacter else c
+
+
 def cells(c):
     """The cells that a character takes."""
     if unicodedata.category(c) in ('Cc', 'Mn', 'Me', 'Cf'):
@@ -35,21 +52,38 @@ def placed(characters):
     row = column = 0
     for c, ink in characters:
         yield row, column, c, ink
-        row, column = (row + 1, 0) if c == '\n' else (row, column + cells(c))
+        width = TAB - column % TAB if c == '\t' else cells(c)
+        row, column = (row + 1, 0) if c == '\n' else (row, column + width)
 
 
 def shown(characters):
-    """The glyphs that a document has in its texts, with their rows and columns: all but spaces and newlines."""
-    return [glyph for glyph in placed(characters) if glyph[2] not in ' \n']
+    """The glyphs that a document has in its texts, with their rows and columns: all that are shown but white space."""
+    return [glyph for glyph in placed(safe(characters)) if glyph[2] not in SPACES]
+
+
+def safe(characters):
+    """Glyphs as safe text has them."""
+    return [(shown_character(c), ink) for c, ink in characters if shown_character(c)]
+
+
+def runs_left(c):
+    """Whether a character is of a right-to-left script."""
+    return any(first <= ord(c) <= last for first, last in RIGHT_TO_LEFT)
+
+
+def keeps_order(before, c):
+    """Whether a character is shown after the one before it, whatever the direction of a script: a mark, which takes no cell, is shown on it."""
+    return not (runs_left(before) or runs_left(c)) or (runs_left(c) and cells(c) == 0)
 
 
 def joins(before, glyph):
-    """Whether a glyph belongs to the text of the one before it: neither is a space or a newline, both take one cell or none, in one ink."""
-    return before[3] == glyph[3] and all(c not in ' \n' and cells(c) < 2 for c in (before[2], glyph[2]))
+    """Whether a glyph belongs to the text of the one before it: neither is white space, both take one cell or none, in one ink, and the order is kept."""
+    alike = before[3] == glyph[3] and all(c not in SPACES and cells(c) < 2 for c in (before[2], glyph[2]))
+    return alike and keeps_order(before[2], glyph[2])
 
 
 def pieces(characters):
-    """The glyphs of each text, and each space and each newline alone."""
+    """The glyphs of each text, and each character of white space alone."""
     joined = []
     for glyph in placed(characters):
         if joined and not joins(joined[-1], glyph):
@@ -60,26 +94,21 @@ def pieces(characters):
         yield joined
 
 
-def xml_text(c):
-    """A character as it is written in XML."""
-    other = '\ufffd' if c < ' ' or c in '\ufffe\uffff' else c
-    return ENTITIES.get(c) or SHOWN.get(c) or other
-
-
 def piece_text(joined):
-    """A piece of a document: a space or a newline as it is, or a text."""
+    """A piece of a document: white space as it is, or a text."""
     row, column, first, (shade, bold) = joined[0]
-    if first in ' \n':
+    if first in SPACES:
         return first
     attributes = 'x="%d" y="%d" textLength="%d"' % (12 + 9 * column, 25 + 18 * row, 9 * sum(cells(glyph[2]) for glyph in joined))
     ink = (' fill="%s"' % shade if shade else '') + (' font-weight="bold"' if bold else '')
-    return '<text %s%s>%s</text>' % (attributes, ink, ''.join(xml_text(glyph[2]) for glyph in joined))
+    return '<text %s%s>%s</text>' % (attributes, ink, ''.join(ENTITIES.get(glyph[2], glyph[2]) for glyph in joined))
 
 
 def document(characters):
     """The SVG document that shows glyphs."""
+    characters = safe(characters)
     rows = sum(c == '\n' for c, _ in characters)
-    columns = max([column + cells(c) for _, column, c, _ in placed(characters)], default=0)
+    columns = max(column for _, column, c, _ in placed([*characters, ('\n', PLAIN)]) if c == '\n')
     size = (24 + 9 * columns, 24 + 18 * rows)
     head = '<svg xmlns="http://www.w3.org/2000/svg" width="%d" height="%d" viewBox="0 0 %d %d" %s>\n' % (*size, *size, FONT)
     background = '<rect width="100%" height="100%" rx="6" fill="#161b22"/>\n'

@@ -3,12 +3,10 @@ import collections
 import itertools
 import re
 
-from inks import cells
+from inks import TAB, cells
 
 # The cells of an SVG document: where the first column begins, the baseline of the first row, and the size of a cell.
 LEFT, BASELINE, CELL, ROW = 12, 25, 9, 18
-# The columns between tab stops, as browsers have them.
-TAB = 8
 # The part of a cell by which a character may be off.
 OFF = 0.25
 # What ink is sought in, above and below a baseline: that of a character, and that which crosses a cell that has to be blank.

@@ -55,7 +55,7 @@ static RUNS: [(StyleMark, &str); 4] = [
 /// Its HTML element.
 const HTML: &str =
     "<pre class=\"diagnostic\">\nf&amp;g:2:1: <span class=\"header-error\">error</span>\
-                    <span class=\"header-message\">: b\u{fffd}d</span>\n</pre>";
+                    <span class=\"header-message\">: bd</span>\n</pre>";
 
 /// Its SVG document.
 const SVG: &str = "<svg xmlns=\"http://www.w3.org/2000/svg\" width=\"186\" height=\"42\" \
@@ -67,7 +67,7 @@ const SVG: &str = "<svg xmlns=\"http://www.w3.org/2000/svg\" width=\"186\" heigh
                    <text x=\"93\" y=\"25\" textLength=\"45\" fill=\"#ff7b72\" font-weight=\"bold\">\
                    error</text>\
                    <text x=\"138\" y=\"25\" textLength=\"9\" font-weight=\"bold\">:</text> \
-                   <text x=\"156\" y=\"25\" textLength=\"18\" font-weight=\"bold\">b\u{fffd}d\
+                   <text x=\"156\" y=\"25\" textLength=\"18\" font-weight=\"bold\">bd\
                    </text>\n\
                    </svg>\n";
 
@@ -90,6 +90,7 @@ const CSS: &str = ".diagnostic .header-bug { }\n\
                    .diagnostic .line-number { }\n\
                    .diagnostic .source-border { }\n\
                    .diagnostic .note-bullet { }\n\
+                   .diagnostic { direction: ltr; unicode-bidi: isolate-override; }\n\
                    .diagnostic .wide { display: inline-block; width: 2ch; }\n\
                    .diagnostic .wide-3 { display: inline-block; width: 3ch; }\n";
 

@@ -3,8 +3,10 @@
 use Rattle.std.proofs.Common.{◌≡◌, ◌+◌, ◌-◌, ◌≤◌, ◌<◌, ℕ, List, []}
 use Rattle.std.proofs.Common.{◌∷◌, ◌++◌, length, length-drop, map, max, take, drop}
 use Rattle.std.proofs.Common.{get_or, codes, false, Some, sym, ◌∙◌, ap, append_assoc}
-use Rattle.std.proofs.Common.{append-nil, arith}
-use Rattle.std.specs.Prelude.{if◌then◌else◌}
+use Rattle.std.proofs.Common.{append-nil, arith, true}
+use Rattle.std.specs.Prelude.{Bool, ◌&&◌, not, nat_le, if◌then◌else◌}
+use Rattle.std.proofs.lemmas.Bool.{and_parts}
+use Rattle.std.proofs.lemmas.Bool.Decides.{nat_tests}
 use Rattle.std.proofs.lemmas.Grind.{flat_map-append}
 use Rattle.std.proofs.lemmas.List.{drop_all, drop_more, map-append, take_all, take_more}
 use Rattle.codespan_base.specs.declared.term.config.styles.Styles.{Styles}
@@ -13,8 +15,9 @@ use Rattle.codespan_styled.specs.declared.text.Run.{Run}
 use Rattle.codespan_styled.specs.declared.svg.position.CellPosition.{CellPosition}
 use Rattle.codespan_styled.specs.declared.svg.Pen.{Pen}
 use Rattle.codespan_styled.specs.Glyphs.{after_glyph, cells_of, extent_from, follows, glyphs_of}
-use Rattle.codespan_styled.specs.Glyphs.{glyphs_of_run, joins_next, is_white_space, joined_cells}
-use Rattle.codespan_styled.specs.Glyphs.{start}
+use Rattle.codespan_styled.specs.Glyphs.{glyphs_of_run, joins_next, is_narrow, is_white_space}
+use Rattle.codespan_styled.specs.Glyphs.{joined_cells, joins, keeps_order, start}
+use Rattle.codespan_styled.specs.Inks.{same_ink}
 use Rattle.codespan_styled.specs.Runs.{run_view}
 use Rattle.codespan_styled.specs.Svg.{first_pen, font_attributes, glyph_text}
 use Rattle.codespan_styled.specs.Svg.{background_tag_content, next_pen, svg_tag_start, svg_document}
@@ -100,6 +103,20 @@ module _ (glyphs : List Glyph) (i : ℕ) (other : Glyph) (inside : i < length gl
       is
       ∙ ap (λ gs. max columns (extent_from position gs).column) (sym left) ∙ before
 
+  -- ---- joined glyphs
+
+  -- the cells of the glyphs of a `text` element, with the next one
+  pub joined_more : (last : Glyph) (cells own all : ℕ) → joins last glyph ≡ true
+      → own ≡ cells_of glyph
+      → cells + joined_cells last (drop i glyphs) ≡ all
+      → cells + own + joined_cells glyph (drop (i + 1) glyphs) ≡ all
+  joined_more last cells own all e is before =
+      let rest : ℕ = joined_cells glyph (drop (i + 1) glyphs) in
+      let joined : joined_cells last (drop i glyphs) ≡ cells_of glyph + rest =
+      ap (joined_cells last) left
+      ∙ ap (λ (t : Bool). if t then cells_of glyph + rest else 0) e in
+      omega arith
+
   -- ---- texts
 
   -- the glyphs after it, as a slice
@@ -122,6 +139,19 @@ module _ (glyphs : List Glyph) (i : ℕ) (other : Glyph) (inside : i < length gl
       (drop (i + 1) glyphs)) after
       ∙ ap (λ bytes. bytes ++ rest) (is ∙ ap (λ gs. old ++ glyph_text pen glyph gs) others)
       ∙ append_assoc old text rest ∙ ap (λ gs. old ++ texts_from pen gs) (sym left) ∙ before
+
+-- a glyph that joins another occupies at most one cell
+pub joined_bound : (last glyph : Glyph) (own : ℕ) → joins last glyph ≡ true
+    → own ≡ cells_of glyph
+    → own ≤ 1
+joined_bound last glyph own e is =
+    let drawn = is_narrow last && is_narrow glyph in
+    let alike = and_parts (drawn && same_ink last.ink glyph.ink) (keeps_order last glyph) e in
+    let both = and_parts (is_narrow last) (is_narrow glyph)
+    (and_parts drawn (same_ink last.ink glyph.ink) alike.0).0 in
+    let few = and_parts (not (is_white_space glyph)) (nat_le (cells_of glyph) 1) both.1 in
+    let narrow : cells_of glyph ≤ 1 = grind (arith, nat_tests, few.1) in
+    omega arith
 
 -- a glyph that is no white space, with the tags of its text
 pub glyph-written : (pen : Pen) (glyph : Glyph) (others : List Glyph)

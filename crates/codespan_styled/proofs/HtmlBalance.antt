@@ -5,11 +5,12 @@ use Rattle.std.specs.Prelude.{Bool, if◌then◌else◌}
 use Rattle.std.specs.Char.{encode_utf8}
 use Rattle.std.specs.List.{flat_map}
 use Rattle.std.specs.Str.{chars}
-use Rattle.codespan_styled.specs.Html.{box_class, is_wide, replaced_character, style_class}
+use Rattle.codespan_styled.specs.Html.{box_class, is_wide, style_class}
 use Rattle.codespan_styled.specs.HtmlReading.{Token, Tag, TextByte, cell_tokens, character_tokens}
 use Rattle.codespan_styled.specs.HtmlReading.{element_tokens, open_after, open_from, run_tokens}
 use Rattle.codespan_styled.specs.HtmlReading.{span_tokens, text_tokens}
 use Rattle.codespan_styled.specs.Runs.{RunView, is_plain}
+use Rattle.codespan_styled.specs.SafeText.{safe_characters}
 
 -- the same elements are open after the tokens as before them
 abbrev Keeps : List Token → Type 0
@@ -54,14 +55,14 @@ span-keeps class tokens inside rest elements =
 -- a character, a wide one in a box
 cell-keeps : (c : ℕ) → Keeps (cell_tokens c)
 cell-keeps c =
-    let character = bytes-keep (encode_utf8 (replaced_character c)) in
+    let character = bytes-keep (encode_utf8 c) in
     keeps-if (is_wide c) (span_tokens (box_class c) (character_tokens c)) (character_tokens c)
     (span-keeps (box_class c) (character_tokens c) character) character
 
 run-keeps : (run : RunView) → Keeps (run_tokens run)
 run-keeps run =
     let class = style_class run.style in
-    let text = keeps-all cell_tokens cell-keeps (chars run.text) in
+    let text = keeps-all cell_tokens cell-keeps (safe_characters (chars run.text)) in
     keeps-if (is_plain run.style) (text_tokens run.text) (span_tokens class (text_tokens run.text))
     text (span-keeps class (text_tokens run.text) text)
 

@@ -1,17 +1,15 @@
--- An element reads back as its tags and its text: for the clauses `tokens` and `text` of `to_html`.
+-- An element reads back as its tags and its text: for the clauses `tokens`, `text` and `columns` of
+-- `to_html`.
 use Rattle.std.proofs.Common.{◌≡◌, ℕ, ◌+◌, ◌≤◌, ◌/◌, ◌%◌, true, false}
 use Rattle.std.proofs.Common.{List, [], ◌∷◌, ◌++◌, map, codes, encode_utf8_all, refl, sym}
 use Rattle.std.proofs.Common.{subst, ap, ◌∙◌, append_assoc, append-nil, arith, string_bytes}
-use Rattle.std.specs.Prelude.{Bool, ◌==◌, ◌&&◌, ◌||◌, nat_lt, if◌then◌else◌}
+use Rattle.std.specs.Prelude.{Bool, ◌==◌, ◌&&◌, nat_lt, if◌then◌else◌}
 use Rattle.std.specs.Char.{encode_utf8}
 use Rattle.std.specs.List.{AllByRecursion, flat_map}
-use Rattle.std.specs.Str.{IsUtf8, all_scalars, chars}
-use Rattle.std.proofs.Math.Utf8.{scalar}
+use Rattle.std.specs.Str.{chars}
 use Rattle.std.proofs.lemmas.Bool.{cond_both}
 use Rattle.std.proofs.lemmas.Bool.Decides.{nat_tests}
-use Rattle.std.proofs.lemmas.Grind.{flat_map-append}
-use Rattle.std.proofs.lemmas.Str.{IsUtf8-append, IsUtf8-nil, IsUtf8-string_bytes, chars-encodes}
-use Rattle.std.proofs.lemmas.Str.{chars-nil, chars_past_char}
+use Rattle.std.proofs.lemmas.Str.{IsUtf8-string_bytes}
 use Rattle.codespan_base.specs.declared.diagnostic.LabelStyle.TheVariants.{Primary, Secondary}
 use Rattle.codespan_base.specs.declared.diagnostic.Severity.TheVariants.{Bug, Error, Warning, Note}
 use Rattle.codespan_base.specs.declared.diagnostic.Severity.TheVariants.{Help}
@@ -25,15 +23,18 @@ use Rattle.codespan_base.specs.declared.term.config.style_mark.StyleMark.TheVari
 use Rattle.codespan_styled.specs.declared.text.Run.{Run}
 use Rattle.codespan_styled.specs.Cells.{character_cells}
 use Rattle.codespan_styled.specs.Html.{box_class, escaped_text, html_cell, html_character}
-use Rattle.codespan_styled.specs.Html.{html_element, html_run, html_span, is_forbidden_control}
-use Rattle.codespan_styled.specs.Html.{is_noncharacter, is_wide, replaced_character, shown_text}
-use Rattle.codespan_styled.specs.Html.{span_tag, span_tag_content, style_class}
+use Rattle.codespan_styled.specs.Html.{html_element, html_run, html_span, is_wide, span_tag}
+use Rattle.codespan_styled.specs.Html.{span_tag_content, style_class}
 use Rattle.codespan_styled.specs.HtmlReading.{InEntity, InTag, InText, Token, Tag, TextByte}
 use Rattle.codespan_styled.specs.HtmlReading.{cell_tokens, character_tokens, element_tokens}
 use Rattle.codespan_styled.specs.HtmlReading.{read_tokens, tokens_from, run_tokens, span_tokens}
 use Rattle.codespan_styled.specs.HtmlReading.{text_of_html, text_of_tokens, text_tokens}
 use Rattle.codespan_styled.specs.HtmlReading.{without_newline}
-use Rattle.codespan_styled.specs.Runs.{RunView, is_plain, joined, run_view}
+use Rattle.codespan_styled.specs.Runs.{RunView, is_plain, joined, run_characters, run_view}
+use Rattle.codespan_styled.specs.SafeText.{AreInColumns, columns, safe_characters, safe_text}
+use Rattle.codespan_styled.proofs.Shown.{chars_of_safe_text, joined-characters, joined-utf8}
+use Rattle.codespan_styled.proofs.Shown.{safe_text-append, safe_text-nil}
+use Rattle.codespan_styled.proofs.UnsafeCells.{columns_stay}
 
 -- ---- bytes of text
 
@@ -71,12 +72,6 @@ character-bytes c h =
     (λ t. (outside-ascii _ (omega arith), (middle, (last, tt))))
     (λ _. (outside-ascii _ (omega arith), (second, (middle, (last, tt)))))))
 
--- it is shown as such a character
-replaced_character-text : (c : ℕ) → IsTextByte c → IsTextByte (replaced_character c)
-replaced_character-text c h =
-    cond_both (is_forbidden_control c || is_noncharacter c) 65533 c IsTextByte (λ _. (refl, refl))
-    (λ _. h)
-
 -- ---- characters
 
 pub is_code : (c n : ℕ) → (c == n) ≡ true → c ≡ n
@@ -86,17 +81,16 @@ module _ (c : ℕ) (rest : List ℕ) where
   -- bytes read as the character
   abbrev ReadsAs : List ℕ → Type 0
   ReadsAs bs =
-      tokens_from InText (bs ++ rest) ≡ map TextByte (encode_utf8 (replaced_character c))
-      ++ tokens_from InText rest
+      tokens_from InText (bs ++ rest) ≡ map TextByte (encode_utf8 c) ++ tokens_from InText rest
 
   -- bytes read as the character of this code
   by_code : (n : ℕ) (bs : List ℕ)
-      → tokens_from InText (bs ++ rest) ≡ map TextByte
-      (encode_utf8 (replaced_character n)) ++ tokens_from InText rest
+      → tokens_from InText (bs ++ rest) ≡ map TextByte (encode_utf8 n)
+      ++ tokens_from InText rest
       → (c == n) ≡ true → ReadsAs bs
   by_code n bs is t =
       subst
-      (λ k. tokens_from InText (bs ++ rest) ≡ map TextByte (encode_utf8 (replaced_character k))
+      (λ k. tokens_from InText (bs ++ rest) ≡ map TextByte (encode_utf8 k)
       ++ tokens_from InText rest)
       (sym (is_code c n t)) is
 
@@ -108,8 +102,7 @@ module _ (c : ℕ) (rest : List ℕ) where
       (λ lt. cond_both (c == 62) _ _ ReadsAs (by_code 62 (codes "&gt;") refl)
       (λ gt. cond_both (c == 34) _ _ ReadsAs (by_code 34 (codes "&quot;") refl)
       (λ quot. cond_both (c == 39) _ _ ReadsAs (by_code 39 (codes "&#39;") refl)
-      (λ apos. bytes-read (encode_utf8 (replaced_character c)) rest
-      (character-bytes (replaced_character c) (replaced_character-text c (lt, amp))))))))
+      (λ apos. bytes-read (encode_utf8 c) rest (character-bytes c (lt, amp)))))))
 
 -- ---- bytes, one after another
 
@@ -191,7 +184,7 @@ cell-read c =
     (character-read c)
 
 text-read : (text : List ℕ) → Reads (escaped_text text) (text_tokens text)
-text-read text = reads-all html_cell cell_tokens cell-read (chars text)
+text-read text = reads-all html_cell cell_tokens cell-read (safe_characters (chars text))
 
 run-read : (run : RunView) → Reads (html_run run) (run_tokens run)
 run-read run =
@@ -226,30 +219,29 @@ span-text class tokens =
     text_of-append tokens (Tag (codes "/span") ∷ []) ∙ append-nil (text_of_tokens tokens)
 
 -- the text of a character, in a box or in none
-cell-text : (c : ℕ) → text_of_tokens (cell_tokens c) ≡ encode_utf8 (replaced_character c)
+cell-text : (c : ℕ) → text_of_tokens (cell_tokens c) ≡ encode_utf8 c
 cell-text c =
-    let shown = encode_utf8 (replaced_character c) in
+    let shown = encode_utf8 c in
     cond_both (is_wide c) _ _ (λ (tokens : List Token). text_of_tokens tokens ≡ shown)
     (λ _. span-text (box_class c) (character_tokens c) ∙ text_of-bytes shown)
     (λ _. text_of-bytes shown)
 
 characters-text : (cs : List ℕ)
-    → text_of_tokens (flat_map cell_tokens cs) ≡ flat_map
-    (λ c. encode_utf8 (replaced_character c)) cs
+    → text_of_tokens (flat_map cell_tokens cs) ≡ encode_utf8_all cs
 characters-text [] = refl
 characters-text (c ∷ cs) =
     text_of-append (cell_tokens c) (flat_map cell_tokens cs)
     ∙ ap (λ bs. bs ++ text_of_tokens (flat_map cell_tokens cs)) (cell-text c)
-    ∙ ap (λ bs. encode_utf8 (replaced_character c) ++ bs) (characters-text cs)
+    ∙ ap (λ bs. encode_utf8 c ++ bs) (characters-text cs)
 
 -- the text of a run
-run-text : (run : RunView) → text_of_tokens (run_tokens run) ≡ shown_text run.text
+run-text : (run : RunView) → text_of_tokens (run_tokens run) ≡ safe_text run.text
 run-text run =
+    let characters = safe_characters (chars run.text) in
     cond_both (is_plain run.style) _ _
-    (λ (tokens : List Token). text_of_tokens tokens ≡ shown_text run.text)
-    (λ _. characters-text (chars run.text))
-    (λ _. span-text (style_class run.style) (text_tokens run.text)
-    ∙ characters-text (chars run.text))
+    (λ (tokens : List Token). text_of_tokens tokens ≡ safe_text run.text)
+    (λ _. characters-text characters)
+    (λ _. span-text (style_class run.style) (text_tokens run.text) ∙ characters-text characters)
 
 -- ---- texts, one after another
 
@@ -257,54 +249,36 @@ pub and_true : (a b : Bool) → (a && b) ≡ true → (a ≡ true) × (b ≡ tru
 and_true true b e = (refl, e)
 and_true false b e = absurd (cc)
 
-chars-after : (cs b : List ℕ) → all_scalars cs ≡ true → IsUtf8 b
-    → chars (encode_utf8_all cs ++ b) ≡ cs ++ chars b
-chars-after [] b e u = refl
-chars-after (c ∷ cs) b e u =
-    let both = and_true (scalar c) (all_scalars cs) e in
-    chars_past_char (encode_utf8_all (c ∷ cs) ++ b) (encode_utf8_all cs ++ b) c
-    (IsUtf8-append (encode_utf8_all (c ∷ cs)) b (c ∷ cs, (e, refl)) u)
-    (append_assoc (encode_utf8 c) (encode_utf8_all cs) b)
-    ∙ ap (λ ds. c ∷ ds) (chars-after cs b both.1 u)
-
-chars-append : (a b : List ℕ) → IsUtf8 a → IsUtf8 b → chars (a ++ b) ≡ chars a ++ chars b
-chars-append a b u v =
-    subst (λ x. chars (x ++ b) ≡ chars x ++ chars b) u.1.1
-    (chars-after u.0 b u.1.0 v ∙ ap (λ cs. cs ++ chars b) (sym (chars-encodes u.0 u.1.0)))
-
-replaced_character-append : (a b : List ℕ) → IsUtf8 a → IsUtf8 b
-    → shown_text (a ++ b) ≡ shown_text a ++ shown_text b
-replaced_character-append a b u v =
-    ap (λ cs. flat_map (λ c. encode_utf8 (replaced_character c)) cs) (chars-append a b u v)
-    ∙ flat_map-append (λ c. encode_utf8 (replaced_character c)) (chars a) (chars b)
-
--- the texts of runs are UTF-8
-joined-utf8 : (runs : List Run) → IsUtf8 (joined (map run_view runs))
-joined-utf8 [] = IsUtf8-nil
-joined-utf8 (run ∷ runs) =
-    IsUtf8-append (string_bytes run.text) (joined (map run_view runs))
-    (IsUtf8-string_bytes run.text) (joined-utf8 runs)
-
 runs-text : (runs : List Run)
-    → text_of_tokens (flat_map run_tokens (map run_view runs)) ≡ shown_text
+    → text_of_tokens (flat_map run_tokens (map run_view runs)) ≡ safe_text
     (joined (map run_view runs))
-runs-text [] = ap (λ cs. flat_map (λ c. encode_utf8 (replaced_character c)) cs) (sym chars-nil)
+runs-text [] = sym safe_text-nil
 runs-text (run ∷ runs) =
     let rest = joined (map run_view runs) in
     text_of-append (run_tokens (run_view run)) (flat_map run_tokens (map run_view runs))
     ∙ ap (λ bs. bs ++ text_of_tokens (flat_map run_tokens (map run_view runs)))
     (run-text (run_view run))
-    ∙ ap (λ bs. shown_text (string_bytes run.text) ++ bs) (runs-text runs)
-    ∙ sym
-    (replaced_character-append (string_bytes run.text) rest (IsUtf8-string_bytes run.text)
-    (joined-utf8 runs))
+    ∙ ap (λ bs. safe_text (string_bytes run.text) ++ bs) (runs-text runs)
+    ∙ sym (safe_text-append (string_bytes run.text) rest (IsUtf8-string_bytes run.text))
 
--- the text of an element is that of its runs
+-- the text of an element is the safe text of its runs
 pub element-text : (runs : List Run)
-    → text_of_html (html_element (map run_view runs)) ≡ shown_text (joined (map run_view runs))
+    → text_of_html (html_element (map run_view runs)) ≡ safe_text (joined (map run_view runs))
 element-text runs =
     let inner = flat_map run_tokens (map run_view runs) in
     ap (λ (tokens : List Token). without_newline (text_of_tokens tokens))
     (element-read (map run_view runs))
     ∙ text_of-append inner (Tag (codes "/pre") ∷ []) ∙ append-nil (text_of_tokens inner)
     ∙ runs-text runs
+
+-- each character of it is in the column of the one that it is shown for
+pub element-columns : (runs : List Run) (text : List ℕ)
+    → text ≡ safe_text (joined (map run_view runs))
+    → AreInColumns (chars text) (run_characters (map run_view runs))
+element-columns runs text is tab_width =
+    let characters = run_characters (map run_view runs) in
+    let shown : chars text ≡ safe_characters characters =
+    ap chars is
+    ∙ chars_of_safe_text (joined (map run_view runs)) (joined-utf8 runs)
+    ∙ ap safe_characters (joined-characters runs) in
+    ap (columns tab_width 0) shown ∙ columns_stay tab_width 0 characters

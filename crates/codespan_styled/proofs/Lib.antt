@@ -1,5 +1,8 @@
 -- documents that are appended piece by piece
 pub mod Appending
+-- which characters are shown, and their columns
+pub mod Shown
+pub mod UnsafeCells
 -- HTML: what is written, what a reader finds in it, and that elements are closed
 pub mod HtmlWriting
 pub mod HtmlReading
@@ -12,8 +15,9 @@ pub mod SvgCells
 pub mod SvgReading
 pub mod SvgElements
 pub mod SvgWhiteSpace
+pub mod SvgColumns
+pub mod SvgOrder
 -- text for a terminal
-mod UnsafeCells
 mod SafeTexts
 mod Sequences
 mod TerminalStates

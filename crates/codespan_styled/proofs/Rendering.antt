@@ -19,7 +19,7 @@ use Rattle.codespan_base.specs.declared.term.config.style_mark.StyleMark.TheVari
 use Rattle.codespan_output.specs.Utf8Laws.{CharsAreScalars, AreUtf8After}
 use Rattle.codespan_views.specs.Output.{IsEmitError}
 use Rattle.codespan_views.specs.WriteCalls.{WritesStyled}
-use Rattle.codespan_output.proofs.PictureTexts.{text-output}
+use Rattle.codespan_output.proofs.Utf8.Outputs.{text-output}
 use Rattle.codespan_styled.specs.declared.text.StyledText.{StyledText}
 use Rattle.codespan_styled.specs.Private.Recorded.{recorded_runs, style_number, style_spelling}
 use Rattle.codespan_styled.specs.Runs.{TextsAreUtf8, joined, runs_from, styled_runs}

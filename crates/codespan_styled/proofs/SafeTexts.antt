@@ -1,34 +1,46 @@
--- A text without its unsafe characters, as it is made: for the clauses of `terminal::push_safe`
--- and `terminal::push_text`.
-use Rattle.std.proofs.Common.{◌≡◌, ◌≤◌, ◌-◌, ℕ, Bool, true, cond, List, []}
+-- A safe text, as it is made: for the clauses of `safe::push_safe` and `terminal::push_text`.
+use Rattle.std.proofs.Common.{◌≡◌, ◌≤◌, ◌-◌, ℕ, Option, None, Some, List, []}
 use Rattle.std.proofs.Common.{◌∷◌, ◌++◌, drop, get_or, length, map, take, refl, sym, ap}
 use Rattle.std.proofs.Common.{◌∙◌, append_assoc, append-nil, arith, string_bytes}
 use Rattle.std.specs.Char.{encode_utf8}
+use Rattle.std.specs.List.{cons_option}
 use Rattle.std.specs.Str.{encode_utf8_all}
 use Rattle.std.proofs.lemmas.List.{take_all}
-use Rattle.std.proofs.lemmas.List.Elements.{filter-append}
+use Rattle.std.proofs.lemmas.List.Elements.{filter_map-append}
 use Rattle.std.proofs.lemmas.Str.{encodes-append}
 use Rattle.codespan_base.specs.declared.term.config.styles.Styles.{Styles}
 use Rattle.codespan_styled.specs.declared.text.Run.{Run}
 use Rattle.codespan_styled.specs.Runs.{run_view}
-use Rattle.codespan_styled.specs.Terminal.{is_safe, first_sequences, runs_bytes, safe_characters}
-use Rattle.codespan_styled.specs.Terminal.{safe_text, terminal_text}
+use Rattle.codespan_styled.specs.SafeText.{safe_characters, safe_text, shown_character}
+use Rattle.codespan_styled.specs.Terminal.{first_sequences, runs_bytes, terminal_text}
 
--- a safe character goes to the end
-pub pushed_safe : (start now next cs : List ℕ) (c : ℕ)
-    → now ≡ start ++ encode_utf8_all (safe_characters cs) → is_safe c ≡ true
-    → next ≡ now ++ encode_utf8 c
+-- what is shown for the next character goes to the end
+pub pushed_shown : (start now next cs : List ℕ) (c shown : ℕ)
+    → now ≡ start ++ encode_utf8_all (safe_characters cs) → shown_character c ≡ Some shown
+    → next ≡ now ++ encode_utf8 shown
     → next ≡ start ++ encode_utf8_all (safe_characters (cs ++ c ∷ []))
-pushed_safe start now next cs c h safe e =
+pushed_shown start now next cs c shown h is e =
     let before = encode_utf8_all (safe_characters cs) in
-    let kept : safe_characters (cs ++ c ∷ []) ≡ safe_characters cs ++ c ∷ [] =
-    filter-append is_safe cs (c ∷ [])
-    ∙ ap (λ (b : Bool). safe_characters cs ++ cond b (c ∷ []) []) safe in
-    let bytes : encode_utf8_all (safe_characters (cs ++ c ∷ [])) ≡ before ++ encode_utf8 c =
-    ap encode_utf8_all kept ∙ encodes-append (safe_characters cs) (c ∷ [])
-    ∙ ap (λ (l : List ℕ). before ++ l) (append-nil (encode_utf8 c)) in
-    e ∙ ap (λ (l : List ℕ). l ++ encode_utf8 c) h ∙ append_assoc start before (encode_utf8 c)
+    let kept : safe_characters (cs ++ c ∷ []) ≡ safe_characters cs ++ shown ∷ [] =
+    filter_map-append shown_character cs (c ∷ [])
+    ∙ ap (λ (o : Option ℕ). safe_characters cs ++ cons_option o []) is in
+    let bytes : encode_utf8_all (safe_characters (cs ++ c ∷ [])) ≡ before ++ encode_utf8 shown =
+    ap encode_utf8_all kept ∙ encodes-append (safe_characters cs) (shown ∷ [])
+    ∙ ap (λ (l : List ℕ). before ++ l) (append-nil (encode_utf8 shown)) in
+    e ∙ ap (λ (l : List ℕ). l ++ encode_utf8 shown) h
+    ∙ append_assoc start before (encode_utf8 shown)
     ∙ ap (λ (l : List ℕ). start ++ l) (sym bytes)
+
+-- nothing is shown for it
+pub left_out : (start now cs : List ℕ) (c : ℕ)
+    → now ≡ start ++ encode_utf8_all (safe_characters cs) → shown_character c ≡ None
+    → now ≡ start ++ encode_utf8_all (safe_characters (cs ++ c ∷ []))
+left_out start now cs c h is =
+    let kept : safe_characters (cs ++ c ∷ []) ≡ safe_characters cs =
+    filter_map-append shown_character cs (c ∷ [])
+    ∙ ap (λ (o : Option ℕ). safe_characters cs ++ cons_option o []) is
+    ∙ append-nil (safe_characters cs) in
+    h ∙ ap (λ (l : List ℕ). start ++ encode_utf8_all l) (sym kept)
 
 -- the same function of each character
 map_same : (cs : List ℕ) → map (λ (c : ℕ). c) cs ≡ cs

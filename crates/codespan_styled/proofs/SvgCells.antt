@@ -12,7 +12,8 @@ use Rattle.codespan_styled.specs.declared.svg.glyph.Glyph.{Glyph}
 use Rattle.codespan_styled.specs.declared.svg.ink.Ink.{Ink}
 use Rattle.codespan_styled.specs.declared.svg.position.CellPosition.{CellPosition}
 use Rattle.codespan_styled.specs.declared.svg.Pen.{Pen}
-use Rattle.codespan_styled.specs.Glyphs.{follows, is_narrow, is_white_space, joins, start}
+use Rattle.codespan_styled.specs.Glyphs.{follows, is_narrow, is_white_space, joins, keeps_order}
+use Rattle.codespan_styled.specs.Glyphs.{start}
 use Rattle.codespan_styled.specs.Inks.{optional_color_number, same_ink}
 use Rattle.codespan_styled.specs.Svg.{first_pen, next_pen}
 use Rattle.codespan_styled.specs.SvgReading.{CharacterInCell, Piece, WhiteSpace, Text}
@@ -66,8 +67,10 @@ one_ink x y e =
 -- glyphs of one `text` element have one ink
 joined_inks : (glyph next : Glyph) → joins glyph next ≡ true → next.ink ≡ glyph.ink
 joined_inks glyph next e =
+    let drawn = is_narrow glyph && is_narrow next in
     one_ink glyph.ink next.ink
-    (and_true (is_narrow glyph && is_narrow next) (same_ink glyph.ink next.ink) e).1
+    (and_true drawn (same_ink glyph.ink next.ink)
+    (and_true (drawn && same_ink glyph.ink next.ink) (keeps_order glyph next) e).0).1
 
 -- ---- cells
 

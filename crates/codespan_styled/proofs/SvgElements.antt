@@ -3,12 +3,11 @@
 use Rattle.std.proofs.Common.{◌≡◌, ℕ, ◌+◌, ◌/◌, ◌%◌, true, false, List, []}
 use Rattle.std.proofs.Common.{◌∷◌, ◌++◌, map, codes, decimal, refl, sym, subst, ap}
 use Rattle.std.proofs.Common.{◌∙◌, append_assoc, append-nil, ◌*◌, arith, zero, suc, None}
-use Rattle.std.proofs.Common.{Some, Option}
+use Rattle.std.proofs.Common.{Some, Option, ⊎_elim}
 use Rattle.std.specs.Prelude.{Bool, ◌==◌, ◌&&◌, ◌||◌, not, nat_lt, if◌then◌else◌}
 use Rattle.std.specs.Char.{encode_utf8}
 use Rattle.std.specs.Fmt.{digit_glyph, digits, digits_onto}
-use Rattle.std.specs.List.{AllByRecursion}
-use Rattle.std.proofs.lemmas.Bool.{cond_both}
+use Rattle.std.proofs.lemmas.Bool.{cond_both, or_cases}
 use Rattle.std.proofs.lemmas.Bool.Decides.{nat_tests}
 use Rattle.codespan_base.specs.declared.term.config.color.Color.{Color}
 use Rattle.codespan_base.specs.declared.term.config.color.Color.TheVariants.{Black, Red, Green}
@@ -18,10 +17,9 @@ use Rattle.codespan_styled.specs.declared.svg.ink.Ink.{Ink}
 use Rattle.codespan_styled.specs.declared.svg.position.CellPosition.{CellPosition}
 use Rattle.codespan_styled.specs.HtmlReading.{InTag, InText, Tag, TextByte, tokens_from}
 use Rattle.codespan_styled.specs.Svg.{y_of, color_attribute, font_attributes, height}
-use Rattle.codespan_styled.specs.Svg.{is_forbidden_in_xml, x_of, svg_tag_start, svg_tag_content}
+use Rattle.codespan_styled.specs.Svg.{x_of, svg_tag_start, svg_tag_content}
 use Rattle.codespan_styled.specs.Svg.{text_tag_content, weight_attribute, width, xml_character}
-use Rattle.codespan_styled.specs.SvgReading.{shown_in_svg}
-use Rattle.codespan_styled.proofs.HtmlReading.{IsTextByte, and_true, bytes-read, character-bytes}
+use Rattle.codespan_styled.proofs.HtmlReading.{and_true, bytes-read, character-bytes}
 use Rattle.codespan_styled.proofs.HtmlReading.{is_code}
 
 -- ---- tags
@@ -164,46 +162,22 @@ tag-read content rest h =
 
 -- ---- characters
 
-module _ (c : ℕ) (rest : List ℕ) (ends : (c == 10) ≡ false) where
+module _ (c : ℕ) (rest : List ℕ) where
   -- bytes read as the character
   abbrev ReadsAs : List ℕ → Type 0
   ReadsAs bs =
-      tokens_from InText (bs ++ rest) ≡ map TextByte (shown_in_svg c) ++ tokens_from InText rest
+      tokens_from InText (bs ++ rest) ≡ map TextByte (encode_utf8 c) ++ tokens_from InText rest
 
   -- bytes read as the character of this code
   by_code : (n : ℕ) (bs : List ℕ)
-      → tokens_from InText (bs ++ rest) ≡ map TextByte (shown_in_svg n)
+      → tokens_from InText (bs ++ rest) ≡ map TextByte (encode_utf8 n)
       ++ tokens_from InText rest
       → (c == n) ≡ true → ReadsAs bs
   by_code n bs is t =
       subst
-      (λ k. tokens_from InText (bs ++ rest) ≡ map TextByte (shown_in_svg k)
+      (λ k. tokens_from InText (bs ++ rest) ≡ map TextByte (encode_utf8 k)
       ++ tokens_from InText rest)
       (sym (is_code c n t)) is
-
-  -- a character that is neither spelled by an entity nor by a backslash
-  other : (c == 38) ≡ false → (c == 60) ≡ false → (c == 27) ≡ false → (c == 0) ≡ false
-      → (c == 13) ≡ false → (c == 9) ≡ false
-      → ReadsAs (if is_forbidden_in_xml c then encode_utf8 65533 else encode_utf8 c)
-  other amp lt escape null return tab =
-      let contents = if is_forbidden_in_xml c then encode_utf8 65533 else encode_utf8 c in
-      let shown : shown_in_svg c ≡ contents =
-      ap (λ t. if t then 10 ∷ [] else if c == 27 then codes "\\e" else if c == 0 then codes "\\0"
-      else if c == 13 then codes "\\r" else if c == 9 then codes "\\t" else contents) ends
-      ∙ ap
-      (λ t. if t then codes "\\e" else if c == 0 then codes "\\0" else if c == 13 then codes "\\r"
-      else if c == 9 then codes "\\t" else contents)
-      escape
-      ∙ ap
-      (λ t. if t then codes "\\0" else if c == 13 then codes "\\r" else if c == 9 then codes "\\t"
-      else contents)
-      null
-      ∙ ap (λ t. if t then codes "\\r" else if c == 9 then codes "\\t" else contents) return
-      ∙ ap (λ t. if t then codes "\\t" else contents) tab in
-      bytes-read contents rest
-      (cond_both (is_forbidden_in_xml c) _ _ (λ bs. AllByRecursion IsTextByte bs)
-      (λ _. character-bytes 65533 (refl, refl)) (λ _. character-bytes c (lt, amp)))
-      ∙ ap (λ bs. map TextByte bs ++ tokens_from InText rest) (sym shown)
 
   pub character-read : ReadsAs (xml_character c)
   unfolding encode_utf8
@@ -211,34 +185,32 @@ module _ (c : ℕ) (rest : List ℕ) (ends : (c == 10) ≡ false) where
       cond_both (c == 38) _ _ ReadsAs (by_code 38 (codes "&amp;") refl)
       (λ amp. cond_both (c == 60) _ _ ReadsAs (by_code 60 (codes "&lt;") refl)
       (λ lt. cond_both (c == 62) _ _ ReadsAs (by_code 62 (codes "&gt;") refl)
-      (λ gt. cond_both (c == 27) _ _ ReadsAs (by_code 27 (codes "\\e") refl)
-      (λ escape. cond_both (c == 0) _ _ ReadsAs (by_code 0 (codes "\\0") refl)
-      (λ null. cond_both (c == 13) _ _ ReadsAs (by_code 13 (codes "\\r") refl)
-      (λ return. cond_both (c == 9) _ _ ReadsAs (by_code 9 (codes "\\t") refl)
-      (λ tab. other amp lt escape null return tab)))))))
+      (λ gt. bytes-read (encode_utf8 c) rest (character-bytes c (lt, amp)))))
 
 -- ---- white space
 
--- what holds of a newline and of a space holds of white space
-of_white_space : (P : ℕ → Type 0) (c : ℕ) → ((c == 10) || (c == 32)) ≡ true → P 10
-    → P 32 → P c
-of_white_space P c e newline space = at (c == 10) refl
-  where
-    at : (t : Bool) → (c == 10) ≡ t → P c
-    at true h = subst P (sym (is_code c 10 h)) newline
-    at false h =
-        subst P (sym (is_code c 32 (sym (ap (λ t. t || (c == 32)) h) ∙ e))) space
+-- a newline, a space or a tab
+abbrev pub is_space : ℕ → Bool
+is_space c = (c == 10) || (c == 32) || (c == 9)
 
-pub white-space-read : (c : ℕ) (rest : List ℕ) → ((c == 10) || (c == 32)) ≡ true
+-- what holds of a newline, of a space and of a tab holds of white space
+of_white_space : (P : ℕ → Type 0) (c : ℕ) → is_space c ≡ true → P 10 → P 32 → P 9
+    → P c
+of_white_space P c e newline space tab =
+    ⊎_elim
+    (λ early. ⊎_elim (λ t. subst P (sym (is_code c 10 t)) newline)
+    (λ t. subst P (sym (is_code c 32 t)) space) (or_cases (c == 10) (c == 32) early))
+    (λ t. subst P (sym (is_code c 9 t)) tab) (or_cases ((c == 10) || (c == 32)) (c == 9) e)
+
+pub white-space-read : (c : ℕ) (rest : List ℕ) → is_space c ≡ true
     → tokens_from InText (encode_utf8 c ++ rest) ≡ TextByte c ∷ tokens_from InText rest
 unfolding encode_utf8
 white-space-read c rest e =
     of_white_space
     (λ k. tokens_from InText (encode_utf8 k ++ rest) ≡ TextByte k ∷ tokens_from InText rest) c
     e
-    refl refl
+    refl refl refl
 
-pub white-space-shown : (c : ℕ) → ((c == 10) || (c == 32)) ≡ true
-    → c ∷ [] ≡ shown_in_svg c
+pub white-space-shown : (c : ℕ) → is_space c ≡ true → c ∷ [] ≡ encode_utf8 c
 unfolding encode_utf8
-white-space-shown c e = of_white_space (λ k. k ∷ [] ≡ shown_in_svg k) c e refl refl
+white-space-shown c e = of_white_space (λ k. k ∷ [] ≡ encode_utf8 k) c e refl refl refl

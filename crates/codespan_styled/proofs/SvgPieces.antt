@@ -4,17 +4,18 @@ use Rattle.std.proofs.Common.{◌≡◌, ℕ, ◌+◌, true, false, List, [], �
 use Rattle.std.proofs.Common.{map, codes, refl, sym, ap, ◌∙◌, append_assoc, None, Some}
 use Rattle.std.proofs.Common.{Option}
 use Rattle.std.specs.Prelude.{Bool, ◌&&◌, not, nat_le, if◌then◌else◌}
+use Rattle.std.specs.Char.{encode_utf8}
 use Rattle.std.specs.List.{flat_map}
 use Rattle.std.proofs.lemmas.List.{map-append}
 use Rattle.codespan_styled.specs.declared.svg.glyph.Glyph.{Glyph}
 use Rattle.codespan_styled.specs.declared.svg.Pen.{Pen}
 use Rattle.codespan_styled.specs.Glyphs.{cells_of, follows, joins_next, is_narrow, is_white_space}
-use Rattle.codespan_styled.specs.Glyphs.{joined_cells, joins}
+use Rattle.codespan_styled.specs.Glyphs.{joined_cells, joins, keeps_order}
 use Rattle.codespan_styled.specs.HtmlReading.{Token, Tag, TextByte}
 use Rattle.codespan_styled.specs.Inks.{same_ink}
 use Rattle.codespan_styled.specs.Svg.{first_pen, next_pen, text_tag_content}
 use Rattle.codespan_styled.specs.SvgReading.{Piece, WhiteSpace, Text, joined_glyphs, piece_tokens}
-use Rattle.codespan_styled.specs.SvgReading.{pieces_from, shown_glyphs, shown_in_svg, text_width}
+use Rattle.codespan_styled.specs.SvgReading.{pieces_from, shown_glyphs, text_width}
 
 -- ---- glyph by glyph
 
@@ -30,7 +31,7 @@ glyph_tokens pen glyph others =
     else Tag
     (text_tag_content pen.position (cells_of glyph + joined_cells glyph others) glyph.ink)
     ∷ [])
-    ++ map TextByte (shown_in_svg glyph.character)
+    ++ map TextByte (encode_utf8 glyph.character)
     ++ (if joins_next glyph others then [] else end_tag)
 
 -- the tokens of glyphs
@@ -60,15 +61,18 @@ pub white_space_joins : (glyph next : Glyph) → is_white_space glyph ≡ true
     → joins glyph next ≡ false
 white_space_joins glyph next e =
     ap (λ t. (not t && nat_le (cells_of glyph) 1) && is_narrow next
-    && same_ink glyph.ink next.ink) e
+    && same_ink glyph.ink next.ink && keeps_order glyph next) e
 
 -- and follows nothing
 joins_white_space : (glyph next : Glyph) → is_white_space next ≡ true
     → joins glyph next ≡ false
 joins_white_space glyph next e = at (is_narrow glyph)
   where
-    at : (n : Bool) → n && is_narrow next && same_ink glyph.ink next.ink ≡ false
-    at true = ap (λ t. (not t && nat_le (cells_of next) 1) && same_ink glyph.ink next.ink) e
+    at : (n : Bool)
+        → n && is_narrow next && same_ink glyph.ink next.ink && keeps_order glyph next ≡ false
+    at true =
+        ap (λ t. (not t && nat_le (cells_of next) 1) && same_ink glyph.ink next.ink
+        && keeps_order glyph next) e
     at false = refl
 
 pub follows_white_space : (before : Option Glyph) (glyph : Glyph) → is_white_space glyph ≡ true
@@ -138,7 +142,7 @@ tokens_by_pieces pen (glyph ∷ glyphs) = all (tokens_by_pieces (next_pen pen gl
     tag cells = Tag (text_tag_content pen.position cells glyph.ink) ∷ []
 
     shown : List Token
-    shown = map TextByte (shown_in_svg glyph.character)
+    shown = map TextByte (encode_utf8 glyph.character)
 
     joined : List Token
     joined = map TextByte (shown_glyphs (joined_glyphs glyph glyphs))
@@ -167,7 +171,7 @@ tokens_by_pieces pen (glyph ∷ glyphs) = all (tokens_by_pieces (next_pen pen gl
         ∙ regrouped shown ended left joined tokens (ended_tokens glyph glyphs)
         ∙ ap (λ (ps : List Token). (ps ++ end_tag) ++ tokens)
         (sym
-        (map-append TextByte (shown_in_svg glyph.character)
+        (map-append TextByte (encode_utf8 glyph.character)
         (shown_glyphs (joined_glyphs glyph glyphs))))
 
     character : Rest

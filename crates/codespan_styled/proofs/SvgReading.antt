@@ -2,26 +2,28 @@
 -- `to_svg`.
 use Rattle.std.proofs.Common.{◌≡◌, ℕ, ◌+◌, true, false, List, [], ◌∷◌, ◌++◌}
 use Rattle.std.proofs.Common.{map, codes, refl, sym, ap, ◌∙◌, append_assoc, append-nil}
-use Rattle.std.specs.Prelude.{Bool, ◌==◌, if◌then◌else◌}
+use Rattle.std.specs.Prelude.{Bool, if◌then◌else◌}
 use Rattle.std.specs.Char.{encode_utf8}
 use Rattle.std.specs.List.{flat_map}
-use Rattle.std.specs.Str.{chars}
-use Rattle.std.proofs.lemmas.Bool.{or_parts}
+use Rattle.std.specs.Str.{chars, encode_utf8_all}
 use Rattle.std.proofs.lemmas.List.{map-append}
+use Rattle.std.proofs.lemmas.List.Elements.{filter_map-append}
 use Rattle.codespan_base.specs.declared.term.config.styles.Styles.{Styles}
 use Rattle.codespan_styled.specs.declared.svg.glyph.Glyph.{Glyph}
 use Rattle.codespan_styled.specs.declared.svg.ink.Ink.{Ink}
 use Rattle.codespan_styled.specs.declared.svg.Pen.{Pen}
+use Rattle.codespan_styled.specs.declared.text.Run.{Run}
 use Rattle.codespan_styled.specs.Glyphs.{cells_of, extent_from, follows, glyphs_of, glyphs_of_run}
 use Rattle.codespan_styled.specs.Glyphs.{joins_next, is_white_space, joined_cells, start}
 use Rattle.codespan_styled.specs.HtmlReading.{InText, Token, Tag, TextByte, read_tokens}
 use Rattle.codespan_styled.specs.HtmlReading.{tokens_from, text_of_tokens}
-use Rattle.codespan_styled.specs.Runs.{RunView, run_characters}
+use Rattle.codespan_styled.specs.Runs.{RunView, run_characters, run_view}
+use Rattle.codespan_styled.specs.SafeText.{safe_characters, shown_character}
 use Rattle.codespan_styled.specs.Svg.{first_pen, glyph_text, background_tag_content, next_pen}
 use Rattle.codespan_styled.specs.Svg.{svg_document, svg_tag_content, text_tag_content, text_tag}
 use Rattle.codespan_styled.specs.Svg.{texts_from, xml_character}
-use Rattle.codespan_styled.specs.SvgReading.{piece_tokens, pieces_from, svg_tokens, shown_in_svg}
-use Rattle.codespan_styled.specs.SvgReading.{shown_svg_text}
+use Rattle.codespan_styled.specs.SvgReading.{piece_tokens, pieces_from, svg_tokens, shown_svg_text}
+use Rattle.codespan_styled.proofs.Shown.{joined-characters}
 use Rattle.codespan_styled.proofs.HtmlReading.{text_of-append, text_of-bytes}
 use Rattle.codespan_styled.proofs.SvgPieces.{glyph_tokens, tokens_of_glyphs, tokens_of_pieces}
 use Rattle.codespan_styled.proofs.SvgPieces.{two_ifs}
@@ -47,7 +49,6 @@ prefix-read false content rest h = tag-read content rest h
 
 -- a glyph that is no white space
 character-glyph : (pen : Pen) (glyph : Glyph) (others : List Glyph) (rest : List ℕ)
-    → is_white_space glyph ≡ false
     → tokens_from InText
     (((if follows pen.before glyph then []
     else text_tag pen.position (cells_of glyph + joined_cells glyph others) glyph.ink)
@@ -55,17 +56,17 @@ character-glyph : (pen : Pen) (glyph : Glyph) (others : List Glyph) (rest : List
     ++ rest)
     ≡ ((if follows pen.before glyph then []
     else Tag (text_tag_content pen.position (cells_of glyph + joined_cells glyph others) glyph.ink)
-    ∷ []) ++ map TextByte (shown_in_svg glyph.character)
+    ∷ []) ++ map TextByte (encode_utf8 glyph.character)
     ++ (if joins_next glyph others then [] else Tag (codes "/text") ∷ []))
     ++ tokens_from InText rest
-character-glyph pen glyph others rest shown_glyph =
+character-glyph pen glyph others rest =
     let content =
     text_tag_content pen.position (cells_of glyph + joined_cells glyph others) glyph.ink in
     let prefix = if follows pen.before glyph then [] else codes "<" ++ content ++ codes ">" in
     let character = xml_character glyph.character in
     let ended = if joins_next glyph others then [] else codes "</text>" in
     let opening_tokens : List Token = if follows pen.before glyph then [] else Tag content ∷ [] in
-    let shown : List Token = map TextByte (shown_in_svg glyph.character) in
+    let shown : List Token = map TextByte (encode_utf8 glyph.character) in
     let ended_tokens : List Token =
     if joins_next glyph others then [] else Tag (codes "/text") ∷ [] in
     ap (tokens_from InText)
@@ -75,7 +76,6 @@ character-glyph pen glyph others rest shown_glyph =
     (text-inside pen.position (cells_of glyph + joined_cells glyph others) glyph.ink)
     ∙ ap (λ (tokens : List Token). opening_tokens ++ tokens)
     (character-read glyph.character (ended ++ rest)
-    (or_parts (glyph.character == 10) (glyph.character == 32) shown_glyph).0
     ∙ ap (λ (tokens : List Token). shown ++ tokens) (ended-read (joins_next glyph others) rest))
     ∙ sym (append_assoc opening_tokens shown (ended_tokens ++ tokens_from InText rest))
     ∙ sym (append_assoc (opening_tokens ++ shown) ended_tokens (tokens_from InText rest))
@@ -91,10 +91,10 @@ glyph-read pen glyph others rest =
     (TextByte glyph.character ∷ [])
     ((if follows pen.before glyph then []
     else Tag (text_tag_content pen.position (cells_of glyph + joined_cells glyph others) glyph.ink)
-    ∷ []) ++ map TextByte (shown_in_svg glyph.character)
+    ∷ []) ++ map TextByte (encode_utf8 glyph.character)
     ++ (if joins_next glyph others then [] else Tag (codes "/text") ∷ []))
     (λ bytes tokens. tokens_from InText (bytes ++ rest) ≡ tokens ++ tokens_from InText rest)
-    (white-space-read glyph.character rest) (character-glyph pen glyph others rest)
+    (white-space-read glyph.character rest) (λ _. character-glyph pen glyph others rest)
 
 glyphs-read : (pen : Pen) (glyphs : List Glyph) (rest : List ℕ)
     → tokens_from InText (texts_from pen glyphs ++ rest) ≡ tokens_of_glyphs pen
@@ -147,7 +147,7 @@ svg-read glyphs =
 
 -- the text of the tokens of a glyph
 glyph-text : (pen : Pen) (glyph : Glyph) (others : List Glyph)
-    → text_of_tokens (glyph_tokens pen glyph others) ≡ shown_in_svg glyph.character
+    → text_of_tokens (glyph_tokens pen glyph others) ≡ encode_utf8 glyph.character
 glyph-text pen glyph others = at (is_white_space glyph) refl
   where
     prefix : Bool → List Token
@@ -162,29 +162,29 @@ glyph-text pen glyph others = at (is_white_space glyph) refl
 
     between : (f o : Bool)
         → text_of_tokens
-        (prefix f ++ map TextByte (shown_in_svg glyph.character) ++ ended o)
-        ≡ shown_in_svg glyph.character
+        (prefix f ++ map TextByte (encode_utf8 glyph.character) ++ ended o)
+        ≡ encode_utf8 glyph.character
     between true true =
-        ap text_of_tokens (append-nil (map TextByte (shown_in_svg glyph.character)))
-        ∙ text_of-bytes (shown_in_svg glyph.character)
+        ap text_of_tokens (append-nil (map TextByte (encode_utf8 glyph.character)))
+        ∙ text_of-bytes (encode_utf8 glyph.character)
     between true false =
-        text_of-append (map TextByte (shown_in_svg glyph.character)) (Tag (codes "/text") ∷ [])
-        ∙ append-nil _ ∙ text_of-bytes (shown_in_svg glyph.character)
+        text_of-append (map TextByte (encode_utf8 glyph.character)) (Tag (codes "/text") ∷ [])
+        ∙ append-nil _ ∙ text_of-bytes (encode_utf8 glyph.character)
     between false true =
-        ap text_of_tokens (append-nil (map TextByte (shown_in_svg glyph.character)))
-        ∙ text_of-bytes (shown_in_svg glyph.character)
+        ap text_of_tokens (append-nil (map TextByte (encode_utf8 glyph.character)))
+        ∙ text_of-bytes (encode_utf8 glyph.character)
     between false false =
-        text_of-append (map TextByte (shown_in_svg glyph.character)) (Tag (codes "/text") ∷ [])
-        ∙ append-nil _ ∙ text_of-bytes (shown_in_svg glyph.character)
+        text_of-append (map TextByte (encode_utf8 glyph.character)) (Tag (codes "/text") ∷ [])
+        ∙ append-nil _ ∙ text_of-bytes (encode_utf8 glyph.character)
 
     tokens : Bool → List Token
     tokens t =
         if t then TextByte glyph.character ∷ []
-        else prefix (follows pen.before glyph) ++ map TextByte (shown_in_svg glyph.character)
+        else prefix (follows pen.before glyph) ++ map TextByte (encode_utf8 glyph.character)
         ++ ended (joins_next glyph others)
 
     at : (n : Bool) → is_white_space glyph ≡ n
-        → text_of_tokens (glyph_tokens pen glyph others) ≡ shown_in_svg glyph.character
+        → text_of_tokens (glyph_tokens pen glyph others) ≡ encode_utf8 glyph.character
     at true e =
         ap (λ t. text_of_tokens (tokens t)) e
         ∙ white-space-shown glyph.character e
@@ -193,14 +193,14 @@ glyph-text pen glyph others = at (is_white_space glyph) refl
         ∙ between (follows pen.before glyph) (joins_next glyph others)
 
 glyphs-text : (pen : Pen) (glyphs : List Glyph)
-    → text_of_tokens (tokens_of_glyphs pen glyphs) ≡ flat_map shown_in_svg
+    → text_of_tokens (tokens_of_glyphs pen glyphs) ≡ encode_utf8_all
     (map (λ (glyph : Glyph). glyph.character) glyphs)
 glyphs-text pen [] = refl
 glyphs-text pen (glyph ∷ glyphs) =
     text_of-append (glyph_tokens pen glyph glyphs) (tokens_of_glyphs (next_pen pen glyph) glyphs)
     ∙ ap (λ bs. bs ++ text_of_tokens (tokens_of_glyphs (next_pen pen glyph) glyphs))
     (glyph-text pen glyph glyphs)
-    ∙ ap (λ bs. shown_in_svg glyph.character ++ bs) (glyphs-text (next_pen pen glyph) glyphs)
+    ∙ ap (λ bs. encode_utf8 glyph.character ++ bs) (glyphs-text (next_pen pen glyph) glyphs)
 
 -- the characters of the glyphs of runs
 run-characters : (ink : Ink) (cs : List ℕ)
@@ -209,25 +209,29 @@ run-characters : (ink : Ink) (cs : List ℕ)
 run-characters ink [] = refl
 run-characters ink (c ∷ cs) = ap (λ ds. c ∷ ds) (run-characters ink cs)
 
-characters-are : (styles : Styles) (runs : List RunView)
-    → map (λ (glyph : Glyph). glyph.character) (glyphs_of styles runs) ≡ run_characters runs
+pub characters-are : (styles : Styles) (runs : List RunView)
+    → map (λ (glyph : Glyph). glyph.character) (glyphs_of styles runs) ≡ safe_characters
+    (run_characters runs)
 characters-are styles [] = refl
 characters-are styles (run ∷ runs) =
     map-append (λ (glyph : Glyph). glyph.character) (glyphs_of_run styles run)
     (glyphs_of styles runs)
     ∙ ap (λ cs. cs ++ map (λ (glyph : Glyph). glyph.character) (glyphs_of styles runs))
-    (run-characters _ (chars run.text))
-    ∙ ap (λ cs. chars run.text ++ cs) (characters-are styles runs)
+    (run-characters _ (safe_characters (chars run.text)))
+    ∙ ap (λ cs. safe_characters (chars run.text) ++ cs) (characters-are styles runs)
+    ∙ sym (filter_map-append shown_character (chars run.text) (run_characters runs))
 
--- the text of a document is that of its runs
-pub shown-svg-text : (styles : Styles) (runs : List RunView)
-    → text_of_tokens (read_tokens (svg_document (glyphs_of styles runs))) ≡ shown_svg_text runs
+-- the text of a document is the safe text of its runs
+pub shown-svg-text : (styles : Styles) (runs : List Run)
+    → text_of_tokens (read_tokens (svg_document (glyphs_of styles (map run_view runs))))
+    ≡ shown_svg_text (map run_view runs)
 shown-svg-text styles runs =
-    let glyphs = glyphs_of styles runs in
+    let glyphs = glyphs_of styles (map run_view runs) in
     let last = Tag (codes "/svg") ∷ TextByte 10 ∷ [] in
     ap text_of_tokens (svg-read glyphs)
     ∙ ap (λ bs. 10 ∷ 10 ∷ bs)
     (ap (λ (tokens : List Token). text_of_tokens (tokens ++ last)) (sym (tokens_of_pieces glyphs))
     ∙ text_of-append (tokens_of_glyphs first_pen glyphs) last
     ∙ ap (λ bs. bs ++ 10 ∷ [])
-    (glyphs-text first_pen glyphs ∙ ap (flat_map shown_in_svg) (characters-are styles runs)))
+    (glyphs-text first_pen glyphs ∙ ap encode_utf8_all (characters-are styles (map run_view runs))
+    ∙ ap (λ cs. encode_utf8_all (safe_characters cs)) (sym (joined-characters runs))))

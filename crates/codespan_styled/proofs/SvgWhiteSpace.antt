@@ -1,19 +1,25 @@
 -- No `text` element of a document shows white space: for `svg::laws::texts_have_no_white_space`.
 use Rattle.std.proofs.Common.{◌≡◌, ℕ, ◌+◌, ◌≤◌, ◌/◌, ◌%◌, true, false}
-use Rattle.std.proofs.Common.{List, [], ◌∷◌, arith, refl}
-use Rattle.std.specs.Prelude.{All, ◌==◌, ◌&&◌, not, nat_le, nat_lt}
+use Rattle.std.proofs.Common.{List, [], ◌∷◌, arith, map, subst, sym}
+use Rattle.std.specs.Prelude.{All, ◌==◌, ◌||◌, ◌&&◌, not, nat_le, nat_lt}
 use Rattle.std.specs.Char.{encode_utf8}
 use Rattle.std.specs.List.{AllByRecursion, flat_map}
-use Rattle.std.proofs.lemmas.Bool.{both_ways, cond_both, or_from, or_parts}
+use Rattle.std.proofs.lemmas.Bool.{cond_both, ne_eqb, or_from, or_parts}
 use Rattle.std.proofs.lemmas.Bool.Decides.{nat_tests}
 use Rattle.std.proofs.lemmas.List.Elements.{All-append, All-from_recursion, All-nil}
 use Rattle.codespan_styled.specs.declared.svg.glyph.Glyph.{Glyph}
 use Rattle.codespan_styled.specs.declared.svg.Pen.{Pen}
-use Rattle.codespan_styled.specs.Glyphs.{cells_of, follows, is_narrow, is_white_space, joins}
+use Rattle.codespan_base.specs.declared.term.config.styles.Styles.{Styles}
+use Rattle.codespan_styled.specs.Glyphs.{cells_of, follows, glyphs_of, is_narrow}
+use Rattle.codespan_styled.specs.Glyphs.{is_white_space, joins, keeps_order}
 use Rattle.codespan_styled.specs.Inks.{same_ink}
-use Rattle.codespan_styled.specs.Svg.{is_forbidden_in_xml, next_pen}
+use Rattle.codespan_styled.specs.Runs.{RunView, run_characters}
+use Rattle.codespan_styled.specs.SafeText.{is_safe}
+use Rattle.codespan_styled.specs.Svg.{first_pen, next_pen}
 use Rattle.codespan_styled.specs.SvgReading.{is_collapsible, joined_glyphs, pieces_from}
-use Rattle.codespan_styled.specs.SvgReading.{shown_bytes, shown_glyphs, shown_in_svg}
+use Rattle.codespan_styled.specs.SvgReading.{shown_bytes, shown_glyphs}
+use Rattle.codespan_styled.proofs.Shown.{AllSafe, all_safe}
+use Rattle.codespan_styled.proofs.SvgReading.{characters-are}
 use Rattle.codespan_styled.proofs.HtmlReading.{and_true}
 use Rattle.codespan_styled.proofs.SvgElements.{not_true}
 
@@ -52,61 +58,79 @@ encoded-shown c h =
 -- ---- glyphs
 
 -- bytes that are no white space
-abbrev AreShown : List ℕ → Type 0
-AreShown bytes = AllByRecursion IsShown bytes
+-- the glyph is no carriage return
+abbrev NoReturn : Glyph → Type 0
+NoReturn glyph = (glyph.character == 13) ≡ false
 
-character-shown : (c : ℕ) → (c == 10) ≡ false → (c == 32) ≡ false
-    → AreShown (shown_in_svg c)
-unfolding encode_utf8
-character-shown c newline space =
-    cond_both (c == 10) _ _ AreShown (λ t. absurd (both_ways (c == 10) newline t))
-    (λ _. cond_both (c == 27) _ _ AreShown (λ _. (refl, (refl, tt)))
-    (λ _. cond_both (c == 0) _ _ AreShown (λ _. (refl, (refl, tt)))
-    (λ _. cond_both (c == 13) _ _ AreShown (λ _. (refl, (refl, tt)))
-    (λ return. cond_both (c == 9) _ _ AreShown (λ _. (refl, (refl, tt)))
-    (λ tab. cond_both (is_forbidden_in_xml c) _ _ AreShown (λ _. (refl, (refl, (refl, tt))))
-    (λ _. encoded-shown c (shown-byte c tab newline return space)))))))
-
-glyph-shown : (glyph : Glyph) → is_white_space glyph ≡ false
-    → All IsShown (shown_in_svg glyph.character)
-glyph-shown glyph e =
-    let parts = or_parts (glyph.character == 10) (glyph.character == 32) e in
-    All-from_recursion IsShown (shown_in_svg glyph.character)
-    (character-shown glyph.character parts.0 parts.1)
+-- a glyph that is neither white space nor a carriage return
+glyph-shown : (glyph : Glyph) → is_white_space glyph ≡ false → NoReturn glyph
+    → All IsShown (encode_utf8 glyph.character)
+glyph-shown glyph e return =
+    let parts = or_parts ((glyph.character == 10) || (glyph.character == 32)) (glyph.character == 9)
+    e in
+    let two = or_parts (glyph.character == 10) (glyph.character == 32) parts.0 in
+    All-from_recursion IsShown (encode_utf8 glyph.character)
+    (encoded-shown glyph.character (shown-byte glyph.character parts.1 two.0 return two.1))
 
 -- a glyph that belongs to the `text` element of the one before it is no white space
 joined_no_white_space : (glyph next : Glyph) → joins glyph next ≡ true
     → is_white_space next ≡ false
 joined_no_white_space glyph next e =
+    let drawn = is_narrow glyph && is_narrow next in
     let narrow =
     and_true (is_narrow glyph) (is_narrow next)
-    (and_true (is_narrow glyph && is_narrow next) (same_ink glyph.ink next.ink) e).0 in
+    (and_true drawn (same_ink glyph.ink next.ink)
+    (and_true (drawn && same_ink glyph.ink next.ink) (keeps_order glyph next) e).0).0 in
     not_true (is_white_space next)
     (and_true (not (is_white_space next)) (nat_le (cells_of next) 1) narrow.1).0
 
 -- the glyphs of a `text` element from this one on
 text-shown : (glyph : Glyph) (others : List Glyph) → is_white_space glyph ≡ false
+    → AllByRecursion NoReturn (glyph ∷ others)
     → All IsShown (shown_glyphs (glyph ∷ joined_glyphs glyph others))
-text-shown glyph [] e =
-    All-append IsShown (shown_in_svg glyph.character) [] (glyph-shown glyph e) (All-nil IsShown)
-text-shown glyph (next ∷ others) e =
-    All-append IsShown (shown_in_svg glyph.character)
-    (shown_glyphs (joined_glyphs glyph (next ∷ others))) (glyph-shown glyph e)
+text-shown glyph [] e kept =
+    All-append IsShown (encode_utf8 glyph.character) [] (glyph-shown glyph e kept.0)
+    (All-nil IsShown)
+text-shown glyph (next ∷ others) e kept =
+    All-append IsShown (encode_utf8 glyph.character)
+    (shown_glyphs (joined_glyphs glyph (next ∷ others))) (glyph-shown glyph e kept.0)
     (cond_both (joins glyph next) _ _ (λ glyphs. All IsShown (shown_glyphs glyphs))
-    (λ t. text-shown next others (joined_no_white_space glyph next t)) (λ _. All-nil IsShown))
+    (λ t. text-shown next others (joined_no_white_space glyph next t) kept.1)
+    (λ _. All-nil IsShown))
 
 -- ---- pieces
 
-pub pieces-shown : (pen : Pen) (glyphs : List Glyph)
+pieces-shown : (pen : Pen) (glyphs : List Glyph) → AllByRecursion NoReturn glyphs
     → All IsShown (flat_map shown_bytes (pieces_from pen glyphs))
-pieces-shown pen [] = All-nil IsShown
-pieces-shown pen (glyph ∷ glyphs) =
+pieces-shown pen [] kept = All-nil IsShown
+pieces-shown pen (glyph ∷ glyphs) kept =
     let others : All IsShown (flat_map shown_bytes (pieces_from (next_pen pen glyph) glyphs)) =
-    pieces-shown (next_pen pen glyph) glyphs in
+    pieces-shown (next_pen pen glyph) glyphs kept.1 in
     cond_both (is_white_space glyph) _ _ (λ pieces. All IsShown (flat_map shown_bytes pieces))
     (λ _. others)
     (λ e. cond_both (follows pen.before glyph) _ _
     (λ pieces. All IsShown (flat_map shown_bytes pieces)) (λ _. others)
     (λ _. All-append IsShown (shown_glyphs (glyph ∷ joined_glyphs glyph glyphs))
-    (flat_map shown_bytes (pieces_from (next_pen pen glyph) glyphs)) (text-shown glyph glyphs e)
-    others))
+    (flat_map shown_bytes (pieces_from (next_pen pen glyph) glyphs))
+    (text-shown glyph glyphs e kept) others))
+
+-- ---- glyphs of runs
+
+-- glyphs whose characters are safe
+no-returns : (glyphs : List Glyph)
+    → AllSafe (map (λ (glyph : Glyph). glyph.character) glyphs)
+    → AllByRecursion NoReturn glyphs
+no-returns [] safe = tt
+no-returns (glyph ∷ glyphs) safe = (
+  ne_eqb glyph.character 13
+      (λ (e : glyph.character ≡ 13). let bad : false
+      ≡ true = subst (λ x. is_safe x ≡ true) e safe.0 in cc bad),
+  no-returns glyphs safe.1,
+)
+
+pub runs-shown : (styles : Styles) (runs : List RunView)
+    → All IsShown (flat_map shown_bytes (pieces_from first_pen (glyphs_of styles runs)))
+runs-shown styles runs =
+    pieces-shown first_pen (glyphs_of styles runs)
+    (no-returns (glyphs_of styles runs)
+    (subst AllSafe (sym (characters-are styles runs)) (all_safe (run_characters runs))))

@@ -7,7 +7,7 @@ use Rattle.std.specs.List.{list_all}
 use Rattle.std.specs.Str.{IsAscii, chars}
 use Rattle.std.proofs.lemmas.Bool.{and_parts, cond_both}
 use Rattle.std.proofs.lemmas.Bool.Decides.{nat_tests}
-use Rattle.std.proofs.lemmas.List.Elements.{filter-append}
+use Rattle.std.proofs.lemmas.List.Elements.{filter_map-append}
 use Rattle.std.proofs.lemmas.List.Folds.{list_all-append}
 use Rattle.std.proofs.lemmas.Str.{IsUtf8-string_bytes}
 use Rattle.std.proofs.lemmas.Str.Ascii.{IsAscii-cons, IsAscii-nil}
@@ -29,8 +29,9 @@ use Rattle.codespan_base.specs.declared.term.config.style_mark.StyleMark.TheVari
 use Rattle.codespan_base.specs.declared.term.config.style_mark.StyleMark.TheVariants.{Label, Reset}
 use Rattle.codespan_styled.specs.declared.text.Run.{Run}
 use Rattle.codespan_styled.specs.Runs.{TextsAreUtf8, RunView, is_plain, run_characters, run_view}
-use Rattle.codespan_styled.specs.Terminal.{columns, is_safe, first_sequences, state_after}
-use Rattle.codespan_styled.specs.Terminal.{run_bytes, runs_bytes, safe_characters, safe_text}
+use Rattle.codespan_styled.specs.SafeText.{columns, safe_characters, safe_text}
+use Rattle.codespan_styled.specs.SafeText.{shown_character}
+use Rattle.codespan_styled.specs.Terminal.{first_sequences, state_after, run_bytes, runs_bytes}
 use Rattle.codespan_styled.specs.Terminal.{visible, terminal_text, ShowsSafe, Text, Parameters}
 use Rattle.codespan_styled.proofs.UnsafeCells.{columns_stay}
 use Rattle.codespan_styled.proofs.TerminalStates.{is_parameter, parameters_after, parameters_show}
@@ -151,7 +152,8 @@ ReadsText-first_sequences styles style =
 safe_split : (text : List ℕ) (runs : List RunView)
     → safe_characters (chars text) ++ safe_characters (run_characters runs) ≡ safe_characters
     (chars text ++ run_characters runs)
-safe_split text runs = sym (filter-append is_safe (chars text) (run_characters runs))
+safe_split text runs =
+    sym (filter_map-append shown_character (chars text) (run_characters runs))
 
 ReadsText-runs : (styles : Styles) (runs : List RunView) → TextsAreUtf8 runs
     → ReadsText (runs_bytes styles runs) (safe_characters (run_characters runs))

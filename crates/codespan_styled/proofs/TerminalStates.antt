@@ -1,17 +1,18 @@
 -- How a text for a terminal is read: for the clause `safe` of
 -- `terminal::to_terminal` and that of `terminal::laws::safe_text_is_shown`.
-use Rattle.std.proofs.Common.{◌||◌, ◌≡◌, ℕ, Bool, true, false, cond, ◌&&◌, ◌==◌}
+use Rattle.std.proofs.Common.{◌||◌, ◌≡◌, ℕ, Bool, true, false, cond, ◌==◌}
 use Rattle.std.proofs.Common.{List, [], ◌∷◌, ◌++◌, refl, sym, ap, subst, ◌∙◌}
 use Rattle.std.proofs.Common.{append_assoc}
 use Rattle.std.specs.List.{list_all}
 use Rattle.std.specs.Char.{is_ascii_digit}
 use Rattle.std.specs.Str.{IsUtf8, IsAscii, chars}
-use Rattle.std.proofs.Math.Utf8.{scalar, scalars}
 use Rattle.std.proofs.lemmas.Bool.{and_parts, ne_eqb}
 use Rattle.std.proofs.lemmas.Str.{IsUtf8-append, IsUtf8-nil, IsUtf8-from_ascii, chars-append}
 use Rattle.std.proofs.lemmas.Str.{chars-encodes, chars-IsAscii, chars-nil, scalars-chars}
-use Rattle.codespan_styled.specs.Terminal.{is_safe, next_state, state_after, safe_characters}
-use Rattle.codespan_styled.specs.Terminal.{safe_text, visible, Text, Escape, Parameters, Unknown}
+use Rattle.codespan_styled.specs.SafeText.{is_safe, safe_characters, safe_text}
+use Rattle.codespan_styled.specs.Terminal.{next_state, state_after, visible, Text, Escape}
+use Rattle.codespan_styled.specs.Terminal.{Parameters, Unknown}
+use Rattle.codespan_styled.proofs.Shown.{AllSafe, all_safe, scalars_safe}
 
 -- ---- characters
 
@@ -59,15 +60,10 @@ Reads-safe c cs s h p = record {
       ∙ ap (λ (l : List ℕ). c ∷ l) (p.shows rest);
 }
 
-reads_step : (c : ℕ) (s : List ℕ) (b : Bool) → is_safe c ≡ b → Reads s s
-    → Reads (cond b (c ∷ s) s) (cond b (c ∷ s) s)
-reads_step c s true h p = Reads-safe c s s h p
-reads_step c s false h p = p
-
 -- safe characters are shown
-reads_safe : (cs : List ℕ) → Reads (safe_characters cs) (safe_characters cs)
-reads_safe [] = Reads-nil
-reads_safe (c ∷ cs) = reads_step c (safe_characters cs) (is_safe c) refl (reads_safe cs)
+reads_safe : (cs : List ℕ) → AllSafe cs → Reads cs cs
+reads_safe [] safe = Reads-nil
+reads_safe (c ∷ cs) safe = Reads-safe c cs cs safe.0 (reads_safe cs safe.1)
 
 -- ---- sequences
 
@@ -130,18 +126,6 @@ ReadsText-ascii bs s ascii p = record {
   reads = subst (λ l. Reads l s) (sym (chars-IsAscii bs ascii)) p;
 }
 
--- a part of a text's scalar values are scalar values
-scalars_step : (c : ℕ) (s : List ℕ) (b : Bool) → scalar c ≡ true → scalars s ≡ true
-    → scalars (cond b (c ∷ s) s) ≡ true
-scalars_step c s true h k = ap (λ x. x && scalars s) h ∙ k
-scalars_step c s false h k = k
-
-scalars_safe : (cs : List ℕ) → scalars cs ≡ true → scalars (safe_characters cs) ≡ true
-scalars_safe [] h = refl
-scalars_safe (c ∷ cs) h =
-    let parts = and_parts (scalar c) (scalars cs) h in
-    scalars_step c (safe_characters cs) (is_safe c) parts.0 (scalars_safe cs parts.1)
-
 -- the safe text of a text
 pub ReadsText-safe : (text : List ℕ) → IsUtf8 text
     → ReadsText (safe_text text) (safe_characters (chars text))
@@ -152,5 +136,5 @@ ReadsText-safe text utf8 =
       reads =
           subst (λ l. Reads l (safe_characters (chars text)))
           (sym (chars-encodes (safe_characters (chars text)) scalar_values))
-          (reads_safe (chars text));
+          (reads_safe (safe_characters (chars text)) (all_safe (chars text)));
     }

@@ -1,6 +1,6 @@
 -- HTML elements of styled text.
-use Rattle.std.specs.Prelude.{ℕ, ◌%◌, ◌==◌, Bool, not, nat_lt, nat_le, ◌&&◌, ◌||◌}
-use Rattle.std.specs.Prelude.{List, ◌++◌, codes, encode_utf8, if◌then◌else◌}
+use Rattle.std.specs.Prelude.{ℕ, ◌==◌, Bool, nat_lt, List, ◌++◌, codes, encode_utf8}
+use Rattle.std.specs.Prelude.{if◌then◌else◌}
 use Rattle.std.specs.List.{flat_map}
 use Rattle.std.specs.Str.{chars}
 use Rattle.codespan_base.specs.declared.diagnostic.LabelStyle.TheVariants.{Primary, Secondary}
@@ -16,26 +16,9 @@ use Rattle.codespan_base.specs.declared.term.config.style_mark.StyleMark.TheVari
 use Rattle.codespan_base.specs.declared.term.config.style_mark.StyleMark.TheVariants.{Label, Reset}
 use Rattle.codespan_styled.specs.Cells.{character_cells}
 use Rattle.codespan_styled.specs.Runs.{RunView, is_plain}
+use Rattle.codespan_styled.specs.SafeText.{safe_characters}
 
 -- ---- characters
-
--- the character is a control character other than a tab, a newline and a form feed, which HTML text
--- can hold
-abbrev pub is_forbidden_control : ℕ → Bool
-is_forbidden_control c =
-    (nat_lt c 32 && not (c == 9 || c == 10 || c == 12)) || (nat_le 127 c && nat_le c 159)
-
--- the character is a noncharacter: U+FDD0 to U+FDEF, and the last two of each plane
-abbrev pub is_noncharacter : ℕ → Bool
-is_noncharacter c = (nat_le 64976 c && nat_le c 65007) || nat_le 65534 (c % 65536)
-
--- a character as an element shows it: U+FFFD for one that HTML text cannot hold
-abbrev pub replaced_character : ℕ → ℕ
-replaced_character c = if is_forbidden_control c || is_noncharacter c then 65533 else c
-
--- a text as an element shows it
-abbrev pub shown_text : List ℕ → List ℕ
-shown_text text = flat_map (λ c. encode_utf8 (replaced_character c)) (chars text)
 
 -- a character in an element: those that can begin or end a tag, an attribute or an entity are
 -- entities
@@ -46,7 +29,7 @@ html_character c =
     else if c == 62 then codes "&gt;"
     else if c == 34 then codes "&quot;"
     else if c == 39 then codes "&#39;"
-    else encode_utf8 (replaced_character c)
+    else encode_utf8 c
 
 -- ---- spans
 
@@ -76,9 +59,9 @@ box_class c = if character_cells c == 2 then codes "wide" else codes "wide-3"
 abbrev pub html_cell : ℕ → List ℕ
 html_cell c = if is_wide c then html_span (box_class c) (html_character c) else html_character c
 
--- a text in an element, escaped, each wide character in a box
+-- a text in an element: what is shown for it, escaped, each wide character in a box
 abbrev pub escaped_text : List ℕ → List ℕ
-escaped_text text = flat_map html_cell (chars text)
+escaped_text text = flat_map html_cell (safe_characters (chars text))
 
 -- ---- classes
 

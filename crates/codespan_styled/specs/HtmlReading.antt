@@ -3,9 +3,9 @@ use Rattle.std.specs.Prelude.{ℕ, ◌==◌, List, [], ◌∷◌, ◌++◌, map,
 use Rattle.std.specs.Prelude.{Option, None, Some, option_and_then, if◌then◌else◌}
 use Rattle.std.specs.List.{flat_map}
 use Rattle.std.specs.Str.{bytes_eq, chars}
-use Rattle.codespan_styled.specs.Html.{box_class, is_wide, replaced_character, span_tag_content}
-use Rattle.codespan_styled.specs.Html.{style_class}
+use Rattle.codespan_styled.specs.Html.{box_class, is_wide, span_tag_content, style_class}
 use Rattle.codespan_styled.specs.Runs.{RunView, is_plain}
+use Rattle.codespan_styled.specs.SafeText.{safe_characters}
 
 -- a token of an element: a byte of text, or what is between `<` and `>`
 pub data Token : Type 0 where
@@ -97,18 +97,18 @@ open_after tokens = open_from tokens []
 abbrev pub span_tokens : List ℕ → List Token → List Token
 span_tokens class tokens = Tag (span_tag_content class) ∷ tokens ++ Tag (codes "/span") ∷ []
 
--- a character, as an element shows it
+-- a character
 abbrev pub character_tokens : ℕ → List Token
-character_tokens c = map TextByte (encode_utf8 (replaced_character c))
+character_tokens c = map TextByte (encode_utf8 c)
 
 -- a character, a wide one between the tags of its box
 abbrev pub cell_tokens : ℕ → List Token
 cell_tokens c =
     if is_wide c then span_tokens (box_class c) (character_tokens c) else character_tokens c
 
--- a text
+-- a text: what is shown for it
 abbrev pub text_tokens : List ℕ → List Token
-text_tokens text = flat_map cell_tokens (chars text)
+text_tokens text = flat_map cell_tokens (safe_characters (chars text))
 
 -- a run: a plain one is its text, any other has a tag before it and one after it
 abbrev pub run_tokens : RunView → List Token

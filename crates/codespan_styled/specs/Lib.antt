@@ -1,7 +1,8 @@
 -- text in runs
 pub mod Runs
--- the cells of characters
+-- the cells of characters, and which characters are shown
 pub mod Cells
+pub mod SafeText
 -- HTML: the element, what a reader finds in it, and its style sheet
 pub mod Html
 pub mod HtmlReading

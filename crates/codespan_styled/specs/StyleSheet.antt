@@ -88,12 +88,14 @@ classed_styles =
     ∷ Label Help Primary ∷ Label Error Secondary ∷ LineNumber ∷ SourceBorder ∷ NoteBullet
     ∷ []
 
--- the rules of the boxes of wide characters: as wide as the cells that the characters occupy
-abbrev pub box_rules : List ℕ
-box_rules =
-    codes ".diagnostic .wide { display: inline-block; width: 2ch; }\n"
+-- the rule of the element, whose characters are from left to right in the order of its text, and
+-- those of the boxes of wide characters, as wide as the cells that the characters occupy
+abbrev pub layout_rules : List ℕ
+layout_rules =
+    codes ".diagnostic { direction: ltr; unicode-bidi: isolate-override; }\n"
+    ++ codes ".diagnostic .wide { display: inline-block; width: 2ch; }\n"
     ++ codes ".diagnostic .wide-3 { display: inline-block; width: 3ch; }\n"
 
--- the style sheet: a rule for each class
+-- the style sheet: a rule for each class of styles, and those of the layout
 abbrev pub style_sheet : Styles → List ℕ
-style_sheet styles = flat_map (rule styles) classed_styles ++ box_rules
+style_sheet styles = flat_map (rule styles) classed_styles ++ layout_rules

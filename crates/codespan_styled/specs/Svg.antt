@@ -1,5 +1,5 @@
 -- SVG documents of styled text.
-use Rattle.std.specs.Prelude.{ℕ, ◌+◌, ◌*◌, ◌==◌, nat_lt, Bool, true, false, ◌||◌}
+use Rattle.std.specs.Prelude.{ℕ, ◌+◌, ◌*◌, ◌==◌, Bool, true, false}
 use Rattle.std.specs.Prelude.{List, [], ◌∷◌, ◌++◌, codes, decimal, Option, Some, None}
 use Rattle.std.specs.Prelude.{encode_utf8, if◌then◌else◌}
 use Rattle.codespan_base.specs.declared.term.config.color.Color.{Color}
@@ -15,24 +15,12 @@ use Rattle.codespan_styled.specs.Glyphs.{is_white_space, joined_cells, start}
 
 -- ---- characters
 
--- a character below U+0020, U+FFFE or U+FFFF: an XML document can hold none of them but tab,
--- newline and carriage return; tab and carriage return are written otherwise, a newline ends a row
-abbrev pub is_forbidden_in_xml : ℕ → Bool
-is_forbidden_in_xml c = nat_lt c 32 || (c == 65534) || (c == 65535)
-
--- a character as XML escapes it: `&`, `<` and `>` as entities; the escape character, U+0000, the
--- carriage return and the tab by a backslash and a letter or digit; any other that a document can
--- not hold as the replacement character
+-- a character as XML escapes it: `&`, `<` and `>` as entities
 abbrev pub xml_character : ℕ → List ℕ
 xml_character c =
     if c == 38 then codes "&amp;"
     else if c == 60 then codes "&lt;"
     else if c == 62 then codes "&gt;"
-    else if c == 27 then codes "\\e"
-    else if c == 0 then codes "\\0"
-    else if c == 13 then codes "\\r"
-    else if c == 9 then codes "\\t"
-    else if is_forbidden_in_xml c then encode_utf8 65533
     else encode_utf8 c
 
 -- ---- tags

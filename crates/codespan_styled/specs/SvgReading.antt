@@ -1,40 +1,32 @@
 -- How an SVG document is read back, by the reader of `HtmlReading`: its tags, and the text between
 -- them, and in which cells the characters of its texts are.
-use Rattle.std.specs.Prelude.{ℕ, ◌+◌, ◌==◌, Bool, ◌||◌, List, [], ◌∷◌, ◌++◌}
-use Rattle.std.specs.Prelude.{map, codes, encode_utf8, if◌then◌else◌}
-use Rattle.std.specs.List.{flat_map}
+use Rattle.std.specs.Prelude.{◌≡◌, ℕ, ◌+◌, ◌==◌, Bool, true, false, not, ◌&&◌}
+use Rattle.std.specs.Prelude.{◌||◌}
+use Rattle.std.specs.Prelude.{List, [], ◌∷◌, ◌++◌, map, codes, encode_utf8}
+use Rattle.std.specs.Prelude.{if◌then◌else◌}
+use Rattle.std.specs.List.{AllByRecursion, flat_map}
 use Rattle.codespan_styled.specs.declared.svg.glyph.Glyph.{Glyph}
 use Rattle.codespan_styled.specs.declared.svg.ink.Ink.{Ink}
 use Rattle.codespan_styled.specs.declared.svg.position.CellPosition.{CellPosition}
 use Rattle.codespan_styled.specs.declared.svg.Pen.{Pen}
 use Rattle.codespan_styled.specs.Glyphs.{after_glyph, cells_of, extent_from, follows}
-use Rattle.codespan_styled.specs.Glyphs.{is_white_space, joins, start}
+use Rattle.codespan_styled.specs.Glyphs.{is_white_space, joins, runs_left, start}
 use Rattle.codespan_styled.specs.HtmlReading.{Token, Tag, TextByte}
-use Rattle.codespan_styled.specs.Runs.{RunView, run_characters}
-use Rattle.codespan_styled.specs.Svg.{first_pen, background_tag_content, is_forbidden_in_xml}
-use Rattle.codespan_styled.specs.Svg.{next_pen, svg_tag_content, text_tag_content}
+use Rattle.codespan_styled.specs.Runs.{RunView, joined}
+use Rattle.codespan_styled.specs.SafeText.{CharacterInColumn, safe_text}
+use Rattle.codespan_styled.specs.Svg.{first_pen, background_tag_content, next_pen}
+use Rattle.codespan_styled.specs.Svg.{svg_tag_content, text_tag_content}
 
 -- ---- characters
 
--- a character as a document shows it: four control characters by a backslash and a letter or
--- digit, and any other that XML cannot hold as U+FFFD
-abbrev pub shown_in_svg : ℕ → List ℕ
-shown_in_svg c =
-    if c == 10 then 10 ∷ []
-    else if c == 27 then codes "\\e"
-    else if c == 0 then codes "\\0"
-    else if c == 13 then codes "\\r"
-    else if c == 9 then codes "\\t"
-    else if is_forbidden_in_xml c then encode_utf8 65533
-    else encode_utf8 c
-
--- glyphs as a document shows them
+-- the characters of glyphs, in UTF-8
 abbrev pub shown_glyphs : List Glyph → List ℕ
-shown_glyphs glyphs = flat_map (λ (glyph : Glyph). shown_in_svg glyph.character) glyphs
+shown_glyphs glyphs = flat_map (λ (glyph : Glyph). encode_utf8 glyph.character) glyphs
 
--- what a document of runs shows: their text, after the line ends of its first two tags, before one
+-- what a document of runs shows: what is shown for their text, after the line ends of its first two
+-- tags, and before one
 abbrev pub shown_svg_text : List RunView → List ℕ
-shown_svg_text runs = 10 ∷ 10 ∷ flat_map shown_in_svg (run_characters runs) ++ 10 ∷ []
+shown_svg_text runs = 10 ∷ 10 ∷ safe_text (joined runs) ++ 10 ∷ []
 
 -- ---- pieces
 
@@ -111,7 +103,32 @@ characters_from position (glyph ∷ glyphs) =
     if is_white_space glyph then rest
     else record { character = glyph.character; ink = glyph.ink; position = position } ∷ rest
 
+-- a character, and the column of its cell
+abbrev pub in_column : CharacterInCell → CharacterInColumn
+in_column c = (c.character, c.position.column)
+
 -- ---- white space
+
+-- a `text` element has the character: it is no white space, neither a newline nor a space nor a tab
+abbrev pub is_in_text_element : CharacterInColumn → Bool
+is_in_text_element p = not ((p.0 == 10) || (p.0 == 32) || (p.0 == 9))
+
+-- ---- order
+
+-- the glyph is a letter of a right-to-left script: a character of one that occupies a cell
+abbrev pub is_right_to_left_letter : Glyph → Bool
+is_right_to_left_letter glyph = runs_left glyph && not (cells_of glyph == 0)
+
+-- the glyphs of a `text` element are shown from left to right: only the first may be a letter of
+-- a right-to-left script, and then the others occupy no cell
+abbrev pub KeepsOrder : Piece → Type 0
+KeepsOrder (WhiteSpace character) = Unit {0}
+KeepsOrder (Text position first others) =
+    AllByRecursion (λ (glyph : Glyph). is_right_to_left_letter glyph ≡ false) others
+    × (is_right_to_left_letter first ≡ true
+    → AllByRecursion (λ (glyph : Glyph). cells_of glyph ≡ 0) others)
+
+-- ---- bytes
 
 -- the bytes that a piece shows: white space between `text` elements is not shown
 abbrev pub shown_bytes : Piece → List ℕ

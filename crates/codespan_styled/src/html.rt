@@ -2,15 +2,17 @@
 
 ghost use Rattle.std.specs.Prelude.{◌≡◌, ◌++◌, [], IfErr, IfOk, OnOk, Some, codes};
 ghost use Rattle.std.specs.Prelude.{flat_map, map, string_bytes};
+ghost use Rattle.std.specs.Str.{chars};
 ghost use Rattle.codespan_styled.specs.Html.{box_class, escaped_text, html_cell, html_character};
-ghost use Rattle.codespan_styled.specs.Html.{html_element, html_run, is_forbidden_control};
-ghost use Rattle.codespan_styled.specs.Html.{is_noncharacter, is_wide, replaced_character};
-ghost use Rattle.codespan_styled.specs.Html.{shown_text, span_tag, style_class};
+ghost use Rattle.codespan_styled.specs.Html.{html_element, html_run, is_wide, span_tag};
+ghost use Rattle.codespan_styled.specs.Html.{style_class};
 ghost use Rattle.codespan_styled.specs.HtmlReading.{element_tokens, open_after, read_tokens};
 ghost use Rattle.codespan_styled.specs.HtmlReading.{text_of_html};
-ghost use Rattle.codespan_styled.specs.Runs.{joined, run_view, styled_runs};
+ghost use Rattle.codespan_styled.specs.Runs.{joined, run_characters, run_view, styled_runs};
+ghost use Rattle.codespan_styled.specs.SafeText.{AreInColumns, safe_text};
 
 use crate::cells::cells;
+use crate::safe::shown_character;
 use crate::text::{Run, StyledText};
 use codespan_base::diagnostic::{LabelStyle, Severity};
 use codespan_base::files::Error;
@@ -31,9 +33,10 @@ use std::alloc::{AllocError, Global};
 /// under their characters even where a font's wide characters are not two cells wide.
 ///
 /// A text can neither start nor end a tag, an attribute or an entity: each of the characters `&`,
-/// `<`, `>`, `"` and `'` becomes an entity. A control character other than a tab, a newline and a
-/// form feed, and a noncharacter, which HTML text cannot hold, become U+FFFD. With its tags taken
-/// out and its entities read back the element is the text, with U+FFFD for these characters.
+/// `<`, `>`, `"` and `'` becomes an entity. The element shows the same characters as a terminal
+/// does: those that are not safe are left out, or replaced (see
+/// [`is_safe`](crate::terminal::is_safe)). With its tags taken out and its entities read back the
+/// element is the [`safe_text`](crate::terminal::safe_text) of the text.
 ///
 /// # Errors
 ///
@@ -53,7 +56,10 @@ pub fn to_html(alloc: Global, text: &StyledText) -> Result<String, Error>
     ensures balanced { IfOk result (λ html.
         open_after (read_tokens (string_bytes html)) ≡ Some []) }
     ensures text { IfOk result (λ html.
-        text_of_html (string_bytes html) ≡ shown_text (joined (styled_runs text.now))) }
+        text_of_html (string_bytes html) ≡ safe_text (joined (styled_runs text.now))) }
+    ensures columns { IfOk result (λ html.
+        AreInColumns (chars (text_of_html (string_bytes html)))
+        (run_characters (styled_runs text.now))) }
     ensures failed { IfErr result (λ error. error ≡ Error.OutOfMemory) }
 {
     let mut html = String::new(alloc);
@@ -106,12 +112,14 @@ fn push_span_end(html: &mut String) -> Result<(), AllocError>
     Ok(())
 }
 
-/// Appends a text, with entities, each wide character in a box.
+/// Appends what is shown for a text, with entities, each wide character in a box.
 fn push_text(html: &mut String, text: &str) -> Result<(), AllocError>
     ensures { OnOk result (string_bytes html.new ≡ string_bytes html.old ++ escaped_text text.now) }
 {
     for c in text.chars() {
-        push_cell(html, c)?;
+        if let Some(shown) = shown_character(c) {
+            push_cell(html, shown)?;
+        }
     }
     Ok(())
 }
@@ -153,34 +161,8 @@ fn push_character(html: &mut String, c: char) -> Result<(), AllocError>
         '>' => html.push_str("&gt;"),
         '"' => html.push_str("&quot;"),
         '\'' => html.push_str("&#39;"),
-        other => html.push(replaced_character(other)),
+        other => html.push(other),
     }
-}
-
-/// Returns the character that an element shows.
-fn replaced_character(c: char) -> char
-    ensures { result ≡ replaced_character c }
-{
-    if is_forbidden_control(c) || is_noncharacter(c) {
-        char::REPLACEMENT_CHARACTER
-    } else {
-        c
-    }
-}
-
-/// Returns whether a character is a control character other than a tab, a newline and a form feed,
-/// which HTML text can hold.
-fn is_forbidden_control(c: char) -> bool
-    ensures { result ≡ is_forbidden_control c }
-{
-    matches!(c, '\0'..='\x08' | '\x0b' | '\r'..='\x1f' | '\x7f'..='\u{9f}')
-}
-
-/// Returns whether a character is a noncharacter: U+FDD0 to U+FDEF, and the last two of each plane.
-fn is_noncharacter(c: char) -> bool
-    ensures { result ≡ is_noncharacter c }
-{
-    matches!(c, '\u{fdd0}'..='\u{fdef}') || c as u32 % 0x1_0000 >= 0xfffe
 }
 
 /// Returns the class of a style; plain text has none.

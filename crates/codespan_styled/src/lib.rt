@@ -9,6 +9,7 @@ mod cells;
 pub mod html;
 mod recorder;
 pub mod render;
+mod safe;
 pub mod style_sheet;
 pub mod svg;
 pub mod terminal;

@@ -32,13 +32,18 @@ const CLASSED_STYLES: [StyleMark; 15] = [
     StyleMark::NoteBullet,
 ];
 
-/// The rules of the boxes of wide characters: as wide as the cells that the characters occupy.
-const BOX_RULES: &str = ".diagnostic .wide { display: inline-block; width: 2ch; }\n\
+/// The rule of the element, whose characters are from left to right in the order of its text, and
+/// those of the boxes of wide characters, as wide as the cells that the characters occupy.
+const LAYOUT_RULES: &str = ".diagnostic { direction: ltr; unicode-bidi: isolate-override; }\n\
+    .diagnostic .wide { display: inline-block; width: 2ch; }\n\
     .diagnostic .wide-3 { display: inline-block; width: 3ch; }\n";
 
 /// Returns a style sheet for the elements of [`to_html`](crate::to_html): a rule for the class of
-/// each style, with the colors and the weight that `styles` has for it, and one for each class of
-/// wide characters, with the width of their cells.
+/// each style, with the colors and the weight that `styles` has for it, one for the
+/// element, and one for each class of wide characters, with the width of their cells.
+///
+/// By the rule of the element a browser shows the characters of a row from left to right, in the
+/// order of the text, those of right-to-left scripts too: so each caret is under its character.
 ///
 /// The colors are those that xterm shows by default, bright where a style is `intense`. Where a
 /// style has no `bg`, the background is the page's: `Styles::default` is meant for a dark page.
@@ -58,7 +63,7 @@ pub fn html_styles(alloc: Global, styles: &Styles) -> Result<String, Error>
 {
     let mut css = String::new(alloc);
     push_rules(&mut css, styles, &CLASSED_STYLES)?;
-    css.push_str(BOX_RULES)?;
+    css.push_str(LAYOUT_RULES)?;
     Ok(css)
 }
 

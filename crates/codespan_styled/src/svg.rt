@@ -45,21 +45,22 @@ const FONT_AND_BACKGROUND: &str =
 /// Returns an SVG document of styled text: an element `text` for characters of a row that follow
 /// one another in one ink without a space between them, on a dark background.
 ///
-/// A space is a position: it is between the elements, where it is not shown, and in none of them.
-/// So the document looks the same however a renderer collapses white space.
+/// A space is a position, and so is a tab, which leads to the next column that is a multiple of
+/// eight: both are between the elements, where they are not shown, and in none of them. So the
+/// document looks the same however a renderer collapses white space.
 ///
 /// The ink of a run is the color of its style in `styles`, on the dark background, and whether it
 /// is bold; `bg` and `intense` have no effect. A cell is nine pixels wide and a row eighteen high,
 /// and each `text` is at the cell where it begins and as long as its cells, so that carets are
-/// under their characters in any monospaced font, except in a row with a control character, which
-/// takes no cell. A character that takes two cells or more is a `text` alone.
+/// under their characters in any monospaced font. A character that takes two cells or more is a
+/// `text` alone.
 ///
 /// The text should end with a newline, as each output does: a last row without one would be below
 /// the bottom of the document.
 ///
 /// A text can neither start nor end a tag or an entity: each of the characters `&`, `<` and `>`
-/// becomes an entity. The escape character, U+0000, the carriage return and the tab are shown as
-/// `\e`, `\0`, `\r` and `\t`, and any other character that XML cannot hold as U+FFFD.
+/// becomes an entity. The document shows the same characters as a terminal does: those that are not
+/// safe are left out, or replaced (see [`is_safe`](crate::terminal::is_safe)).
 ///
 /// # Errors
 ///
@@ -243,11 +244,6 @@ fn push_character(document: &mut String, character: char) -> Result<(), AllocErr
         '&' => document.push_str("&amp;"),
         '<' => document.push_str("&lt;"),
         '>' => document.push_str("&gt;"),
-        '\x1b' => document.push_str("\\e"),
-        '\0' => document.push_str("\\0"),
-        '\r' => document.push_str("\\r"),
-        '\t' => document.push_str("\\t"),
-        '\0'..' ' | '\u{fffe}' | '\u{ffff}' => document.push('\u{fffd}'),
         other => document.push(other),
     }
 }

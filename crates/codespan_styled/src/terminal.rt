@@ -3,11 +3,12 @@
 ghost use Rattle.std.specs.Prelude.{◌≡◌, ◌++◌, IfOk, OnOk, map, string_bytes};
 ghost use Rattle.codespan_styled.specs.Runs.{run_view, styled_runs};
 ghost use Rattle.codespan_base.specs.StyleSpellings.{ansi_spelling};
-ghost use Rattle.codespan_styled.specs.Terminal.{ShowsSafe, is_directional_control, is_safe};
-ghost use Rattle.codespan_styled.specs.Terminal.{runs_bytes, safe_text, terminal_text};
+ghost use Rattle.codespan_styled.specs.Terminal.{ShowsSafe, runs_bytes, terminal_text};
 
 pub mod laws;
 
+use crate::safe::push_safe;
+pub use crate::safe::{is_safe, safe_text};
 use crate::text::{Run, StyledText};
 use codespan_base::term::config::put_style::PutStyle;
 use codespan_base::term::config::style_mark::StyleMark;
@@ -17,10 +18,10 @@ use std::alloc::{AllocError, Global};
 /// Returns a styled text as text for a terminal: each run after the escape sequences of its style.
 ///
 /// The sequences are those that `Ansi` writes for these styles, and the reset for plain text; a
-/// plain first run has none. Characters that are not safe to print are left out of the texts: see
-/// [`is_safe`]. So no source text, name or message can start an escape sequence, lead back over
-/// text, or change its direction by a directional control; right-to-left letters stay. The
-/// characters left out take no cells, so each caret stays in its column.
+/// plain first run has none. Characters that are not safe to print are left out of the texts, or
+/// replaced: see [`is_safe`]. So no source text, name or message can start an escape sequence, lead
+/// back over text, or change its direction by a directional control; right-to-left letters stay.
+/// The characters left out take no cell, and those replaced one, so each caret stays in its column.
 ///
 /// # Errors
 ///
@@ -41,47 +42,6 @@ pub fn to_terminal(alloc: Global, text: &StyledText, styles: &Styles) -> Result<
     let mut terminal = String::new(alloc);
     push_text(alloc, &mut terminal, styles, text.runs.as_slice())?;
     Ok(terminal)
-}
-
-/// Returns a text without the characters that are not safe to print: see [`is_safe`].
-///
-/// # Errors
-///
-/// [`AllocError`]: an allocation fails.
-pub fn safe_text(alloc: Global, text: &str) -> Result<String, AllocError>
-    ensures { IfOk result (λ safe. string_bytes safe ≡ safe_text text.now) }
-{
-    let mut safe = String::new(alloc);
-    push_safe(&mut safe, text)?;
-    Ok(safe)
-}
-
-/// Returns whether a character is safe to print on a terminal.
-///
-/// All characters are but control characters (C0, U+007F and C1) other than tab and newline, and
-/// directional controls: those of Unicode's property `Bidi_Control`, which are U+061C, U+200E to
-/// U+200F, U+202A to U+202E and U+2066 to U+2069.
-///
-/// # Example
-///
-/// ```rust
-/// assert!(rt; is_safe('é') && is_safe('\t'));
-/// assert!(rt; !is_safe('\x1b') && !is_safe('\u{202e}'));
-/// ```
-pub fn is_safe(c: char) -> bool
-    ensures { result ≡ is_safe c }
-{
-    c == '\t' || c == '\n' || !(c.is_control() || is_directional_control(c))
-}
-
-/// Returns whether a character is a directional control, one of Unicode's property `Bidi_Control`.
-fn is_directional_control(c: char) -> bool
-    ensures { result ≡ is_directional_control c }
-{
-    matches!(
-        c,
-        '\u{61c}' | '\u{200e}'..='\u{200f}' | '\u{202a}'..='\u{202e}' | '\u{2066}'..='\u{2069}'
-    )
 }
 
 /// Appends the text for a terminal that shows runs.
@@ -117,19 +77,6 @@ fn push_runs(
     for run in runs {
         push_sequences(alloc, terminal, styles, run.style)?;
         push_safe(terminal, run.text.as_str())?;
-    }
-    Ok(())
-}
-
-/// Appends the characters of a text that are safe to print.
-fn push_safe(terminal: &mut String, text: &str) -> Result<(), AllocError>
-    ensures { OnOk result (string_bytes terminal.new
-        ≡ string_bytes terminal.old ++ safe_text text.now) }
-{
-    for c in text.chars() {
-        if is_safe(c) {
-            terminal.push(c)?;
-        }
     }
     Ok(())
 }

@@ -1,5 +1,6 @@
 //! Tests of styled text and of the documents made of it.
 
+mod hostile;
 mod html;
 mod style_sheet;
 mod svg;

@@ -1,8 +1,9 @@
 //! `command_line [--short] NAME` reports the first tab of the source on standard input, whose file
 //! has this name.
 //!
-//! The error is in color where standard output is a terminal and the environment variable
-//! `NO_COLOR` is not set, or empty. It is safe to print, whatever the source and the name hold.
+//! The error is in color where standard output is a terminal, unless the environment variable
+//! `NO_COLOR` is set or `TERM` is `dumb`, and where `CLICOLOR_FORCE` is set, but not to `0`. It is
+//! safe to print, whatever the source and the name hold.
 //!
 //! | status | standard output | standard error |
 //! |---|---|---|
@@ -17,7 +18,10 @@ ghost use Rattle.command_line.specs.Tabs.{HasTab, IsTab};
 ghost use Rattle.codespan_reporting.specs.Output.{IsRendered};
 ghost use Rattle.codespan_styled.specs.Outputs.{AreRuns};
 ghost use Rattle.codespan_styled.specs.Runs.{RunView};
-ghost use Rattle.codespan_styled.specs.Terminal.{ShowsSafe, safe_text};
+ghost use Rattle.codespan_styled.specs.SafeText.{safe_text};
+ghost use Rattle.codespan_styled.specs.Terminal.{ShowsSafe};
+
+mod colors;
 
 use codespan_reporting::diagnostic::{Diagnostic, Label};
 use codespan_reporting::files::{Error, Files, SimpleFile};
@@ -25,14 +29,13 @@ use codespan_reporting::term::{Config, DisplayStyle, Styles, emit_into_string};
 use codespan_styled::terminal::safe_text;
 use codespan_styled::{styled_text, to_terminal};
 use std::alloc::Global;
-use std::env::VarError;
-use std::io::{IsTerminal, Write};
+use std::io::Write;
 use std::ops::Range;
 use std::process::ExitCode;
 use std::{env, io};
 
 fn main(rt: HostRuntime) -> ExitCode {
-    let color = rt.stdout().is_terminal() && !is_no_color_set(&rt);
+    let color = colors::are_wanted(&rt);
     let status = match run(&rt, color) {
         Ok(status) => status,
         Err(error) => {
@@ -41,15 +44,6 @@ fn main(rt: HostRuntime) -> ExitCode {
         }
     };
     ExitCode::from(status)
-}
-
-/// Returns whether the environment variable `NO_COLOR` is set to anything but an empty text.
-fn is_no_color_set(rt: &HostRuntime) -> bool {
-    match env::var(rt, "NO_COLOR") {
-        Ok(value) => !value.is_empty(),
-        Err(VarError::NotPresent) => false,
-        Err(_) => true,
-    }
 }
 
 /// Checks the source on standard input, prints what is to be printed of it, and returns the status.

@@ -13,7 +13,7 @@ use Rattle.codespan_base.specs.SimpleModel.{missing_file, simple_file, database_
 use Rattle.codespan_output.specs.OutputStreams.{labels_of}
 use Rattle.codespan_output.specs.Snippets.{LabelInFile}
 use Rattle.codespan_output.specs.StatedNames.{NamesAreStated}
-use Rattle.codespan_output.proofs.StatedNames.{output_stated}
+use Rattle.codespan_output.proofs.Outputs.StatedNames.{output_stated}
 use Rattle.codespan_styled.specs.Outputs.{AreRuns}
 use Rattle.codespan_styled.specs.Runs.{RunView, runs_of}
 use Rattle.gallery_cases.specs.Documents.{AreRunsOver}

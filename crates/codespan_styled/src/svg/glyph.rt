@@ -3,10 +3,13 @@
 ghost use Rattle.std.specs.Prelude.{◌≡◌, ◌≤◌, IfOk, length, map};
 ghost use Rattle.codespan_styled.specs.Glyphs.{cells_of, follows, glyphs_of, glyphs_of_run};
 ghost use Rattle.codespan_styled.specs.Glyphs.{joins_next, is_narrow, is_newline_glyph};
-ghost use Rattle.codespan_styled.specs.Glyphs.{is_white_space, joined_cells, joins};
+ghost use Rattle.codespan_styled.specs.Glyphs.{is_white_space, joined_cells, joins, keeps_order};
+ghost use Rattle.codespan_styled.specs.Glyphs.{runs_left};
+ghost use Rattle.codespan_styled.specs.Inks.{same_ink};
 ghost use Rattle.codespan_styled.specs.Runs.{run_view};
 
 use crate::cells::cells;
+use crate::safe::shown_character;
 use crate::style_sheet::color_spec_of_style;
 use crate::svg::ink::Ink;
 use crate::text::Run;
@@ -39,11 +42,11 @@ impl Glyph {
         self.character == '\n'
     }
 
-    /// Returns whether it is white space, a space or a newline: no `text` element has it.
+    /// Returns whether it is white space, a newline, a space or a tab: no `text` element has it.
     pub fn is_white_space(self) -> bool
         ensures { result ≡ is_white_space self }
     {
-        self.is_newline() || self.character == ' '
+        matches!(self.character, '\n' | ' ' | '\t')
     }
 
     /// Returns whether it occupies at most one cell and is no white space.
@@ -54,11 +57,40 @@ impl Glyph {
     }
 
     /// Returns whether the next glyph belongs to the same `text` element: both are narrow, in one
-    /// ink.
+    /// ink, and the order of the two is kept.
     fn joins(self, next: Glyph) -> bool
         ensures { result ≡ joins self next }
     {
-        self.is_narrow() && next.is_narrow() && self.ink == next.ink
+        self.is_narrow() && next.is_narrow() && self.has_ink_of(next) && self.keeps_order(next)
+    }
+
+    /// Returns whether the next glyph is in the same ink.
+    fn has_ink_of(self, next: Glyph) -> bool
+        ensures { result ≡ same_ink self.ink next.ink }
+    {
+        self.ink == next.ink
+    }
+
+    /// Returns whether no renderer shows the next glyph before this one: neither is of
+    /// a right-to-left script, or the next one is a mark of one, which occupies no cell.
+    fn keeps_order(self, next: Glyph) -> bool
+        ensures { result ≡ keeps_order self next }
+    {
+        !(self.runs_left() || next.runs_left()) || (next.runs_left() && next.cells() == 0)
+    }
+
+    /// Returns whether its character is in a block that Unicode has for right-to-left scripts.
+    fn runs_left(self) -> bool
+        ensures { result ≡ runs_left self }
+    {
+        matches!(
+            self.character,
+            '\u{590}'..='\u{8ff}'
+                | '\u{fb1d}'..='\u{fdff}'
+                | '\u{fe70}'..='\u{feff}'
+                | '\u{10800}'..='\u{10fff}'
+                | '\u{1e800}'..='\u{1efff}'
+        )
     }
 }
 
@@ -99,7 +131,7 @@ pub(super) fn joined_cells(before: Glyph, others: &[Glyph]) -> u128
     cells
 }
 
-/// Returns the characters of runs, each in the ink of its run's style.
+/// Returns what is shown for the characters of runs, each in the ink of its run's style.
 ///
 /// # Errors
 ///
@@ -115,7 +147,7 @@ pub(super) fn glyphs(alloc: Global, styles: &Styles, runs: &[Run]) -> Result<Vec
     Ok(glyphs)
 }
 
-/// Returns the characters of a run.
+/// Returns what is shown for the characters of a run.
 fn glyphs_in(alloc: Global, styles: &Styles, run: &Run) -> Result<Vec<Glyph>, AllocError>
     ensures { IfOk result (λ glyphs. glyphs.items ≡ glyphs_of_run styles.now (run_view run.now)) }
 {
@@ -123,6 +155,7 @@ fn glyphs_in(alloc: Global, styles: &Styles, run: &Run) -> Result<Vec<Glyph>, Al
     run.text
         .as_str()
         .chars()
+        .filter_map(shown_character)
         .map(|character| Glyph { character, ink })
         .collect(alloc)
 }

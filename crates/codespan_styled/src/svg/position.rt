@@ -1,9 +1,13 @@
 //! Positions of rendered characters.
 
 ghost use Rattle.std.specs.Prelude.{◌≡◌, ◌+◌, ◌≤◌, ◌^◌, max};
-ghost use Rattle.codespan_styled.specs.Glyphs.{after_glyph, extent_from, start};
+ghost use Rattle.codespan_output.specs.CharMetrics.{width_at};
+ghost use Rattle.codespan_styled.specs.Glyphs.{after_glyph, extent_from, start, tab_width};
 
 use crate::svg::glyph::Glyph;
+
+/// The number of cells from one tab stop to the next, as in HTML and on terminals.
+const TAB_WIDTH: u128 = 8;
 
 /// A position in rendered text: a row, from 0, and a column in it, in cells.
 #[derive(Clone, Copy, Debug, PartialEq, Eq)]
@@ -22,7 +26,7 @@ impl CellPosition {
         CellPosition { row: 0, column: 0 }
     }
 
-    /// Returns the position after a character.
+    /// Returns the position after a character: after a tab it is at the next tab stop.
     ///
     /// # Requires
     ///
@@ -32,7 +36,7 @@ impl CellPosition {
         requires column { self.column ≤ 2 ^ 66 }
         ensures position { result ≡ after_glyph self glyph }
         ensures row { result.row ≤ self.row + 1 }
-        ensures column { result.column ≤ self.column + 3 }
+        ensures column { result.column ≤ self.column + 8 }
     {
         if glyph.is_newline() {
             CellPosition {
@@ -42,8 +46,20 @@ impl CellPosition {
         } else {
             CellPosition {
                 row: self.row,
-                column: self.column + glyph.cells() as u128,
+                column: self.column + self.width(glyph),
             }
+        }
+    }
+
+    /// Returns the number of cells of a character at this position.
+    fn width(self, glyph: Glyph) -> u128
+        ensures value { result ≡ width_at tab_width self.column glyph.character }
+        ensures bound { result ≤ 8 }
+    {
+        if glyph.character == '\t' {
+            TAB_WIDTH - self.column % TAB_WIDTH
+        } else {
+            glyph.cells() as u128
         }
     }
 }

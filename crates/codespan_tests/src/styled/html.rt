@@ -13,7 +13,7 @@ use std::panic::Expect;
 use std::process::Abort;
 
 /// The runs of texts, by what is tested, and the document.
-static DOCUMENTS: [(&str, &[(StyleMark, &str)], &str); 4] = [
+static DOCUMENTS: [(&str, &[(StyleMark, &str)], &str); 5] = [
     (
         "entities",
         &[(
@@ -32,8 +32,18 @@ static DOCUMENTS: [(&str, &[(StyleMark, &str)], &str); 4] = [
             "\0\x1b[31m\r\x7f\u{9b}\u{fdd0}\u{fffe}\u{10ffff}\t\x0c\u{a0}\u{fdcf}\u{10fffd}",
         )],
         "<pre class=\"diagnostic\">\n\
-        \u{fffd}\u{fffd}[31m\u{fffd}\u{fffd}\u{fffd}\u{fffd}\u{fffd}\u{fffd}\
-        \t\x0c\u{a0}\u{fdcf}\u{10fffd}</pre>",
+        [31m\u{fffd}\u{fffd}\u{fffd}\t\u{a0}\u{fdcf}\u{10fffd}</pre>",
+    ),
+    (
+        "characters_that_are_not_safe",
+        &[(
+            LABEL,
+            "\u{202e}<\u{2066}👩\u{200d}🚀\u{ad}\u{feff}\u{2028}\u{fff9}",
+        )],
+        "<pre class=\"diagnostic\">\n\
+        <span class=\"primary-label-warning\">&lt;\
+        <span class=\"wide\">👩</span><span class=\"wide\">🚀</span>\u{fffd}\u{fffd}\
+        </span></pre>",
     ),
     (
         "wide_characters_of_a_label",

@@ -1,6 +1,7 @@
 //! Style sheets against the colors of xterm, as its manual and `rgb.txt` have them: `red3` for red,
-//! `red` for bright red, and the like; `blue2` for blue and `rgb:5c/5c/ff` for bright blue. Boxes
-//! of wide characters have the width of their cells, whatever the colors.
+//! `red` for bright red, and the like; `blue2` for blue and `rgb:5c/5c/ff` for bright blue.
+//! Whatever the colors, the characters of a row are from left to right, and boxes of wide
+//! characters have the width of their cells.
 
 use crate::asserts::assert_text;
 use codespan_base::term::{Color, ColorSpec, Styles};
@@ -26,6 +27,7 @@ fn default_styles(rt: HostRuntime) {
                 .diagnostic .line-number { color: #00cdcd; }\n\
                 .diagnostic .source-border { color: #00cdcd; }\n\
                 .diagnostic .note-bullet { color: #00cdcd; }\n\
+                .diagnostic { direction: ltr; unicode-bidi: isolate-override; }\n\
                 .diagnostic .wide { display: inline-block; width: 2ch; }\n\
                 .diagnostic .wide-3 { display: inline-block; width: 3ch; }\n";
     let css = html_styles(rt.alloc(), &Styles::default()).expect(&rt, "the style sheet");
@@ -70,6 +72,7 @@ fn assert_colors(rt: &impl Abort, alloc: Global, color: Color, normal: &str, bri
          .diagnostic .line-number {{ }}\n\
          .diagnostic .source-border {{ }}\n\
          .diagnostic .note-bullet {{ color: {bright}; font-weight: bold; }}\n\
+         .diagnostic {{ direction: ltr; unicode-bidi: isolate-override; }}\n\
          .diagnostic .wide {{ display: inline-block; width: 2ch; }}\n\
          .diagnostic .wide-3 {{ display: inline-block; width: 3ch; }}\n"
     )

@@ -1,4 +1,4 @@
-//! What is left out of hostile texts, and which sequences a terminal receives.
+//! What is shown for hostile texts, and which sequences a terminal receives.
 
 use crate::asserts::{assert_bytes, assert_row};
 use crate::outputs::rendering::render_styled;
@@ -18,13 +18,17 @@ use std::process::Abort;
 type Text<'text> = (&'text str, &'text str);
 
 /// Texts of which all is safe.
-const HARMLESS: [Text<'static>; 7] = [
+const HARMLESS: [Text<'static>; 8] = [
     ("", ""),
     ("fn main() {}\n", "fn main() {}\n"),
     ("a\tb\n", "a\tb\n"),
     ("┌─ straße.rs:1:1\n", "┌─ straße.rs:1:1\n"),
     ("世界 🦀 e\u{301}\n", "世界 🦀 e\u{301}\n"),
-    ("👩\u{200d}🚀 \u{feff}\u{ad}", "👩\u{200d}🚀 \u{feff}\u{ad}"),
+    (
+        "👍🏽 🇩🇪 1\u{fe0f}\u{20e3} ❤\u{fe0f}",
+        "👍🏽 🇩🇪 1\u{fe0f}\u{20e3} ❤\u{fe0f}",
+    ),
+    ("می\u{200c}خواهم", "می\u{200c}خواهم"),
     ("שלום", "שלום"),
 ];
 
@@ -66,11 +70,36 @@ const CONTROLS: [Text<'static>; 8] = [
     ("a\x00b\x0bc\x0cd\x0ee\x0ff\x7fg\u{85}h\n", "abcdefgh\n"),
 ];
 
+/// Texts with characters that rows count as no cell, and what is left of them.
+const INVISIBLE: [Text<'static>; 5] = [
+    ("👩\u{200d}🚀", "👩🚀"),
+    ("👨\u{200d}👩\u{200d}👧", "👨👩👧"),
+    ("co\u{ad}operate", "cooperate"),
+    ("\u{feff}fn main() {}", "fn main() {}"),
+    ("let \u{3164}, \u{ffa0} = 1;", "let ,  = 1;"),
+];
+
+/// Texts with characters that rows count as one cell and that are not shown, and what is shown for
+/// them.
+const REPLACED: [Text<'static>; 3] = [
+    ("a\u{2028}b\u{2029}c", "a\u{fffd}b\u{fffd}c"),
+    (
+        "\u{fff9}base\u{fffa}note\u{fffb}",
+        "\u{fffd}base\u{fffd}note\u{fffd}",
+    ),
+    (
+        "\u{fdd0}\u{fdef}\u{fffe}\u{ffff}\u{1fffe}\u{10ffff}",
+        "\u{fffd}\u{fffd}\u{fffd}\u{fffd}\u{fffd}\u{fffd}",
+    ),
+];
+
 /// The texts, by what is tested.
-static TEXTS: [(&str, &[Text<'static>]); 3] = [
+static TEXTS: [(&str, &[Text<'static>]); 5] = [
     ("harmless_text_is_unchanged", &HARMLESS),
     ("reordered_source_is_in_order", &REORDERED),
     ("controls_are_left_out", &CONTROLS),
+    ("invisible_characters_are_left_out", &INVISIBLE),
+    ("characters_of_one_cell_are_replaced", &REPLACED),
 ];
 
 /// Asserts what is left of these texts.
@@ -88,28 +117,71 @@ fn safe_texts(rt: HostRuntime) {
     }
 }
 
-/// The first and the last of each range of characters that are left out.
-static UNSAFE: [char; 14] = [
-    '\0', '\x08', '\x0b', '\x1f', '\x7f', '\u{80}', '\u{9f}', '\u{61c}', '\u{200e}', '\u{200f}',
-    '\u{202a}', '\u{202e}', '\u{2066}', '\u{2069}',
+/// The first and the last of each range of characters that are not shown as themselves.
+static UNSAFE: [char; 30] = [
+    '\0',
+    '\x08',
+    '\x0b',
+    '\x1f',
+    '\x7f',
+    '\u{80}',
+    '\u{9f}',
+    '\u{ad}',
+    '\u{61c}',
+    '\u{200d}',
+    '\u{200e}',
+    '\u{200f}',
+    '\u{2028}',
+    '\u{2029}',
+    '\u{202a}',
+    '\u{202e}',
+    '\u{2066}',
+    '\u{2069}',
+    '\u{3164}',
+    '\u{fdd0}',
+    '\u{fdef}',
+    '\u{feff}',
+    '\u{ffa0}',
+    '\u{fff9}',
+    '\u{fffb}',
+    '\u{fffe}',
+    '\u{ffff}',
+    '\u{1fffe}',
+    '\u{10fffe}',
+    '\u{10ffff}',
 ];
 
 /// The characters beside them.
-static SAFE: [char; 14] = [
+static SAFE: [char; 29] = [
     '\t',
     '\n',
     ' ',
     '~',
     '\u{a0}',
+    '\u{ac}',
+    '\u{ae}',
     '\u{61b}',
     '\u{61d}',
-    '\u{200d}',
+    '\u{200c}',
     '\u{2010}',
-    '\u{2029}',
+    '\u{2027}',
     '\u{202f}',
     '\u{2065}',
     '\u{206a}',
-    '\u{10ffff}',
+    '\u{3163}',
+    '\u{3165}',
+    '\u{fdcf}',
+    '\u{fdf0}',
+    '\u{fefe}',
+    '\u{ff00}',
+    '\u{ff9f}',
+    '\u{ffa1}',
+    '\u{fff8}',
+    '\u{fffc}',
+    '\u{fffd}',
+    '\u{1fffd}',
+    '\u{20000}',
+    '\u{10fffd}',
 ];
 
 #[test]

@@ -1,7 +1,7 @@
-use Rattle.std.proofs.Common.{◌≡◌, sym, ap, ◌∙◌, arith}
+use Rattle.std.proofs.Common.{◌≡◌, sym, ap, arith}
 use Rattle.std.specs.Char.{encode_utf8}
 use Rattle.std.proofs.lemmas.Bool.Decides.{nat_tests}
-use Rattle.codespan_styled.specs.Html.{html_character, replaced_character}
+use Rattle.codespan_styled.specs.Html.{html_character}
 use Rattle.codespan_styled.proofs.Appending.{pushed}
 use Rattle.codespan_styled.proofs.html.push_character.Goals as goal
 
@@ -19,7 +19,5 @@ returns-in-34 c =
 -- any other character is shown
 pub returns-in_default : goal.returns-in_default
 returns-in_default c =
-    let other : encode_utf8 (replaced_character c.args.c) ≡ html_character c.args.c =
-    grind (arith, nat_tests) in
-    pushed c.push.result _ _ _ (html_character c.args.c) c.push.ensures.bytes
-    (ap encode_utf8 c.replaced_character.ensures ∙ other)
+    let other : encode_utf8 c.args.c ≡ html_character c.args.c = grind (arith, nat_tests) in
+    pushed c.push.result _ _ _ (html_character c.args.c) c.push.ensures.bytes other

@@ -2,7 +2,7 @@ use Rattle.std.proofs.Common.{map, ap, ◌∙◌}
 use Rattle.codespan_styled.specs.HtmlReading.{open_after, read_tokens, text_of_html}
 use Rattle.codespan_styled.specs.Runs.{run_view}
 use Rattle.codespan_styled.proofs.HtmlBalance.{element-balanced}
-use Rattle.codespan_styled.proofs.HtmlReading.{element-read, element-text}
+use Rattle.codespan_styled.proofs.HtmlReading.{element-columns, element-read, element-text}
 use Rattle.codespan_styled.proofs.HtmlWriting.{element-written}
 use Rattle.codespan_styled.proofs.html.to_html.Goals as goal
 
@@ -26,3 +26,7 @@ returns-clause-text c =
     (element-written runs _ _ _ _ _ c.new-html.ensures.bytes c.in_ok-push_str.ensures.bytes
     c.as_slice.ensures.value c.in_ok-push_runs.ensures c.in_ok-push_str-2.ensures.bytes)
     ∙ element-text runs
+
+pub returns-clause-columns : goal.returns-clause-columns
+returns-clause-columns c =
+    element-columns c.args.text.now.runs.items _ (returns-clause-text c)

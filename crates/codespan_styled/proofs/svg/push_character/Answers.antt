@@ -8,9 +8,3 @@ pub returns-in-60 : goal.returns-in-60
 returns-in-60 c =
     pushed c.push_str-in-60.result _ _ _ _ c.push_str-in-60.ensures.bytes
     (ap xml_character (sym c.in-60.is))
-
--- a carriage return is shown by a backslash
-pub returns-in-13 : goal.returns-in-13
-returns-in-13 c =
-    pushed c.push_str-in-13.result _ _ _ _ c.push_str-in-13.ensures.bytes
-    (ap xml_character (sym c.in-13.is))

@@ -22,4 +22,4 @@ returns-clause-tokens c =
 pub returns-clause-text : goal.returns-clause-text
 returns-clause-text c =
     ap (λ bytes. text_of_tokens (read_tokens bytes)) (returns-clause-document c)
-    ∙ shown-svg-text c.args.styles.now (styled_runs c.args.text.now)
+    ∙ shown-svg-text c.args.styles.now c.args.text.now.runs.items

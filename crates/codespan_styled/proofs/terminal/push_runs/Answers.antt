@@ -1,6 +1,7 @@
 use Rattle.std.proofs.Common.{ℕ, List, ◌++◌, ap, ◌∙◌, append_assoc, string_bytes}
 use Rattle.codespan_base.specs.StyleSpellings.{ansi_spelling}
-use Rattle.codespan_styled.specs.Terminal.{run_bytes, safe_text}
+use Rattle.codespan_styled.specs.Terminal.{run_bytes}
+use Rattle.codespan_styled.specs.SafeText.{safe_text}
 use Rattle.codespan_styled.proofs.Appending.{run-more, run-end}
 use Rattle.codespan_styled.proofs.terminal.push_runs.Goals as goal
 

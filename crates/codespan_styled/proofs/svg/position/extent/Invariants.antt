@@ -6,7 +6,7 @@ abbrev pub invariant-loop-glyph : goal.invariant-loop-glyph
 invariant-loop-glyph l = record {
   rows : l.position.row ≤ l.glyph-index;
   reached : l.position.column ≤ l.columns;
-  columns : l.columns ≤ 3 * l.glyph-index;
+  columns : l.columns ≤ 8 * l.glyph-index;
   last_row : (extent_from l.position (drop l.glyph-index l.glyphs)).row
       ≡ (extent_from start l.glyphs).row;
   widest : max l.columns

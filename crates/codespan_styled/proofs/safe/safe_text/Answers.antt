@@ -1,6 +1,6 @@
 use Rattle.std.proofs.Common.{ℕ, List, ◌++◌, ap, ◌∙◌}
-use Rattle.codespan_styled.specs.Terminal.{safe_text}
-use Rattle.codespan_styled.proofs.terminal.safe_text.Goals as goal
+use Rattle.codespan_styled.specs.SafeText.{safe_text}
+use Rattle.codespan_styled.proofs.safe.safe_text.Goals as goal
 
 -- the safe characters of the text are appended to nothing
 pub returns : goal.returns
