@@ -1,5 +1,6 @@
 pub mod OrderLemmas
 pub mod PlaceLemmas
+pub mod OrderedEdits
 pub mod FaultLemmas
 pub mod PartLemmas
 pub mod FitLemmas
@@ -16,3 +17,5 @@ pub mod CutLemmas
 pub mod DiffBlocks
 pub mod KeptLines
 pub mod NumberLemmas
+pub mod HunkLemmas
+pub mod HunkPatches

@@ -6,7 +6,7 @@ use Rattle.codespan_core.proofs.Std.{◌∙◌, arith}
 use Rattle.std.proofs.lemmas.List.{take_more_set, drop-set-lt}
 use Rattle.codespan_edits.specs.Numbers.{is_old, is_new, number_of, next_number, NumberedRow}
 use Rattle.codespan_edits.specs.Numbers.{numbered_from}
-use Rattle.codespan_edits.specs.Private.Differs.{row_view, numbered_row}
+use Rattle.codespan_edits.specs.RowViews.{row_view, numbered_row}
 use Rattle.codespan_edits.specs.declared.rows.DiffRow.{DiffRow}
 
 -- one more row gets its numbers, in the place of x

@@ -58,6 +58,13 @@ abbrev pub in_order : List ListedEdit → List ListedEdit
 in_order [] = []
 in_order (x ∷ xs) = insert_in_order x (in_order xs)
 
+-- the edits of a list in their order, and their indices in the list
+abbrev pub ordered : List TextEdit → List TextEdit
+ordered edits = map (λ (x : ListedEdit). x.edit) (in_order (listed edits))
+
+abbrev pub order_of : List TextEdit → List ℕ
+order_of edits = map (λ (x : ListedEdit). x.index) (in_order (listed edits))
+
 -- the text from a byte on, with the replacements of edits that are in order, start at the byte or
 -- later, and do not overlap
 abbrev pub edited_from : List ℕ → ℕ → List ListedEdit → List ℕ

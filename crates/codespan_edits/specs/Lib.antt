@@ -6,9 +6,12 @@ pub mod ErrorText
 -- the diff
 pub mod Diffs
 pub mod Numbers
+pub mod DrawnRows
+pub mod RowViews
 -- laws of edits
 pub mod EditLaws
 pub mod DiffLaws
 pub mod Patches
--- of this crate alone: places
+pub mod HunkLaws
+-- of this crate alone
 pub mod Private

@@ -1,3 +1,4 @@
 -- definitions that only contracts of this crate cite
 pub mod Places
 pub mod Differs
+pub mod Hunks

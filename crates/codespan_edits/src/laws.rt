@@ -5,6 +5,7 @@ ghost use Rattle.codespan_edits.specs.EditLaws.{OrderMattersToInsertions};
 ghost use Rattle.codespan_edits.specs.DiffLaws.{DiffHasAllLines, BlocksAreTrimmed};
 ghost use Rattle.codespan_edits.specs.DiffLaws.{UnchangedTextIsKept, SameEditsHaveSameDiff};
 ghost use Rattle.codespan_edits.specs.Patches.{ShownRowsArePatch};
+ghost use Rattle.codespan_edits.specs.HunkLaws.{ChangedRowsAreDrawn, HunksArePatch};
 
 /// States that edits without a fault make the text that they make one after another, each in the
 /// text that the later ones have made, from the last one in order to the first.
@@ -53,4 +54,15 @@ pub fn same_edits_have_same_diff()
 /// left out, the others make the lines of the text after the edits of those of the source.
 pub fn shown_rows_are_patch()
     ensures { ShownRowsArePatch }
+{}
+
+/// States that each removed and each added row of a diff is drawn, whatever the context.
+pub fn changed_rows_are_drawn()
+    ensures { ChangedRowsAreDrawn }
+{}
+
+/// States that the rows of the hunks of a diff are a patch, whatever the context: they make the
+/// lines of the text after the edits of those of the source.
+pub fn hunks_are_patch()
+    ensures { HunksArePatch }
 {}

@@ -8,6 +8,7 @@
 mod apply;
 mod edit;
 mod error;
+mod hunks;
 pub mod laws;
 mod lines;
 mod numbers;
@@ -17,4 +18,6 @@ mod rows;
 pub use apply::apply_edits;
 pub use edit::Edit;
 pub use error::EditError;
+pub use hunks::{DiffContext, Hunk, diff_hunks};
+pub use order::order_of_edits;
 pub use rows::{DiffRow, RowSign, diff};

@@ -2,7 +2,7 @@
 
 ghost use Rattle.std.specs.Prelude.{◌≡◌, ◌+◌, ◌<◌, ◌^◌};
 ghost use Rattle.codespan_edits.specs.Numbers.{number_of, next_number, numbered};
-ghost use Rattle.codespan_edits.specs.Private.Differs.{rows_view, numbered_view};
+ghost use Rattle.codespan_edits.specs.RowViews.{rows_view, numbered_view};
 
 use crate::rows::DiffRow;
 

@@ -3,6 +3,7 @@
 ghost use Rattle.std.specs.Prelude.{◌≡◌, IfOk, OnErr, IsErrOf, List};
 ghost use Rattle.std.specs.Result.{result_err};
 ghost use Rattle.codespan_edits.specs.Edits.{TextEdit, text_edit, text_edits, listed, in_order};
+ghost use Rattle.codespan_edits.specs.Edits.{order_of};
 ghost use Rattle.codespan_edits.specs.Faults.{own_fault, first_own_fault, neighbor_fault, fault};
 ghost use Rattle.codespan_edits.specs.Faults.{FailsBy};
 ghost use Rattle.codespan_edits.specs.Private.Places.{edits_at};
@@ -106,4 +107,33 @@ pub(crate) fn places_in_order<FileId>(
     let places = sorted_places(alloc, edits)?;
     check_neighbors(&places)?;
     Ok(places)
+}
+
+/// Returns the indices of the edits in their order: that of the starts of their ranges, then of the
+/// ends, then of the list.
+///
+/// # Errors
+///
+/// Those of [`apply_edits`](crate::apply_edits).
+///
+/// # Examples
+///
+/// ```rust
+/// let edits = [Edit::new(alloc, (), 4..5, "&y")?, Edit::new(alloc, (), 0..0, "let x = ")?];
+/// assert_eq!(rt; order_of_edits(alloc, "foo(y)", &edits)?.as_slice(), [1, 0].as_slice());
+/// ```
+pub fn order_of_edits<FileId>(
+    alloc: Global,
+    source: &str,
+    edits: &[Edit<FileId>],
+) -> Result<Vec<usize>, EditError>
+    ensures order { IfOk result (λ order. order.items ≡ order_of (text_edits edits.now)) }
+    ensures failed { FailsBy (fault source.now (text_edits edits.now)) result }
+{
+    let places = places_in_order(alloc, source, edits)?;
+    let mut order = Vec::with_capacity(alloc, places.len())?;
+    for place in &places {
+        order.push(place.index)?;
+    }
+    Ok(order)
 }

@@ -1,17 +1,18 @@
 //! The diff that edits make.
 
 ghost use Rattle.std.specs.Prelude.{All, ◌<◌, ◌≡◌, ◌≤◌, ◌++◌, ◌∷◌, []};
-ghost use Rattle.std.specs.Prelude.{List, IfOk, OnErr};
-ghost use Rattle.std.specs.Prelude.{IsErrOf, length, map};
+ghost use Rattle.std.specs.Prelude.{List, IfOk, OnErr, IsErrOf, length, map};
 ghost use Rattle.std.specs.List.{flat_map};
 ghost use Rattle.codespan_edits.specs.Edits.{text_edits};
 ghost use Rattle.codespan_edits.specs.Faults.{fault, FailsBy};
 ghost use Rattle.codespan_edits.specs.Diffs.{Change, lines, diff_rows, rows_with, block_rows};
-ghost use Rattle.codespan_edits.specs.Diffs.{common_start, common_end, kept};
-ghost use Rattle.codespan_edits.specs.Diffs.{blocks_from, no_change, pieces_from};
+ghost use Rattle.codespan_edits.specs.Diffs.{common_start, common_end, kept, blocks_from};
+ghost use Rattle.codespan_edits.specs.Diffs.{no_change, pieces_from};
 ghost use Rattle.codespan_edits.specs.Private.Places.{edits_at, FitFrom};
+ghost use Rattle.codespan_edits.specs.DiffLaws.{is_changed};
 ghost use Rattle.codespan_edits.specs.Numbers.{is_old, is_new, numbered};
-ghost use Rattle.codespan_edits.specs.Private.Differs.{rows_view, numbered_view, all_rows};
+ghost use Rattle.codespan_edits.specs.Private.Differs.{all_rows};
+ghost use Rattle.codespan_edits.specs.RowViews.{rows_view, numbered_view};
 
 use crate::edit::Edit;
 use crate::error::EditError;
@@ -51,6 +52,16 @@ impl RowSign {
             RowSign::Removed => false,
         }
     }
+
+    /// Returns whether the line is in one of the two texts alone.
+    pub fn is_changed(self) -> bool
+        ensures { result ≡ is_changed self }
+    {
+        match self {
+            RowSign::Kept => false,
+            RowSign::Removed | RowSign::Added => true,
+        }
+    }
 }
 
 /// A row of a diff.
@@ -79,9 +90,7 @@ pub struct DiffRow {
 /// ```rust
 /// let edits = [Edit::new(alloc, (), 7..7, "use b;\n")?];
 /// let rows = diff(alloc, "use a;\nfn f() {}\n", &edits)?;
-/// assert_eq!(rt; rows[1].sign, RowSign::Added);
-/// assert_eq!(rt; rows[1].line.as_str(), "use b;\n");
-/// assert_eq!(rt; rows[1].new_number, Some(2));
+/// assert_eq!(rt; (rows[1].sign, rows[1].line.as_str()), (RowSign::Added, "use b;\n"));
 /// assert_eq!(rt; (rows[2].old_number, rows[2].new_number), (Some(2), Some(3)));
 /// ```
 pub fn diff<FileId>(

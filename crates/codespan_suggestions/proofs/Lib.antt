@@ -3,3 +3,17 @@ pub mod TextLemmas
 pub mod SameEdits
 pub mod FilesOnce
 pub mod NamedEdits
+pub mod LineStarts
+pub mod FixItLines
+pub mod NextEdits
+pub mod FaultLoops
+pub mod NamedParts
+pub mod HunkNumbers
+pub mod MadeLists
+pub mod RowLoops
+pub mod LocationLemmas
+pub mod DrawnLemmas
+pub mod EmitLemmas
+pub mod ShownRows
+pub mod StatedNames
+pub mod ReadBack

@@ -1,17 +1,13 @@
--- The texts of the files that a suggestion edits, one after another, for the clauses `texts` and
--- `failed` of `apply_suggestion`.
+-- The texts of the files that a suggestion edits, one after another, for the clause `texts` of
+-- `apply_suggestion`.
 use Rattle.codespan_core.proofs.Std.{◌≡◌, ◌++◌, ◌+◌, ◌<◌, ℕ, List, []}
 use Rattle.codespan_core.proofs.Std.{◌∷◌, map, drop, length, get_or, sym, ◌∙◌, ap}
-use Rattle.codespan_core.proofs.Std.{arith, common_steps, drop_more, Option, Some, None}
-use Rattle.codespan_core.proofs.Std.{string_bytes}
+use Rattle.codespan_core.proofs.Std.{arith, common_steps, drop_more, string_bytes}
 use Rattle.std.specs.Prelude.{String, Vec}
 use Rattle.std.specs.Global.{Global}
-use Rattle.std.specs.Option.{option_or}
 use Rattle.codespan_core.specs.FileModel.{FileDatabase}
 use Rattle.codespan_edits.specs.declared.edit.Edit.{Edit}
 use Rattle.codespan_suggestions.specs.EditedFiles.{edited_text, texts_view}
-use Rattle.codespan_suggestions.specs.Faults.{file_fault, first_fault}
-use Rattle.codespan_suggestions.specs.declared.error.SuggestionError.{SuggestionError}
 
 module _ {Id : Type 0} (database : FileDatabase Id) (edits : List (Edit Id)) (items : List Id)
     (i : ℕ) (x : Id) (inside : i < length items) (is : x ≡ get_or items i x) where
@@ -31,22 +27,3 @@ module _ {Id : Type 0} (database : FileDatabase Id) (edits : List (Edit Id)) (it
   texts-more texts new text all added made was =
       let then = next in
       grind (arith, common_steps, then, added, made, was)
-
-  -- nothing is wrong with it
-  pub fault-more : (o : Option SuggestionError)
-      → o ≡ first_fault (map (file_fault database edits) (drop i items))
-      → file_fault database edits x ≡ None
-      → o ≡ first_fault (map (file_fault database edits) (drop (i + 1) items))
-  fault-more o was none =
-      was ∙ (ap (λ (ids : List Id). first_fault (map (file_fault database edits) ids)) next
-      ∙ ap (λ (a : Option SuggestionError).
-      option_or a (first_fault (map (file_fault database edits) (drop (i + 1) items)))) none)
-
-  -- or this is
-  pub fault-here : (o : Option SuggestionError) (e : SuggestionError)
-      → o ≡ first_fault (map (file_fault database edits) (drop i items))
-      → file_fault database edits x ≡ Some e → o ≡ Some e
-  fault-here o e was here =
-      was ∙ (ap (λ (ids : List Id). first_fault (map (file_fault database edits) ids)) next
-      ∙ ap (λ (a : Option SuggestionError).
-      option_or a (first_fault (map (file_fault database edits) (drop (i + 1) items)))) here)

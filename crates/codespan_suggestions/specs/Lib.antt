@@ -4,5 +4,21 @@ pub mod Errors
 -- what a suggestion makes, and what is wrong with it
 pub mod EditedFiles
 pub mod Faults
+-- names of files, and what is written of edits
+pub mod NamedFiles
+pub mod Escapes
+pub mod LineColumns
+pub mod FixIts
+pub mod UnifiedDiffs
+pub mod CodeActions
+-- the output
+pub mod DrawnText
+pub mod DrawnFiles
+pub mod SuggestionRows
+pub mod SuggestionOutput
 -- laws
 pub mod SuggestionLaws
+pub mod RenderingLaws
+pub mod WrittenLaws
+-- of this crate alone
+pub mod Private

@@ -77,7 +77,7 @@ fn edited_text<'files, F: Files<'files>>(
 }
 
 /// Returns an error of a list of edits, of which each is named by another index.
-fn by_indices(indices: &[usize], error: EditError) -> EditError
+pub(crate) fn by_indices(indices: &[usize], error: EditError) -> EditError
     requires { NamesEdits (length indices.now) error }
     ensures { result ≡ by_indices indices.now error }
 {

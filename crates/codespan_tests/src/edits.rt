@@ -1,6 +1,7 @@
 //! Edits of worked texts.
 
 mod diffs;
+mod hunks;
 
 use codespan_base::diagnostic::text::display_text;
 use codespan_edits::{Edit, EditError, apply_edits};
@@ -9,7 +10,7 @@ use std::panic::Expect;
 use std::process::Abort;
 
 /// An edit: its start, its end and its replacement.
-type EditRow = (usize, usize, &'static str);
+pub(crate) type EditRow = (usize, usize, &'static str);
 
 /// A worked row: its name, a source, edits, and the text that they make or the text of their error.
 type WorkedRow = (&'static str, &'static str, &'static [EditRow], &'static str);
@@ -215,7 +216,7 @@ static WORKED_ROWS: [WorkedRow; 37] = [
 ];
 
 /// Returns edits from their rows.
-fn edits_of(rt: &impl Abort, alloc: Global, rows: &[EditRow]) -> Vec<Edit<()>> {
+pub(crate) fn edits_of(rt: &impl Abort, alloc: Global, rows: &[EditRow]) -> Vec<Edit<()>> {
     let mut edits = Vec::new(alloc);
     for (start, end, replacement) in rows {
         let edit = Edit::new(alloc, (), *start..*end, *replacement).expect(rt, "an edit");

@@ -1,5 +1,10 @@
 //! Worked suggestions over several files.
 
+mod code_actions;
+mod fix_its;
+mod rendered;
+mod unified_diffs;
+
 use codespan_base::diagnostic::text::display_text;
 use codespan_base::files::SimpleFiles;
 use codespan_edits::Edit;
@@ -9,13 +14,12 @@ use std::panic::Expect;
 use std::process::Abort;
 
 /// A file: its name and its text.
-type FileRow = (&'static str, &'static str);
+pub(crate) type FileRow = (&'static str, &'static str);
 
 /// An edit: its file, its start, its end and its replacement.
-type EditRow = (usize, usize, usize, &'static str);
+pub(crate) type EditRow = (usize, usize, usize, &'static str);
 
-/// A worked row: its name, files, edits, and the texts that they make, each with `=` after the name
-/// of its file, or the text of their error.
+/// A worked row: its name, files, edits, and what a call makes of them, or the text of their error.
 type WorkedRow = (
     &'static str,
     &'static [FileRow],
@@ -23,6 +27,7 @@ type WorkedRow = (
     &'static str,
 );
 
+/// The texts that edits make, each after the name of its file and `=`.
 static WORKED_ROWS: [WorkedRow; 12] = [
     (
         "replacement",
@@ -108,7 +113,7 @@ static WORKED_ROWS: [WorkedRow; 12] = [
 ];
 
 /// Returns files from their rows.
-fn files_of(
+pub(crate) fn files_of(
     rt: &impl Abort,
     alloc: Global,
     rows: &[FileRow],
@@ -121,7 +126,7 @@ fn files_of(
 }
 
 /// Returns a suggestion with edits from their rows.
-fn suggestion_of(rt: &impl Abort, alloc: Global, rows: &[EditRow]) -> Suggestion<usize> {
+pub(crate) fn suggestion_of(rt: &impl Abort, alloc: Global, rows: &[EditRow]) -> Suggestion<usize> {
     let mut suggestion = Suggestion::new(alloc);
     for (file, start, end, replacement) in rows {
         let edit = Edit::new(alloc, *file, *start..*end, *replacement).expect(rt, "an edit");
@@ -154,6 +159,14 @@ fn outcome_of(
         }
     }
     outcome
+}
+
+/// Returns a text, or that of an error after `error: `.
+fn text_of(rt: &impl Abort, alloc: Global, made: Result<String, SuggestionError>) -> String {
+    match made {
+        Ok(text) => text,
+        Err(error) => format!(in alloc; "error: {error}").expect(rt, "memory"),
+    }
 }
 
 #[test]

@@ -109,7 +109,7 @@ fn push_row(rt: &impl Abort, text: &mut String, row: &DiffRow) {
 }
 
 /// Returns the text of a diff: each line after its sign.
-fn diff_text(rt: &impl Abort, alloc: Global, rows: &[DiffRow]) -> String {
+pub(crate) fn diff_text(rt: &impl Abort, alloc: Global, rows: &[DiffRow]) -> String {
     let mut text = String::new(alloc);
     for row in rows {
         push_row(rt, &mut text, row);

@@ -58,8 +58,7 @@ fn assert_in_file(
 static PROTOCOL_EXAMPLE: [Counterpart; 4] = [(0, 0, 0), (1, 0, 1), (5, 0, 3), (6, 0, 4)];
 
 /// The protocol's own example: of `a𐐀b` the character of `a` is 0, that of `𐐀` is 1, and that
-/// of
-/// `b` is 3.
+/// of `b` is 3.
 #[test]
 fn protocol_example(rt: HostRuntime) {
     let file = simple_file(&rt, rt.alloc(), "a𐐀b");
@@ -67,8 +66,7 @@ fn protocol_example(rt: HostRuntime) {
 }
 
 /// Asserts that the byte of `é∈🗻x` at which a character starts has this position by an
-/// encoding,
-/// and the position this byte.
+/// encoding, and the position this byte.
 fn assert_encoded(
     rt: &impl Abort,
     file: &SimpleFile<&str, &str>,

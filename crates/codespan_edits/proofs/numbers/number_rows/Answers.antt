@@ -1,6 +1,6 @@
 use Rattle.codespan_core.proofs.Std.{◌+◌, arith, ◌∙◌, refl}
 use Rattle.std.proofs.Math.Seq.{map-set_same}
-use Rattle.codespan_edits.specs.Private.Differs.{row_view}
+use Rattle.codespan_edits.specs.RowViews.{row_view}
 use Rattle.codespan_edits.proofs.NumberLemmas.{numbers-more, count-le}
 use Rattle.codespan_edits.proofs.numbers.number_rows.Goals as goal
 

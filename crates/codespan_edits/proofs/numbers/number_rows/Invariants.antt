@@ -1,6 +1,6 @@
 use Rattle.codespan_core.proofs.Std.{◌≡◌, ◌++◌, ◌+◌, ◌≤◌, take, drop, map}
 use Rattle.codespan_edits.specs.Numbers.{numbered, numbered_from}
-use Rattle.codespan_edits.specs.Private.Differs.{row_view, numbered_row}
+use Rattle.codespan_edits.specs.RowViews.{row_view, numbered_row}
 use Rattle.codespan_edits.proofs.numbers.number_rows.Given as goal
 
 -- the rows so far have their numbers, and with those left they are the rows

@@ -3,7 +3,8 @@ use Rattle.codespan_core.proofs.Std.{◌∷◌, length, drop, get_or, map, sym, 
 use Rattle.codespan_core.proofs.Std.{slice_range, flat_map, drop_all, length-map, IfOk-weaker}
 use Rattle.codespan_edits.specs.Edits.{text_edits}
 use Rattle.codespan_edits.specs.Private.Places.{edits_at, replacement_at}
-use Rattle.codespan_edits.specs.Private.Differs.{all_rows, rows_view}
+use Rattle.codespan_edits.specs.Private.Differs.{all_rows}
+use Rattle.codespan_edits.specs.RowViews.{rows_view}
 use Rattle.codespan_edits.specs.Diffs.{Change, kept, lines, pieces_from, block_rows, blocks_from}
 use Rattle.codespan_edits.specs.Diffs.{no_change}
 use Rattle.codespan_edits.specs.declared.order.Place.{Place}

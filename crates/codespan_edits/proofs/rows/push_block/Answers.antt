@@ -1,5 +1,5 @@
 use Rattle.codespan_core.proofs.Std.{◌-◌, length, take, drop, take_rest}
-use Rattle.codespan_edits.specs.Private.Differs.{rows_view}
+use Rattle.codespan_edits.specs.RowViews.{rows_view}
 use Rattle.codespan_edits.proofs.DiffBlocks.{block-shown, rest-slice}
 use Rattle.codespan_edits.proofs.rows.push_block.Goals as goal
 

@@ -1,6 +1,6 @@
 use Rattle.codespan_core.proofs.Std.{◌≡◌, ◌++◌, drop, map}
 use Rattle.codespan_edits.specs.Diffs.{rows_with}
-use Rattle.codespan_edits.specs.Private.Differs.{rows_view}
+use Rattle.codespan_edits.specs.RowViews.{rows_view}
 use Rattle.codespan_edits.proofs.rows.push_rows.Given as goal
 
 -- the rows so far, and those of the lines left, are all

@@ -2,7 +2,8 @@ use Rattle.codespan_core.proofs.Std.{Err, ap, ◌∙◌, ◌≡◌, err_from_is_
 use Rattle.codespan_core.proofs.Std.{string_bytes, None, Some}
 use Rattle.codespan_suggestions.specs.EditedFiles.{edited_text}
 use Rattle.codespan_suggestions.specs.Faults.{file_fault}
-use Rattle.codespan_suggestions.proofs.TextLemmas.{texts-more, fault-more, fault-here}
+use Rattle.codespan_suggestions.proofs.FaultLoops.{fault-more, fault-here}
+use Rattle.codespan_suggestions.proofs.TextLemmas.{texts-more}
 use Rattle.codespan_suggestions.proofs.apply.apply_suggestion.Goals as goal
 
 -- the text of one more file is made
@@ -23,7 +24,7 @@ loop-id-preserved g c =
           c.loop-id-test.true c.id-item.is c.loop-id.texts c.push.new.self c.in_ok-text.text _
           c.in_ok-push.ensures.items made c.loop-id.invariant.texts;
       fault =
-          fault-more database edits c.deref-id-items.result.now c.loop-id.id-index x
+          fault-more (file_fault database edits) c.deref-id-items.result.now c.loop-id.id-index x
           c.loop-id-test.true c.id-item.is _ c.loop-id.invariant.fault fine;
     }
 
@@ -36,7 +37,7 @@ returns-in_err-text-clause-failed g c =
     let edits = c.args.suggestion.now.edits.items in
     let x = c.id-item.result in
     rw (p.1 ∙ ap Err p.2) (λ known.
-    fault-here database edits c.deref-id-items.result.now c.loop-id.id-index x
-    c.loop-id-test.true c.id-item.is _ c.in_err-text.field-0.0 c.loop-id.invariant.fault
+    fault-here (file_fault database edits) c.deref-id-items.result.now c.loop-id.id-index x
+    c.loop-id-test.true c.id-item.is _ c.loop-id.invariant.fault c.in_err-text.field-0.0
     (subst (λ es. file_fault database es x ≡ Some c.in_err-text.field-0.0)
     c.deref-in-loop-id.ensures.value (c.in_err-text.ensures.failed known)))

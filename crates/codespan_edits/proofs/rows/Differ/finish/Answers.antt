@@ -1,5 +1,5 @@
 use Rattle.codespan_core.proofs.Std.{string_bytes}
-use Rattle.codespan_edits.specs.Private.Differs.{rows_view}
+use Rattle.codespan_edits.specs.RowViews.{rows_view}
 use Rattle.codespan_edits.proofs.DiffBlocks.{finished}
 use Rattle.codespan_edits.proofs.rows.Differ.finish.Goals as goal
 

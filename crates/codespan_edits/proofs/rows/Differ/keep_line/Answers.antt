@@ -1,7 +1,8 @@
 use Rattle.codespan_core.proofs.Std.{◌≡◌, ◌++◌, ◌∷◌, [], List, string_bytes}
 use Rattle.codespan_core.proofs.Std.{IfOk-weaker, sym, ◌∙◌}
 use Rattle.codespan_edits.specs.Diffs.{Change, kept}
-use Rattle.codespan_edits.specs.Private.Differs.{rows_view, all_rows}
+use Rattle.codespan_edits.specs.Private.Differs.{all_rows}
+use Rattle.codespan_edits.specs.RowViews.{rows_view}
 use Rattle.codespan_edits.specs.declared.rows.RowSign.TheVariants.{Kept}
 use Rattle.codespan_edits.proofs.KeptLines.{kept-line, no-bytes}
 use Rattle.codespan_edits.proofs.rows.Differ.keep_line.Goals as goal

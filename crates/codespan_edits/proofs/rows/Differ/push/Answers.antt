@@ -1,5 +1,5 @@
 use Rattle.codespan_core.proofs.Std.{string_bytes}
-use Rattle.codespan_edits.specs.Private.Differs.{rows_view}
+use Rattle.codespan_edits.specs.RowViews.{rows_view}
 use Rattle.codespan_edits.proofs.DiffBlocks.{pushed-block, held-first, held-second}
 use Rattle.codespan_edits.proofs.rows.Differ.push.Goals.{else-is_whole_text-via-then-is_whole_text+else-is_whole_text-2}
 use Rattle.codespan_edits.proofs.rows.Differ.push.Goals.{else-is_whole_text-via-else-is_whole_text}
