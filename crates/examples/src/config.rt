@@ -1,6 +1,6 @@
 //! Prints every error in a text of settings, by the front end of a small language of settings.
 
-mod front_end;
+pub mod front_end;
 
 use codespan_reporting::files::{Error, SimpleFile};
 use codespan_reporting::term::{Config, emit_to_io_write};

@@ -1,14 +1,15 @@
-//! `examples` runs five examples of how the libraries are used, one after another, each under a
+//! `examples` runs six examples of how the libraries are used, one after another, each under a
 //! line with its name.
 //!
 //! Each module is one example, which starts in its `run`: [`preview`] has styles and colors,
 //! [`errors`] a custom error type, [`several`] a list of diagnostics, [`files`] a custom file
-//! database, and [`config`] the front end of a language of settings.
+//! database, [`config`] the front end of a language of settings, and [`linter`] edits of a text.
 #![tactic(auto)]
 
 mod config;
 mod errors;
 mod files;
+mod linter;
 mod preview;
 mod several;
 
@@ -24,5 +25,7 @@ fn main(rt: HostRuntime) -> Result<(), Error> {
     println!(rt; "# files")?;
     files::run(&rt)?;
     println!(rt; "# config")?;
-    config::run(&rt)
+    config::run(&rt)?;
+    println!(rt; "# linter")?;
+    linter::run(&rt)
 }

@@ -6,3 +6,5 @@ pub mod RunErrors
 pub mod Fields
 -- the names of display styles and severities
 pub mod Names
+-- texts with escapes
+pub mod Escapes

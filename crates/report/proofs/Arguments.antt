@@ -1,11 +1,13 @@
--- For the clauses of `LabelRequest::from_arguments` and `Request::from_arguments`: what the
--- arguments request, one by one.
+-- For the clauses of `LabelRequest::from_arguments`, `Request::from_arguments` and
+-- `is_version_requested`: what the arguments request, one by one.
 use Rattle.codespan_core.proofs.Std.{◌≡◌, ℕ, ◌<◌, ◌≤◌, ◌⊎◌, inl, inr, List}
 use Rattle.codespan_core.proofs.Std.{[], ◌∷◌, length, get_or, map, Option, None, refl, ap}
-use Rattle.codespan_core.proofs.Std.{sym, ◌∙◌, arith, option_map}
+use Rattle.codespan_core.proofs.Std.{sym, ◌∙◌, arith, option_map, bytes_eq, codes, false}
 use Rattle.codespan_output.specs.Types.{DisplayStyle}
 use Rattle.program_io.specs.Names.{display_style_named}
+use Rattle.report.specs.declared.request.ScriptOutput.{ScriptOutput}
 use Rattle.report.specs.Requests.{request_of, number_of, label_request_of, label_request_with}
+use Rattle.report.specs.Requests.{requests_version, script_output_named}
 use Rattle.report.specs.Requests.RequestView.{OneLabel, OfScript}
 
 -- five elements by their indices
@@ -65,16 +67,17 @@ two_elements (v ∷ w ∷ []) a b least most p q = cc
 two_elements (v ∷ w ∷ x ∷ more) a b least most p q = absurd (omega arith)
 
 -- the request of two arguments
-pub two_arguments : {A : Type 0} (text : A → List ℕ) (xs : List A) (style name : A)
+pub two_arguments : {A : Type 0} (text : A → List ℕ) (xs : List A) (output name : A)
     → 2 ≤ length xs
     → length xs < 3
-    → style ≡ get_or xs 0 style → name ≡ get_or xs 1 name → (named : Option DisplayStyle)
-    → named ≡ display_style_named (text style)
-    → option_map (λ s. OfScript s (text name)) named ≡ request_of (map text xs)
+    → output ≡ get_or xs 0 output → name ≡ get_or xs 1 name
+    → (named : Option ScriptOutput)
+    → named ≡ script_output_named (text output)
+    → option_map (λ o. OfScript o (text name)) named ≡ request_of (map text xs)
 unfolding request_of
-two_arguments text xs style name least most p q named x =
-    ap (option_map (λ s. OfScript s (text name))) x
-    ∙ ap (λ l. request_of (map text l)) (sym (two_elements xs style name least most p q))
+two_arguments text xs output name least most p q named x =
+    ap (option_map (λ o. OfScript o (text name))) x
+    ∙ ap (λ l. request_of (map text l)) (sym (two_elements xs output name least most p q))
 
 -- what another number of arguments requests
 pub other_arguments : {A : Type 0} (text : A → List ℕ) (xs : List A)
@@ -86,3 +89,23 @@ other_arguments text (v ∷ []) others = refl
 other_arguments text (v ∷ w ∷ []) others =
     absurd (elim others [ inl few ↦ omega arith | inr many ↦ omega arith ])
 other_arguments text (v ∷ w ∷ x ∷ more) others = refl
+
+-- whether one argument requests the version
+pub one_argument : {A : Type 0} (text : A → List ℕ) (xs : List A) (word : A)
+    → 1 ≤ length xs → length xs < 2 → word ≡ get_or xs 0 word
+    → bytes_eq (text word) (codes "--version") ≡ requests_version (map text xs)
+unfolding requests_version
+one_argument text [] word least most p = absurd (omega arith)
+one_argument text (v ∷ []) word least most p =
+    ap (λ it. bytes_eq (text it) (codes "--version")) p
+one_argument text (v ∷ w ∷ more) word least most p = absurd (omega arith)
+
+-- any other number of arguments does not
+pub not_one_argument : {A : Type 0} (text : A → List ℕ) (xs : List A)
+    → (length xs < 1) ⊎ (2 ≤ length xs)
+    → false ≡ requests_version (map text xs)
+unfolding requests_version
+not_one_argument text [] others = refl
+not_one_argument text (v ∷ []) others =
+    absurd (elim others [ inl few ↦ omega arith | inr many ↦ omega arith ])
+not_one_argument text (v ∷ w ∷ more) others = refl

@@ -13,11 +13,12 @@ use Rattle.program_io.specs.Fields.{field_of, is_space, past_space}
 use Rattle.program_io.specs.Names.{severity_named}
 use Rattle.report.specs.Requests.{number_of}
 use Rattle.report.specs.Statements.{IsStatable, Statement, code_stated, joined_fields, label_fields}
-use Rattle.codespan_core.specs.Diagnostics.{severity_name}
 use Rattle.report.specs.Statements.{label_stated, message_stated, note_stated, severity_stated}
 use Rattle.report.specs.Statements.{statement_line}
+use Rattle.codespan_core.specs.Diagnostics.{severity_name}
 use Rattle.report.specs.Statements.Statement.{SeverityLine, CodeLine, MessageLine, LabelLine}
-use Rattle.report.specs.Statements.Statement.{NoteLine, CommentLine, EmptyLine}
+use Rattle.report.specs.Statements.Statement.{NoteLine, CommentLine, EmptyLine, SuggestionLine}
+use Rattle.report.specs.Statements.Statement.{EditLine}
 use Rattle.report.specs.ScriptLines.{ScriptLineView, rest_of, word_of}
 use Rattle.report.specs.ScriptWords.{script_word_named}
 use Rattle.report.specs.Scripts.{label_by_word, label_with_ends, parsed_label, label_of_rest}
@@ -29,7 +30,7 @@ use Rattle.report.proofs.WrittenScripts.{line_at, statement_lines}
 -- ---- what is read of each line
 
 -- the word of a comment begins with `#`
-comment_word : (text : List ℕ) → field_of (35 ∷ text) ≡ 35 ∷ field_of text
+pub comment_word : (text : List ℕ) → field_of (35 ∷ text) ≡ 35 ∷ field_of text
 comment_word text = ap (λ n. take n (35 ∷ text)) (one-add (position_or_len is_space text))
 
 -- the rest of a line that begins with the word
@@ -46,6 +47,8 @@ severity_read start (MessageLine text) can = refl
 severity_read start (LabelLine Primary range message) can = refl
 severity_read start (LabelLine Secondary range message) can = refl
 severity_read start (NoteLine text) can = refl
+severity_read start (SuggestionLine text) can = refl
+severity_read start (EditLine range replacement) can = refl
 severity_read start (CommentLine text) can =
     ap (λ word. if bytes_eq word (codes "severity") then Some (past_space (35 ∷ text)) else None)
     (comment_word text)
@@ -59,6 +62,8 @@ code_read start (MessageLine text) can = refl
 code_read start (LabelLine Primary range message) can = refl
 code_read start (LabelLine Secondary range message) can = refl
 code_read start (NoteLine text) can = refl
+code_read start (SuggestionLine text) can = refl
+code_read start (EditLine range replacement) can = refl
 code_read start (CommentLine text) can =
     ap (λ word. if bytes_eq word (codes "code") then Some (past_space (35 ∷ text)) else None)
     (comment_word text)
@@ -72,6 +77,8 @@ message_read start (MessageLine text) can = refl
 message_read start (LabelLine Primary range message) can = refl
 message_read start (LabelLine Secondary range message) can = refl
 message_read start (NoteLine text) can = refl
+message_read start (SuggestionLine text) can = refl
+message_read start (EditLine range replacement) can = refl
 message_read start (CommentLine text) can =
     ap (λ word. if bytes_eq word (codes "message") then Some (past_space (35 ∷ text)) else None)
     (comment_word text)
@@ -85,6 +92,8 @@ note_read start (MessageLine text) can = refl
 note_read start (LabelLine Primary range message) can = refl
 note_read start (LabelLine Secondary range message) can = refl
 note_read start (NoteLine text) can = refl
+note_read start (SuggestionLine text) can = refl
+note_read start (EditLine range replacement) can = refl
 note_read start (CommentLine text) can =
     ap (λ word. if bytes_eq word (codes "note") then Some (past_space (35 ∷ text)) else None)
     (comment_word text)
@@ -169,6 +178,8 @@ label_read start (LabelLine Primary range message) can =
 label_read start (LabelLine Secondary range message) can =
     label_fields_read Secondary range message can.0 can.1
 label_read start (NoteLine text) can = refl
+label_read start (SuggestionLine text) can = refl
+label_read start (EditLine range replacement) can = refl
 label_read start (CommentLine text) can =
     ap (λ word. label_by_word (line_at start (CommentLine text)) (script_word_named word))
     (comment_word text)

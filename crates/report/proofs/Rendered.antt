@@ -11,8 +11,8 @@ use Rattle.codespan_output.specs.Types.{Diagnostic, Error, Config, DisplayStyle}
 use Rattle.codespan_output.specs.Lookups.{Failures}
 use Rattle.codespan_output.specs.ViewPictures.{picture_of_diagnostic_view}
 use Rattle.codespan_views.specs.Output.{IsRendered}
-use Rattle.codespan_output.proofs.StatedNames.{output_stated}
-use Rattle.codespan_output.proofs.ViewPictures.{picture-of_view}
+use Rattle.codespan_output.proofs.Outputs.StatedNames.{output_stated}
+use Rattle.codespan_output.proofs.Outputs.ViewPictures.{picture-of_view}
 use Rattle.report.specs.RenderedTexts.{report_config, only_file, output_text}
 
 -- a configuration equal to the default one, in a style

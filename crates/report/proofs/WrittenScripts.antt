@@ -1,12 +1,13 @@
 -- For the clause of `laws::scripts_read_back`: the lines of a script that is written out from its
 -- statements.
 use Rattle.codespan_core.proofs.Std.{◌≡◌, ◌≢◌, ℕ, suc, zero, ◌+◌, ◌-◌}
-use Rattle.codespan_core.proofs.Std.{◌^◌, ◌<◌, true, false, List, [], ◌∷◌, ◌++◌}
-use Rattle.codespan_core.proofs.Std.{length, get_or, take, drop, Option, Some, None, IfSome, codes}
-use Rattle.codespan_core.proofs.Std.{bytes_eq, ltb, refl, sym, ap, ◌∙◌, arith}
-use Rattle.codespan_core.proofs.Std.{if◌then◌else◌, append_assoc, append-nil, eq-eqb, ne_eqb}
-use Rattle.codespan_core.proofs.Std.{length-append, take_all, All, decimal, AllByRecursion}
-use Rattle.codespan_core.proofs.Std.{position_or_len, slice_split, and_parts, ltb-true, drop_all}
+use Rattle.codespan_core.proofs.Std.{◌^◌, ◌<◌, ◌==◌, Bool, true, false, option_map}
+use Rattle.codespan_core.proofs.Std.{List, [], ◌∷◌, ◌++◌, length, get_or, take, drop}
+use Rattle.codespan_core.proofs.Std.{Option, Some, None, IfSome, codes, bytes_eq, ltb, refl, sym}
+use Rattle.codespan_core.proofs.Std.{ap, ◌∙◌, arith, if◌then◌else◌, append_assoc}
+use Rattle.codespan_core.proofs.Std.{append-nil, eq-eqb, ne_eqb, length-append, take_all, All}
+use Rattle.codespan_core.proofs.Std.{decimal, AllByRecursion, position_or_len, slice_split}
+use Rattle.codespan_core.proofs.Std.{and_parts, ltb-true, drop_all}
 use Rattle.std.proofs.Common.{take_at}
 use Rattle.std.specs.List.{list_all}
 use Rattle.std.specs.Str.Lines.{strip_carriage_return}
@@ -18,10 +19,11 @@ use Rattle.codespan_core.specs.declared.diagnostic.Severity.TheVariants.{Help}
 use Rattle.codespan_output.specs.Types.{Primary, Secondary, Severity}
 use Rattle.program_io.specs.Fields.{field_of, is_space, past_space}
 use Rattle.report.specs.Statements.{IsLineSuffix, IsStatable, Statement, joined_fields}
+use Rattle.report.specs.Statements.{label_fields, statement_line, written_script, escaped}
 use Rattle.codespan_core.specs.Diagnostics.{severity_name}
-use Rattle.report.specs.Statements.{label_fields, statement_line, written_script}
 use Rattle.report.specs.Statements.Statement.{SeverityLine, CodeLine, MessageLine, LabelLine}
-use Rattle.report.specs.Statements.Statement.{NoteLine, CommentLine, EmptyLine}
+use Rattle.report.specs.Statements.Statement.{NoteLine, CommentLine, EmptyLine, SuggestionLine}
+use Rattle.report.specs.Statements.Statement.{EditLine}
 use Rattle.report.specs.ScriptLines.{ScriptLineView, body, is_newline, script_lines_from}
 use Rattle.report.specs.ScriptLines.{script_source}
 use Rattle.report.proofs.Numbers.{digits_of_decimal}
@@ -88,29 +90,61 @@ end_nothing =
       no_carriage_return = λ is. absurd (omega (arith, is));
     }
 
-newline_none : (x : ℕ) (xs : List ℕ) → 13 < x → All (λ b. b ≢ 10) xs
+newline_none : (x : ℕ) (xs : List ℕ) → x ≢ 10 → All (λ b. b ≢ 10) xs
     → All (λ b. b ≢ 10) (x ∷ xs)
-newline_none x xs large none zero d below = λ is. absurd (omega (arith, is))
-newline_none x xs large none (suc k) d below = none k d (omega arith)
+newline_none x xs other none zero d below = λ is. other is
+newline_none x xs other none (suc k) d below = none k d (omega arith)
 
-return_none : (x : ℕ) (xs : List ℕ) → 13 < x → get_or xs (length xs - 1) 0 ≢ 13
+return_none : (x : ℕ) (xs : List ℕ) → x ≢ 13 → get_or xs (length xs - 1) 0 ≢ 13
     → get_or (x ∷ xs) (length (x ∷ xs) - 1) 0 ≢ 13
-return_none x [] large none is = absurd (omega (arith, is))
-return_none x (y ∷ ys) large none is =
+return_none x [] other none is = other is
+return_none x (y ∷ ys) other none is =
     let last : length (x ∷ y ∷ ys) - 1 ≡ suc (length (y ∷ ys) - 1) = omega arith in
     none (sym (ap (λ n. get_or (x ∷ y ∷ ys) n 0) last) ∙ is)
+
+-- a byte that ends no line before a text that can be a suffix of a line
+end_byte : (x : ℕ) (ys : List ℕ) → x ≢ 10 → x ≢ 13 → IsLineSuffix ys
+    → IsLineSuffix (x ∷ ys)
+end_byte x ys newline return end = record {
+  no_newline = newline_none x ys newline end.no_newline;
+  no_carriage_return = return_none x ys return end.no_carriage_return;
+}
 
 -- such bytes before a text that can be a suffix of a line
 end_after : (xs ys : List ℕ) → AreAbove xs → IsLineSuffix ys → IsLineSuffix (xs ++ ys)
 end_after [] ys large end = end
 end_after (x ∷ xs) ys large end =
-    let more = end_after xs ys (λ i below. large (suc i) (omega arith)) end in
-    record {
-      no_newline =
-          newline_none x (xs ++ ys) (large 0 (omega arith)) more.no_newline;
-      no_carriage_return =
-          return_none x (xs ++ ys) (large 0 (omega arith)) more.no_carriage_return;
-    }
+    let first : 13 < x = large 0 (omega arith) in
+    end_byte x (xs ++ ys) (λ is. absurd (omega (arith, first, is)))
+    (λ is. absurd (omega (arith, first, is)))
+    (end_after xs ys (λ i below. large (suc i) (omega arith)) end)
+
+-- numbers that are not found equal are not
+different : (m n : ℕ) → (m == n) ≡ false → m ≢ n
+different m n unequal is = absurd (cc (eq-eqb m n is, unequal))
+
+-- a replacement, as it is written, ends no line
+end_escaped : (text : List ℕ) → IsLineSuffix (escaped text)
+end_escaped [] = end_nothing
+end_escaped (b ∷ bs) =
+    by (b == 10) (b == 13) (b == 92) (different b 10) (different b 13) (end_escaped bs)
+  where
+    by : (x y z : Bool) → (x ≡ false → b ≢ 10) → (y ≡ false → b ≢ 13)
+        → IsLineSuffix (escaped bs)
+        → IsLineSuffix ((if x then codes "\\n" else if y then codes "\\r"
+        else if z then codes "\\\\" else b ∷ []) ++ escaped bs)
+    by true y z newline return more =
+        end_after (codes "\\n") (escaped bs) (above (codes "\\n") refl) more
+    by false true z newline return more =
+        end_after (codes "\\r") (escaped bs) (above (codes "\\r") refl) more
+    by false false true newline return more =
+        end_after (codes "\\\\") (escaped bs) (above (codes "\\\\") refl) more
+    by false false false newline return more =
+        end_byte b (escaped bs) (newline refl) (return refl) more
+
+end_replacement : (text : Option (List ℕ)) → IfSome (option_map escaped text) IsLineSuffix
+end_replacement None = tt
+end_replacement (Some text) = end_escaped text
 
 end_decimal : (n : ℕ) (ys : List ℕ) → n < 2 ^ 64 → IsLineSuffix ys
     → IsLineSuffix (decimal n ++ ys)
@@ -153,6 +187,12 @@ line_ends (LabelLine Secondary range message) can =
     end_after (codes "secondary ") (label_fields range message) (above (codes "secondary ") refl)
     (end_label range message can)
 line_ends (NoteLine text) can = end_after (codes "note ") text (above (codes "note ") refl) can
+line_ends (SuggestionLine text) can =
+    end_after (codes "suggestion ") text (above (codes "suggestion ") refl) can
+line_ends (EditLine range replacement) can =
+    end_after (codes "replace ") (label_fields range (option_map escaped replacement))
+    (above (codes "replace ") refl)
+    (end_label range (option_map escaped replacement) (can.0, can.1, end_replacement replacement))
 line_ends (CommentLine text) can = end_after (35 ∷ []) text (above (35 ∷ []) refl) can
 line_ends EmptyLine can = end_nothing
 
@@ -172,6 +212,8 @@ line_goes_on (MessageLine text) = refl
 line_goes_on (LabelLine Primary range message) = refl
 line_goes_on (LabelLine Secondary range message) = refl
 line_goes_on (NoteLine text) = refl
+line_goes_on (SuggestionLine text) = refl
+line_goes_on (EditLine range replacement) = refl
 line_goes_on (CommentLine text) = refl
 line_goes_on EmptyLine = refl
 

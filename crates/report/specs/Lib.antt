@@ -4,6 +4,7 @@ pub mod Requests
 pub mod ScriptLines
 pub mod ScriptWords
 pub mod ScriptFaults
+pub mod Suggestions
 pub mod Scripts
 -- what scripts are written from, and their laws
 pub mod Statements

@@ -1,5 +1,6 @@
 -- The diagnostics of label requests and of scripts' errors.
-use Rattle.std.specs.Prelude.{ℕ, List, [], ◌∷◌, Option, Some, None, codes}
+use Rattle.std.specs.Prelude.{ℕ, List, [], ◌∷◌, ◌++◌, Option, Some, None, codes}
+use Rattle.std.specs.Fmt.{decimal}
 use Rattle.std.specs.declared.ops.Range.{Range}
 use Rattle.codespan_core.specs.declared.diagnostic.LabelStyle.TheVariants.{Primary, Secondary}
 use Rattle.codespan_core.specs.declared.diagnostic.Severity.TheVariants as severities
@@ -8,7 +9,11 @@ use Rattle.report.specs.declared.script.Fault.{Fault}
 use Rattle.report.specs.declared.script.FaultKind.{FaultKind}
 use Rattle.report.specs.declared.script.FaultKind.TheVariants.{UnknownWord, UnknownSeverity}
 use Rattle.report.specs.declared.script.FaultKind.TheVariants.{BadNumber, RepeatedWord}
-use Rattle.report.specs.declared.script.FaultKind.TheVariants.{MissingEnd}
+use Rattle.report.specs.declared.script.FaultKind.TheVariants.{MissingEnd, NoSuggestion, BadEscape}
+use Rattle.report.specs.declared.script.FaultKind.TheVariants as kinds
+use Rattle.report.specs.declared.script.BadEdit.{BadEdit}
+use Rattle.report.specs.declared.script.BadEdit.TheVariants.{Reversed, PastEnd, NotCharBoundary}
+use Rattle.report.specs.declared.script.BadEdit.TheVariants.{Overlap}
 use Rattle.report.specs.Requests.{LabelRequestView}
 
 -- the diagnostic of a label request: an error with its message, and one primary label with the same
@@ -33,6 +38,9 @@ fault_code UnknownSeverity = codes "S2"
 fault_code BadNumber = codes "S3"
 fault_code RepeatedWord = codes "S4"
 fault_code MissingEnd = codes "S5"
+fault_code NoSuggestion = codes "S6"
+fault_code BadEscape = codes "S7"
+fault_code (kinds.BadEdit reason) = codes "S8"
 
 -- its message
 abbrev pub fault_message : FaultKind → List ℕ
@@ -41,21 +49,41 @@ fault_message UnknownSeverity = codes "unknown severity"
 fault_message BadNumber = codes "bad number"
 fault_message RepeatedWord = codes "repeated word"
 fault_message MissingEnd = codes "missing end of script"
+fault_message NoSuggestion = codes "edit without suggestion"
+fault_message BadEscape = codes "bad escape"
+fault_message (kinds.BadEdit reason) = codes "bad edit"
+
+-- why an edit cannot be made
+abbrev pub bad_edit_message : BadEdit → List ℕ
+bad_edit_message Reversed = codes "ends before it starts"
+bad_edit_message (PastEnd len) = codes "the source ends at byte " ++ decimal len
+bad_edit_message (NotCharBoundary byte) =
+    codes "byte " ++ (decimal byte ++ codes " is not a character boundary")
+bad_edit_message Overlap = codes "overlaps another edit"
 
 -- the message of its primary label
 abbrev pub fault_label_message : FaultKind → List ℕ
 fault_label_message UnknownWord =
-    codes "expected severity, code, message, primary, secondary or note"
+    codes "expected severity, code, message, primary, secondary, note, suggestion or replace"
 fault_label_message UnknownSeverity = codes "expected bug, error, warning, note or help"
 fault_label_message BadNumber = codes "expected a decimal number"
 fault_label_message RepeatedWord = codes "given again"
 fault_label_message MissingEnd = codes "expected ---"
+fault_label_message NoSuggestion = codes "expected a suggestion before it"
+fault_label_message BadEscape = codes "expected \\n, \\r, \\t, \\0, \\\\ or \\u{HEX}"
+fault_label_message (kinds.BadEdit reason) = bad_edit_message reason
 
--- the label over the first occurrence of a repeated word, if there is one
-abbrev pub label_of_first : Option (Range ℕ) → List (LabelView (Unit {0}))
-label_of_first None = []
-label_of_first (Some range) =
-    record { style = Secondary; file_id = tt; range = range; message = codes "first given here" }
+-- the message of the label over what comes first: the first occurrence of a repeated word, or the
+-- edit that is overlapped
+abbrev pub fault_first_message : FaultKind → List ℕ
+fault_first_message (kinds.BadEdit reason) = codes "the other edit"
+fault_first_message _ = codes "first given here"
+
+-- the label over what comes first, if there is anything
+abbrev pub label_of_first : FaultKind → Option (Range ℕ) → List (LabelView (Unit {0}))
+label_of_first kind None = []
+label_of_first kind (Some range) =
+    record { style = Secondary; file_id = tt; range = range; message = fault_first_message kind }
     ∷ []
 
 -- the diagnostic of a script's error: its code, and a primary label over its range
@@ -69,6 +97,6 @@ fault_diagnostic fault = record {
     file_id = tt;
     range = fault.range;
     message = fault_label_message fault.kind;
-  } ∷ label_of_first fault.first;
+  } ∷ label_of_first fault.kind fault.first;
   notes = [];
 }

@@ -6,6 +6,10 @@ use Rattle.std.specs.Option.{option_map}
 use Rattle.std.specs.declared.string.String.{String}
 use Rattle.std.specs.Str.{IsUtf8}
 use Rattle.codespan_core.specs.ErrorText.{error_text}
+use Rattle.codespan_core.specs.declared.files.error.Error.{Error}
+use Rattle.codespan_core.specs.declared.files.error.Error.TheVariants as of_files
+use Rattle.codespan_suggestions.specs.declared.error.SuggestionError.{SuggestionError}
+use Rattle.codespan_suggestions.specs.declared.error.SuggestionError.TheVariants as of_suggestions
 use Rattle.program_io.specs.Output.{AppendsPrefix}
 use Rattle.program_io.specs.RunErrors.{IsStatusOf, failed_output_line}
 use Rattle.program_io.specs.declared.run_error.RunError.{RunError}
@@ -17,6 +21,11 @@ use Rattle.report.specs.declared.report_error.ReportError.{ReportError}
 use Rattle.report.specs.declared.report_error.ReportError.TheVariants.{CannotRender, BadScript}
 use Rattle.report.specs.RenderedTexts.{IsRenderError, rendering_of}
 use Rattle.report.specs.Requests.{RequestView}
+
+-- the error of a suggestion whose edits can be made: that of a lookup, or of memory
+abbrev pub lookup_error : SuggestionError → Error
+lookup_error (of_suggestions.Files error) = error
+lookup_error (of_suggestions.Edit error) = of_files.OutOfMemory
 
 -- the program's status: that of any program, or 3 for a script's error
 abbrev pub IsReportStatusOf : Result (Unit {0}) (RunError ReportError) → ℕ → Type 0

@@ -1,7 +1,7 @@
 -- What the arguments request.
 use Rattle.std.specs.Prelude.{ℕ, ◌^◌, ◌&&◌, nat_lt, List, [], ◌∷◌, Option, Some}
-use Rattle.std.specs.Prelude.{None, IfSome, if◌then◌else◌}
-use Rattle.std.specs.Str.{all_ascii_digits}
+use Rattle.std.specs.Prelude.{None, IfSome, if◌then◌else◌, Bool, false, codes}
+use Rattle.std.specs.Str.{all_ascii_digits, bytes_eq}
 use Rattle.std.specs.Str.Parse.{digits_value}
 use Rattle.codespan_core.specs.declared.term.config.DisplayStyle.{DisplayStyle}
 use Rattle.std.specs.Option.{option_map}
@@ -9,6 +9,8 @@ use Rattle.program_io.specs.Names.{display_style_named}
 use Rattle.report.specs.declared.request.Request.{Request}
 use Rattle.report.specs.declared.request.Request.TheVariants as variants
 use Rattle.report.specs.declared.request.LabelRequest.{LabelRequest}
+use Rattle.report.specs.declared.request.ScriptOutput.{ScriptOutput}
+use Rattle.report.specs.declared.request.ScriptOutput.TheVariants as outputs
 
 -- a label request by its fields, its texts as bytes
 pub record LabelRequestView : Type 0 where
@@ -51,20 +53,33 @@ label_request_of (style ∷ name ∷ start ∷ end ∷ message ∷ []) =
     label_request_with name message (display_style_named style) (number_of start) (number_of end)
 label_request_of _ = None
 
--- what a run renders: an error with one label over the input, or the diagnostic of the script at
--- the start of the input, in a style, over a file with a name
+-- whether the arguments request the version: the one word `--version`
+unfoldable pub requests_version : List (List ℕ) → Bool
+requests_version (word ∷ []) = bytes_eq word (codes "--version")
+requests_version _ = false
+
+-- what is written of a script, by its name: `apply`, `diff`, or that of a display style
+unfoldable pub script_output_named : List ℕ → Option ScriptOutput
+script_output_named text =
+    if bytes_eq text (codes "apply") then Some outputs.Applied
+    else if bytes_eq text (codes "diff") then Some outputs.UnifiedDiff
+    else option_map outputs.Rendered (display_style_named text)
+
+-- what a run writes: an error with one label over the input, or an output of the script at the
+-- start of the input, over a file with a name
 pub data RequestView : Type 0 where
   OneLabel : LabelRequestView → RequestView
-  OfScript : DisplayStyle → List ℕ → RequestView
+  OfScript : ScriptOutput → List ℕ → RequestView
 
 -- a request, its texts as bytes
 abbrev pub request_view : Request → RequestView
 request_view (variants.OneLabel label_request) = OneLabel (label_request_view label_request)
-request_view (variants.OfScript style name) = OfScript style name.now
+request_view (variants.OfScript output name) = OfScript output name.now
 
 -- what the arguments request: with two of them a script, with five an error with one label
 unfoldable pub request_of : List (List ℕ) → Option RequestView
-request_of (style ∷ name ∷ []) = option_map (λ s. OfScript s name) (display_style_named style)
+request_of (output ∷ name ∷ []) = option_map (λ o. OfScript o name)
+    (script_output_named output)
 request_of args = option_map OneLabel (label_request_of args)
 
 -- the fact holds of what the arguments request and of the bytes that the reader has, where both are

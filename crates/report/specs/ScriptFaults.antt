@@ -1,23 +1,27 @@
 -- The first error of a script.
 use Rattle.std.specs.Prelude.{◌≡◌, ℕ, List, [], ◌∷◌, ◌++◌, length, Option, Some}
-use Rattle.std.specs.Prelude.{None, Result, Err, if◌then◌else◌, is_some}
+use Rattle.std.specs.Prelude.{None, Result, Err, codes, if◌then◌else◌, is_some}
 use Rattle.std.specs.Option.{option_map}
+use Rattle.std.specs.Result.{result_err}
 use Rattle.std.specs.Str.{bytes_eq}
 use Rattle.std.specs.declared.ops.Range.{Range}
+use Rattle.program_io.specs.Escapes.{unescaped}
 use Rattle.program_io.specs.Fields.{field_of, past_space}
 use Rattle.program_io.specs.Names.{severity_named}
 use Rattle.report.specs.declared.script.Fault.{Fault}
 use Rattle.report.specs.declared.script.FaultKind.{FaultKind}
 use Rattle.report.specs.declared.script.FaultKind.TheVariants.{UnknownWord, UnknownSeverity}
 use Rattle.report.specs.declared.script.FaultKind.TheVariants.{BadNumber, RepeatedWord, MissingEnd}
+use Rattle.report.specs.declared.script.FaultKind.TheVariants.{NoSuggestion, BadEscape}
 use Rattle.report.specs.declared.script.ScriptError.{ScriptError}
 use Rattle.report.specs.declared.script.ScriptError.TheVariants as errors
 use Rattle.report.specs.declared.script.words.Word.{Word}
 use Rattle.report.specs.declared.script.words.Word.TheVariants.{Severity, Code, Message, Primary}
-use Rattle.report.specs.declared.script.words.Word.TheVariants.{Secondary, Note}
+use Rattle.report.specs.declared.script.words.Word.TheVariants.{Secondary, Note, Suggestion}
+use Rattle.report.specs.declared.script.words.Word.TheVariants.{Replace}
 use Rattle.report.specs.Requests.{number_of}
 use Rattle.report.specs.ScriptLines.{ScriptLineView, is_ignored, word_of, rest_of, range_at}
-use Rattle.report.specs.ScriptLines.{word_range}
+use Rattle.report.specs.ScriptLines.{word_range, replacement_of, byte_before}
 use Rattle.report.specs.ScriptWords.{script_word_named}
 
 -- an error with one range
@@ -65,6 +69,21 @@ number_fault line =
     else Some (fault_at BadNumber (range_at line after (field_of after))))
     else Some (fault_at BadNumber (range_at line rest (field_of rest)))
 
+-- the error of a `replace` line whose text has a backslash that does not begin an escape: it is at
+-- the backslash
+unfoldable pub escape_fault : ScriptLineView → Option Fault
+escape_fault line =
+    option_map (λ after. fault_at BadEscape (byte_before line after))
+    (result_err (unescaped (replacement_of line)))
+
+-- the error of a `replace` line: that no line before it begins with `suggestion`, then that of its
+-- numbers, then that of its text
+unfoldable pub replace_fault : List ScriptLineView → ScriptLineView → Option Fault
+replace_fault before line =
+    if is_some (line_of_word (codes "suggestion") before)
+    then or_fault (number_fault line) (escape_fault line)
+    else Some (fault_at NoSuggestion (word_range line))
+
 -- the error of a line by its word: the word itself, then its repetition, then the fields that it
 -- needs
 abbrev pub word_fault : List ScriptLineView → ScriptLineView → Option Word → Option Fault
@@ -75,6 +94,8 @@ word_fault before line (Some Message) = repetition before line
 word_fault before line (Some Primary) = number_fault line
 word_fault before line (Some Secondary) = number_fault line
 word_fault before line (Some Note) = None
+word_fault before line (Some Suggestion) = None
+word_fault before line (Some Replace) = replace_fault before line
 
 -- the first error of a line, by the lines before it; an ignored line has none
 abbrev pub line_fault : List ScriptLineView → ScriptLineView → Option Fault

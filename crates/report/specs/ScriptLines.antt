@@ -80,3 +80,24 @@ range_at line from field = record {
 -- the range of the word
 abbrev pub word_range : ScriptLineView → Range ℕ
 word_range line = range_at line line.text (word_of line)
+
+-- the escaped text of a `replace` line: what follows the second space of the rest
+abbrev pub replacement_of : ScriptLineView → List ℕ
+replacement_of line = past_space (past_space (rest_of line))
+
+-- the range in the input of the byte before a suffix of the line
+abbrev pub byte_before : ScriptLineView → List ℕ → Range ℕ
+byte_before line after = record {
+  start = line.start + length line.text - length after - 1;
+  end = line.start + length line.text - length after;
+}
+
+-- the range in the input from the start of the rest's first field to the end of its second one
+abbrev pub ends_range : ScriptLineView → Range ℕ
+ends_range line =
+    let rest = rest_of line in
+    let after = past_space rest in
+    record {
+      start = (range_at line rest (field_of rest)).start;
+      end = (range_at line after (field_of after)).end;
+    }

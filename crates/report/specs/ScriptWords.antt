@@ -4,6 +4,7 @@ use Rattle.std.specs.Str.{bytes_eq}
 use Rattle.report.specs.declared.script.words.Word.{Word}
 use Rattle.report.specs.declared.script.words.Word.TheVariants.{Severity, Code, Message}
 use Rattle.report.specs.declared.script.words.Word.TheVariants.{Primary, Secondary, Note}
+use Rattle.report.specs.declared.script.words.Word.TheVariants.{Suggestion, Replace}
 
 -- the word that this text is
 unfoldable pub script_word_named : List ℕ → Option Word
@@ -14,4 +15,6 @@ script_word_named text =
     else if bytes_eq text (codes "primary") then Some Primary
     else if bytes_eq text (codes "secondary") then Some Secondary
     else if bytes_eq text (codes "note") then Some Note
+    else if bytes_eq text (codes "suggestion") then Some Suggestion
+    else if bytes_eq text (codes "replace") then Some Replace
     else None

@@ -11,6 +11,7 @@ use Rattle.codespan_core.specs.declared.diagnostic.LabelStyle.{LabelStyle}
 use Rattle.codespan_core.specs.declared.diagnostic.LabelStyle.TheVariants as styles
 use Rattle.codespan_core.specs.declared.diagnostic.Severity.{Severity}
 use Rattle.codespan_core.specs.declared.diagnostic.Severity.TheVariants as severities
+use Rattle.codespan_suggestions.specs.Views.{SuggestionView, suggestion_view}
 use Rattle.program_io.specs.Fields.{field_of, past_space}
 use Rattle.program_io.specs.Names.{severity_named}
 use Rattle.report.specs.declared.script.Fault.{Fault}
@@ -22,10 +23,12 @@ use Rattle.report.specs.ScriptFaults.{line_of_word, fault_from, missing_end}
 use Rattle.report.specs.ScriptLines.{ScriptLineView, script_lines, body, script_source}
 use Rattle.report.specs.ScriptLines.{word_of, rest_of}
 use Rattle.report.specs.ScriptWords.{script_word_named}
+use Rattle.report.specs.Suggestions.{parsed_suggestions, suggestions_fault}
 
--- what a script states: a diagnostic of one file, and that file's source
+-- what a script states: a diagnostic and suggestions of one file, and that file's source
 pub record ScriptView : Type 0 where
   pub diagnostic : DiagnosticView (Unit {0})
+  pub suggestions : List (SuggestionView (Unit {0}))
   pub source : List ℕ
 
 -- a label by its style, its range and its message's bytes
@@ -43,6 +46,7 @@ script_view script = record {
     labels = map script_label_view script.labels.items;
     notes = map (λ note. note.now) script.notes.items;
   };
+  suggestions = map suggestion_view script.suggestions.items;
   source = script.source.now;
 }
 
@@ -107,6 +111,17 @@ script_diagnostic lines = record {
   notes = parsed_notes lines;
 }
 
+-- what lines and a source state, unless an edit of the source cannot be made: that is the error
+abbrev pub parsed_statements : List ScriptLineView → List ℕ → Option Fault
+    → Result ScriptView Fault
+parsed_statements lines source (Some fault) = Err fault
+parsed_statements lines source None =
+    Ok (record {
+      diagnostic = script_diagnostic lines;
+      suggestions = parsed_suggestions lines;
+      source = source;
+    })
+
 -- what lines parse to, by their first error and the source: the error, if there is one; else that
 -- the end is missing, if there is no source; else what they state
 abbrev pub parsed_lines : List ℕ → List ScriptLineView → Option Fault → Option (List ℕ)
@@ -114,7 +129,7 @@ abbrev pub parsed_lines : List ℕ → List ScriptLineView → Option Fault → 
 parsed_lines input lines (Some fault) source = Err fault
 parsed_lines input lines None None = Err (missing_end input)
 parsed_lines input lines None (Some source) =
-    Ok (record { diagnostic = script_diagnostic lines; source = source })
+    parsed_statements lines source (suggestions_fault source lines)
 
 -- what an input states as a script, or its first error
 unfoldable pub parsed_script : List ℕ → Result ScriptView Fault

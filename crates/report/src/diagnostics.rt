@@ -84,7 +84,8 @@ fn notes(alloc: Global, stated: &[&str]) -> Result<Vec<String>, Error>
 }
 
 /// Returns the diagnostic of a script's error: its code and message, a primary label over its
-/// range, and a secondary one over the first occurrence of a repeated word.
+/// range, and a secondary one over the first occurrence of a repeated word, or over the other of
+/// two edits that overlap.
 ///
 /// # Errors
 ///
@@ -92,14 +93,14 @@ fn notes(alloc: Global, stated: &[&str]) -> Result<Vec<String>, Error>
 pub fn diagnostic_of_fault(alloc: Global, fault: script::Fault) -> Result<Diagnostic<()>, Error>
     ensures { IfOk result (λ d. diagnostic_view d ≡ fault_diagnostic fault) }
 {
-    let label = Label::primary(alloc, (), fault.range).with_message(fault.kind.label_message())?;
+    let label = Label::primary(alloc, (), fault.range).with_message(fault.kind)?;
     let diagnostic = Diagnostic::error(alloc)
         .with_code(fault.kind.code())?
         .with_message(fault.kind.message())?
         .with_label(label)?;
     match fault.first {
         Some(first) => diagnostic.with_label(Label::secondary(alloc, (), first).with_message(
-            "first given here",
+            fault.kind.first_message(),
         )?),
         None => Ok(diagnostic),
     }

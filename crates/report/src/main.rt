@@ -1,6 +1,8 @@
 //! `report STYLE NAME START END MESSAGE` renders an error with one label over the source on
-//! standard input. `report STYLE NAME` renders the diagnostic that the script there states, over
-//! the source that follows it.
+//! standard input. `report STYLE NAME` renders the diagnostic and the suggestions that the script
+//! there states, over the source that follows it; `report apply NAME` writes that source after the
+//! edits of the script's first suggestion, and `report diff NAME` these edits as a unified diff.
+//! `report --version` prints the program's version.
 //!
 //! `STYLE` is `rich`, `medium` or `short`. `START` and `END`, in decimal digits, are the byte range
 //! of the label in the source, from 0, the end exclusive. `NAME` is the file's name, and `MESSAGE`
@@ -8,7 +10,7 @@
 //!
 //! | status | standard output | standard error |
 //! |---|---|---|
-//! | 0 | the output | nothing |
+//! | 0 | the output, or the version | nothing |
 //! | 1 | nothing, or a prefix of the output if writing it failed | one line: the error |
 //! | 2 | nothing: the arguments are wrong | one line: the usage |
 //! | 3 | nothing: the script has an error | its whole diagnostic |
@@ -30,13 +32,18 @@ mod run;
 mod script;
 #[cfg(test)]
 mod tests;
+mod version;
 
 use crate::run::{conclude, run};
+use crate::version::{is_version_requested, write_version};
 use program_io::arguments::arguments;
 use std::process::ExitCode;
 
 fn main(rt: HostRuntime) -> ExitCode {
     let status = match arguments(&rt) {
+        Ok(args) if is_version_requested(&args) => {
+            write_version(&mut rt.stdout(), &mut rt.stderr())
+        }
         Ok(args) => run(
             rt.alloc(),
             &args,

@@ -2,7 +2,7 @@
 
 ghost use Rattle.std.specs.Prelude.{◌≡◌, map, string_bytes};
 ghost use Rattle.std.specs.Option.{option_map};
-ghost use Rattle.report.specs.Requests.{number_of};
+ghost use Rattle.report.specs.Requests.{number_of, script_output_named};
 
 use codespan_core::term::DisplayStyle;
 use program_io::names::parse_display_style;
@@ -45,15 +45,42 @@ impl<'args> LabelRequest<'args> {
     }
 }
 
+/// What is written of a script.
+#[derive(Clone, Copy)]
+pub enum ScriptOutput {
+    /// The diagnostic and the suggestions, in this display style.
+    Rendered(DisplayStyle),
+    /// The source after the edits of the first suggestion.
+    Applied,
+    /// The unified diff of the first suggestion.
+    UnifiedDiff,
+}
+
+/// Returns what is written of a script by this word: a display style's name, `apply` or `diff`.
+/// Returns `None` for any other text.
+#[tactic(auto, unfolding(crate::specs::Requests::script_output_named))]
+pub fn parse_script_output(text: &str) -> Option<ScriptOutput>
+    ensures { result ≡ script_output_named text.now }
+{
+    if text == "apply" {
+        return Some(ScriptOutput::Applied);
+    }
+    if text == "diff" {
+        return Some(ScriptOutput::UnifiedDiff);
+    }
+    let style = parse_display_style(text)?;
+    Some(ScriptOutput::Rendered(style))
+}
+
 /// What the arguments request.
 #[derive(Clone, Copy)]
 pub enum Request<'args> {
     /// An error with one label, whose source is the input.
     OneLabel(LabelRequest<'args>),
-    /// The diagnostic of the script at the start of the input, whose source follows the script.
+    /// Of the script at the start of the input, whose source follows the script.
     OfScript {
-        /// The display style.
-        style: DisplayStyle,
+        /// What is written of it.
+        output: ScriptOutput,
         /// The name of the file.
         name: &'args str,
     },
@@ -62,14 +89,14 @@ pub enum Request<'args> {
 impl<'args> Request<'args> {
     ghost use Rattle.report.specs.Requests.{request_of, request_view};
 
-    /// Parses the arguments `STYLE NAME`, or those of a [`LabelRequest`]. Returns `None` for any
-    /// others.
+    /// Parses the arguments `STYLE NAME`, `apply NAME` or `diff NAME`, or those of a
+    /// [`LabelRequest`]. Returns `None` for any others.
     pub fn from_arguments(args: &'args [String]) -> Option<Request<'args>>
         ensures { option_map request_view result ≡ request_of (map string_bytes args.now) }
     {
         match args {
-            [style, name] => Some(Request::OfScript {
-                style: parse_display_style(style.as_str())?,
+            [output, name] => Some(Request::OfScript {
+                output: parse_script_output(output.as_str())?,
                 name: name.as_str(),
             }),
             _ => Some(Request::OneLabel(LabelRequest::from_arguments(args)?)),

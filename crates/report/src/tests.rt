@@ -2,6 +2,7 @@
 
 mod failures;
 mod scripts;
+mod version;
 
 use crate::run::run;
 use std::alloc::Global;

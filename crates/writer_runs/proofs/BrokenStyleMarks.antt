@@ -1,6 +1,5 @@
 -- For the clause of `SequenceWriter::fail_at_style_mark`: a style mark of which only the first
--- bytes
--- of its spelling are written.
+-- bytes of its spelling are written.
 use Rattle.std.proofs.Common.{◌≡◌, ℕ, List, ◌++◌, Option, take, drop, sym, ap}
 use Rattle.std.proofs.Common.{◌∙◌, append_assoc}
 use Rattle.std.proofs.lemmas.List.{take-append-drop}

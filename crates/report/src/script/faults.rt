@@ -4,12 +4,14 @@ ghost use Rattle.std.specs.Prelude.{◌≡◌, [], map};
 ghost use Rattle.report.specs.ScriptLines.{script_line_view};
 ghost use Rattle.report.specs.ScriptFaults.{fault_from, line_fault, missing_end};
 ghost use Rattle.report.specs.ScriptFaults.{severity_fault, number_fault, repetition};
+ghost use Rattle.report.specs.ScriptFaults.{replace_fault, escape_fault};
 
 use super::line::Line;
 use super::parsed::line_of_word;
 use super::words::{Word, parse_word};
 use super::{Fault, FaultKind};
 use crate::request::parse_number;
+use program_io::escapes::after_bad_escape;
 use program_io::fields::split_field;
 use program_io::names::parse_severity;
 use std::ops::Range;
@@ -44,7 +46,8 @@ fn line_fault(before: &[Line<'_>], line: &Line<'_>) -> Option<Fault>
         },
         Some(Word::Code | Word::Message) => repetition(before, line),
         Some(Word::Primary | Word::Secondary) => number_fault(line),
-        Some(Word::Note) => None,
+        Some(Word::Note | Word::Suggestion) => None,
+        Some(Word::Replace) => replace_fault(before, line),
     }
 }
 
@@ -56,7 +59,7 @@ pub(super) fn missing_end(input: &str) -> Fault
 }
 
 /// Returns an error with one range.
-fn fault(kind: FaultKind, range: Range<usize>) -> Fault
+pub(super) fn fault(kind: FaultKind, range: Range<usize>) -> Fault
     ensures { result ≡ record { kind = kind; range = range; first = None } }
 {
     Fault {
@@ -107,4 +110,32 @@ fn number_fault(line: &Line<'_>) -> Option<Fault>
         return Some(fault(FaultKind::BadNumber, line.range_at(after, end)));
     }
     None
+}
+
+/// Returns the error of a `replace` line: that no line before it begins with `suggestion`, or that
+/// its start or end is not a number, or that a backslash of its text does not begin an escape.
+#[tactic(auto, unfolding(crate::specs::ScriptFaults::replace_fault))]
+fn replace_fault(before: &[Line<'_>], line: &Line<'_>) -> Option<Fault>
+    ensures { result
+        ≡ replace_fault (map script_line_view before.now) (script_line_view line.now) }
+{
+    if line_of_word("suggestion", before).is_none() {
+        return Some(fault(
+            FaultKind::NoSuggestion,
+            line.range_at(line.text, line.word()),
+        ));
+    }
+    match number_fault(line) {
+        Some(fault) => Some(fault),
+        None => escape_fault(line),
+    }
+}
+
+/// Returns the error of a `replace` line whose text has a backslash that does not begin an escape.
+#[tactic(auto, unfolding(crate::specs::ScriptFaults::escape_fault))]
+fn escape_fault(line: &Line<'_>) -> Option<Fault>
+    ensures { result ≡ escape_fault (script_line_view line.now) }
+{
+    let after = after_bad_escape(line.replacement())?;
+    Some(fault(FaultKind::BadEscape, line.byte_before(after)))
 }

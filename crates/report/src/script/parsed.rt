@@ -53,7 +53,7 @@ fn parsed_label<'input>(line: &Line<'input>) -> Option<ScriptLabel<'input>>
     match parse_word(line.word()) {
         Some(Word::Primary) => label_of_rest(LabelStyle::Primary, line.rest()),
         Some(Word::Secondary) => label_of_rest(LabelStyle::Secondary, line.rest()),
-        Some(Word::Severity | Word::Code | Word::Message | Word::Note) | None => None,
+        _ => None,
     }
 }
 

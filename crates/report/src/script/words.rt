@@ -18,6 +18,10 @@ pub enum Word {
     Secondary,
     /// The rest is a note.
     Note,
+    /// The rest is the message of a suggestion.
+    Suggestion,
+    /// The rest is an edit of the last suggestion.
+    Replace,
 }
 
 /// Parses a word; `None` for any other text.
@@ -32,6 +36,8 @@ pub(super) fn parse_word(text: &str) -> Option<Word>
         "primary" => Some(Word::Primary),
         "secondary" => Some(Word::Secondary),
         "note" => Some(Word::Note),
+        "suggestion" => Some(Word::Suggestion),
+        "replace" => Some(Word::Replace),
         _ => None,
     }
 }

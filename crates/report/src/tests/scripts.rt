@@ -1,14 +1,18 @@
 //! Runs over scripts: the input, the status, and what is rendered.
 
+mod bad_edits;
 mod errors;
+mod suggestions;
 
+use crate::tests::scripts::bad_edits::check_scripts_with_bad_edits;
 use crate::tests::scripts::errors::check_scripts_with_errors;
+use crate::tests::scripts::suggestions::check_scripts_with_suggestions;
 use crate::tests::{Failing, Run, check_run, run_over};
 use std::alloc::Global;
 use std::process::Abort;
 
-/// The style of a run over the file `f.txt`, its input, which is a script and a source, and what is
-/// seen of it: the output, what is written to `stderr`, and the status.
+/// The style of a run over the file `f.txt`, `apply` or `diff`; its input, which is a script and a
+/// source; and what is seen of it: the output, what is written to `stderr`, and the status.
 pub type ScriptRun<'run> = (&'run str, &'run str, (&'run str, &'run str, u8));
 
 /// The run of `script_run`.
@@ -32,7 +36,8 @@ const SCRIPT_UNKNOWN_WORD: [ScriptRun<'static>; 1] = [(
         \x20 ┌─ script:2:1\n\
         \x20 │\n\
         2 │ colour red\n\
-        \x20 │ ^^^^^^ expected severity, code, message, primary, secondary or note\n\n",
+        \x20 │ ^^^^^^ expected severity, code, message, primary, secondary, note, suggestion \
+        or replace\n\n",
         3,
     ),
 )];
@@ -192,15 +197,15 @@ const SCRIPTS_WITH_LABELS_AND_NOTES: [ScriptRun<'static>; 6] = [
 ];
 
 /// The runs of scripts whose outputs `codespan_worked` computes, by name.
-static WORKED_SCRIPTS: [(&str, &[ScriptRun<'static>]); 4] = [
+static WORKED_SCRIPTS: [(&str, &[ScriptRun<'static>]); 3] = [
     ("script_run", &SCRIPT_RUN),
-    ("script_unknown_word", &SCRIPT_UNKNOWN_WORD),
     ("script_repeated_word", &SCRIPT_REPEATED_WORD),
     ("script_bad_number_and_end", &SCRIPT_BAD_NUMBER_AND_END),
 ];
 
 /// Other runs, by name.
-static OTHER_SCRIPTS: [(&str, &[ScriptRun<'static>]); 3] = [
+static OTHER_SCRIPTS: [(&str, &[ScriptRun<'static>]); 4] = [
+    ("script_unknown_word", &SCRIPT_UNKNOWN_WORD),
     ("script_medium_and_short", &SCRIPT_MEDIUM_AND_SHORT),
     ("scripts_that_are_read", &SCRIPTS_THAT_ARE_READ),
     (
@@ -237,6 +242,8 @@ fn scripts(rt: HostRuntime) {
     check_worked_scripts(&rt, rt.alloc());
     check_other_scripts(&rt, rt.alloc());
     check_scripts_with_errors(&rt, rt.alloc());
+    check_scripts_with_suggestions(&rt, rt.alloc());
+    check_scripts_with_bad_edits(&rt, rt.alloc());
 }
 
 /// What a run over an empty script writes to `stderr`, in short style.

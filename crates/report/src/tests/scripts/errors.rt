@@ -15,7 +15,8 @@ const SCRIPTS_WITH_UNKNOWN_WORDS: [ScriptWithError<'static>; 5] = [
         \x20 ┌─ script:1:1\n\
         \x20 │\n\
         1 │ ---\n\
-        \x20 │ ^^^^ expected severity, code, message, primary, secondary or note\n\n",
+        \x20 │ ^^^^ expected severity, code, message, primary, secondary, note, suggestion \
+        or replace\n\n",
     ),
     (
         "--- \n",
@@ -23,7 +24,8 @@ const SCRIPTS_WITH_UNKNOWN_WORDS: [ScriptWithError<'static>; 5] = [
         \x20 ┌─ script:1:1\n\
         \x20 │\n\
         1 │ --- \n\
-        \x20 │ ^^^ expected severity, code, message, primary, secondary or note\n\n",
+        \x20 │ ^^^ expected severity, code, message, primary, secondary, note, suggestion \
+        or replace\n\n",
     ),
     (
         " code a\n---\n",
@@ -31,7 +33,8 @@ const SCRIPTS_WITH_UNKNOWN_WORDS: [ScriptWithError<'static>; 5] = [
         \x20 ┌─ script:1:1\n\
         \x20 │\n\
         1 │  code a\n\
-        \x20 │ ^ expected severity, code, message, primary, secondary or note\n\n",
+        \x20 │ ^ expected severity, code, message, primary, secondary, note, suggestion \
+        or replace\n\n",
     ),
     (
         "primary\t0 1\n---\n",
@@ -39,7 +42,8 @@ const SCRIPTS_WITH_UNKNOWN_WORDS: [ScriptWithError<'static>; 5] = [
         \x20 ┌─ script:1:1\n\
         \x20 │\n\
         1 │ primary 0 1\n\
-        \x20 │ ^^^^^^^^^ expected severity, code, message, primary, secondary or note\n\n",
+        \x20 │ ^^^^^^^^^ expected severity, code, message, primary, secondary, note, suggestion \
+        or replace\n\n",
     ),
     (
         "bad",
@@ -47,7 +51,8 @@ const SCRIPTS_WITH_UNKNOWN_WORDS: [ScriptWithError<'static>; 5] = [
         \x20 ┌─ script:1:1\n\
         \x20 │\n\
         1 │ bad\n\
-        \x20 │ ^^^ expected severity, code, message, primary, secondary or note\n\n",
+        \x20 │ ^^^ expected severity, code, message, primary, secondary, note, suggestion \
+        or replace\n\n",
     ),
 ];
 
