@@ -9,6 +9,9 @@ pub mod Rows
 pub mod RowParts
 pub mod RowStreams
 pub mod RowDefinitions
+-- lines that fit a width
+pub mod FittedParts
+pub mod FittedLines
 -- the output
 pub mod Lines
 pub mod Sequences
@@ -44,6 +47,8 @@ unfoldable pub use Rattle.codespan_output.specs.Rows.*
 unfoldable pub use Rattle.codespan_output.specs.RowParts.*
 unfoldable pub use Rattle.codespan_output.specs.RowStreams.*
 unfoldable pub use Rattle.codespan_output.specs.RowDefinitions.*
+unfoldable pub use Rattle.codespan_output.specs.FittedParts.*
+unfoldable pub use Rattle.codespan_output.specs.FittedLines.*
 unfoldable pub use Rattle.codespan_output.specs.Lines.*
 unfoldable pub use Rattle.codespan_output.specs.Sequences.*
 unfoldable pub use Rattle.codespan_output.specs.Snippets.*

@@ -1,0 +1,9 @@
+pub mod CellSteps
+pub mod TextSteps
+pub mod UnitLemmas
+pub mod FirstSteps
+pub mod LastUnits
+pub mod FewUnits
+pub mod SplitUnits
+pub mod GapPieces
+pub mod LeftOutTexts
