@@ -1,5 +1,5 @@
 /* Checks a configuration file, and reports what is wrong with it on standard error: in color where
- * that is a terminal and the environment has no NO_COLOR, and as plain text otherwise.
+ * codespan_stream_has_colors says so, and as plain text otherwise.
  *
  *     example FILE
  *
@@ -8,10 +8,10 @@
  * were reported, and 2 where the file could not be read or a report could not be written. */
 #define _POSIX_C_SOURCE 200809L
 #include <codespan.h>
+#include <codespan_stream.h>
 #include <stdbool.h>
 #include <stdio.h>
 #include <stdlib.h>
-#include <unistd.h>
 
 /* The settings whose names are compared with later ones. */
 enum { SETTINGS_MAX = 100 };
@@ -32,12 +32,6 @@ struct checker {
     size_t errors;
 };
 
-/* Whether standard error is to be colored. */
-static bool has_color(void) {
-    const char *no_color = getenv("NO_COLOR");
-    return isatty(STDERR_FILENO) && (no_color == NULL || *no_color == '\0');
-}
-
 /* ---- reporting ---- */
 
 /* Stops where a diagnostic can not be rendered: memory ran out, or an argument is invalid. */
@@ -52,8 +46,7 @@ static void give_up(uint32_t status, uint32_t argument) {
 /* Renders a diagnostic, and returns the output, of *length bytes, which the caller frees. */
 static uint8_t *render(const codespan_file *file, const codespan_diagnostic *diagnostic,
                        size_t *length) {
-    codespan_config config = codespan_default_config();
-    config.spelling = has_color() ? CODESPAN_ANSI : CODESPAN_PLAIN;
+    codespan_config config = codespan_stream_config(stderr);
     size_t capacity = 1024;
     for (;;) {
         uint8_t *out = malloc(capacity);

@@ -28,6 +28,10 @@
 extern "C" {
 #endif
 
+/* The version of this header, as the package that it came with; codespan_version returns that of
+ * the library. */
+#define CODESPAN_VERSION "0.1.0"
+
 /* The ABI version of this header; codespan_abi_version returns that of the library. */
 #define CODESPAN_ABI 1u
 
@@ -64,7 +68,12 @@ typedef struct codespan_location {
  * labels too, count from the start of the file, not of the window. An index before the window
  * counts as the start of the window; in lines and locations it does so before they are checked. A
  * label past the end of the window is rendered as in a file that ends there; a line past it is
- * invalid. */
+ * invalid.
+ *
+ * A diagnostic over a window is that over the file where the window has the lines from
+ * before_label_lines before the first line that a label starts or ends on, to after_label_lines
+ * after the last such line. The line of an end is that of the exclusive end: for a label up to the
+ * start of a line, that line too. */
 typedef struct codespan_file {
     codespan_text name;
     codespan_text source;
@@ -314,6 +323,10 @@ uint32_t codespan_emit(const codespan_file *files, size_t files_length,
 
 /* Returns the ABI version of the library; CODESPAN_ABI is the header's. */
 uint32_t codespan_abi_version(void);
+
+/* Returns the version of the library, such as 0.1.0, as a string that lives as long as the library;
+ * CODESPAN_VERSION is the header's. */
+const char *codespan_version(void);
 
 /* Writes what a status means, in English, to `text`, which has room for text_length bytes: one line
  * of ASCII, without a newline or a NUL, of at most CODESPAN_STATUS_TEXT_MAX bytes. For

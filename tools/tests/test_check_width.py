@@ -95,6 +95,10 @@ name =
         self.change(PROOFS, 'search', LONG)
         self.assert_finds_line(PROOFS, 3, f'sum-is-it = {LONG}')
 
+    def test_text_of_a_field(self):
+        self.change(SPECS, 'name =\n    codes', f'name =\n    text: "{LONG}",\n    codes')
+        self.assert_passes()
+
     def test_text_with_more_in_its_line(self):
         self.change(SPECS, 'name =\n    codes', 'name = codes')
         self.assert_finds_line(SPECS, 8, f'name = codes "{LONG}"')

@@ -264,6 +264,7 @@ static void test_status_text(uint32_t status, uint32_t argument) {
 
 int main(void) {
     CHECK(codespan_abi_version() == CODESPAN_ABI);
+    CHECK(strcmp(codespan_version(), CODESPAN_VERSION) == 0);
     for (size_t i = 0; i < CASES_LENGTH; i++)
         test_invalid(&INVALID_CASES[i]);
     struct sample sample;

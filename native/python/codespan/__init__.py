@@ -24,6 +24,8 @@ __all__ = [
     'Severity', 'Spelling', 'Styles', 'byte_index', 'emit',
 ]
 
+__version__ = '0.1.0'
+
 Text = Union[str, bytes]
 
 
@@ -233,10 +235,13 @@ class InvalidArgument(ValueError):
     `argument` is the first invalid one, and `index` its index among several, from 0; it is 0 where
     there is only one."""
 
-    def __init__(self, message: str, argument: Argument, index: int):
-        super().__init__(message)
+    def __init__(self, message: str, argument: Argument, index: int) -> None:
+        super().__init__(message, argument, index)
         self.argument = argument
         self.index = index
+
+    def __str__(self) -> str:
+        return str(self.args[0])
 
 
 def byte_index(source: str, character: int) -> int:
@@ -252,12 +257,12 @@ def emit(files: Sequence[File], diagnostic: Diagnostic, config: Config = Config(
 
     Raises `InvalidArgument` where an argument is invalid, `ValueError` where a number is negative
     or too large or a `str` has a surrogate, `TypeError` where a field of `Chars` is not one
-    character, and `MemoryError` where an allocation fails."""
+    character or `notes` is a text, and `MemoryError` where an allocation fails."""
     outcome = _native.emit(files, diagnostic, config)
     if outcome.status == _native.OK:
         return outcome.output.decode(errors='surrogateescape')
     if outcome.status == _native.OUT_OF_MEMORY:
         raise MemoryError
     message = _native.status_text(outcome.status, outcome.argument)
-    raise InvalidArgument('%s (index %d)' % (message, outcome.index),
-                          Argument(outcome.argument), outcome.index)
+    raise InvalidArgument('%s (index %d)' % (message, outcome.argument_index),
+                          Argument(outcome.argument), outcome.argument_index)

@@ -3,9 +3,16 @@ from __future__ import annotations
 
 import ctypes as c
 import os
+from functools import lru_cache
 from operator import index
 from pathlib import Path
-from typing import NamedTuple
+from typing import (TYPE_CHECKING, Iterable, NamedTuple, Sequence, SupportsIndex, Tuple, Type,
+                    TypeVar, Union)
+
+if TYPE_CHECKING:
+    import codespan as api
+
+Struct = TypeVar('Struct', bound=c.Structure)
 
 ABI = 1
 OK = 0
@@ -89,11 +96,12 @@ class Detail(c.Structure):
 
 
 class Outcome(NamedTuple):
-    """What a call returned. `output` is empty unless the status is OK."""
+    """What a call returned. `output` is empty unless the status is OK, and `argument_index` is that
+    of several arguments of one number."""
     status: int
     output: bytes
     argument: int
-    index: int
+    argument_index: int
 
 
 def load() -> c.CDLL:
@@ -104,6 +112,8 @@ def load() -> c.CDLL:
     size = c.POINTER(c.c_size_t)
     library.codespan_abi_version.restype = c.c_uint32
     library.codespan_abi_version.argtypes = []
+    library.codespan_version.restype = c.c_char_p
+    library.codespan_version.argtypes = []
     library.codespan_emit.restype = c.c_uint32
     library.codespan_emit.argtypes = [c.POINTER(File), c.c_size_t, c.POINTER(Diagnostic),
                                       c.POINTER(Config), c.c_char_p, c.c_size_t, size,
@@ -118,7 +128,7 @@ def load() -> c.CDLL:
 LIBRARY = load()
 
 
-def number(value, greatest=SIZE_MAX):
+def number(value: SupportsIndex, greatest: int = SIZE_MAX) -> int:
     """Returns a number that fits a type of C. ctypes would truncate one that does not."""
     value = index(value)
     if not 0 <= value <= greatest:
@@ -126,67 +136,71 @@ def number(value, greatest=SIZE_MAX):
     return value
 
 
-def choice(value):
+def choice(value: SupportsIndex) -> int:
     """Returns a number of an enumeration."""
     return number(value, U32_MAX)
 
 
-def text_of(text):
+def text_of(text: Union[str, bytes]) -> Text:
     """Returns the struct of a text."""
     data = text.encode() if isinstance(text, str) else bytes(memoryview(text))
     return Text(data, len(data))
 
 
-def array_of(kind, values):
+def array_of(kind: Type[Struct], values: Iterable[Struct]) -> Tuple[c.Array[Struct], int]:
     """Returns an array of structs, and their number. The array is never empty, so that a pointer to
     it is not NULL."""
     values = list(values)
     return (kind * max(1, len(values)))(*values), len(values)
 
 
-def line_of(line):
+def line_of(line: api.Line) -> Line:
     return Line(number(line.start), number(line.end), number(line.number))
 
 
-def location_of(location):
+def location_of(location: api.Location) -> Location:
     return Location(number(location.byte), number(location.line_number),
                     number(location.column_number))
 
 
-def file_of(file):
+def file_of(file: api.File) -> File:
     return File(text_of(file.name), text_of(file.source), number(file.first_byte),
                 number(file.first_line), *array_of(Line, map(line_of, file.lines)),
                 *array_of(Location, map(location_of, file.locations)))
 
 
-def label_of(label):
+def label_of(label: api.Label) -> Label:
     return Label(choice(label.style), number(label.file), number(label.start), number(label.end),
                  text_of(label.message))
 
 
-def diagnostic_of(diagnostic):
+def diagnostic_of(diagnostic: api.Diagnostic) -> Diagnostic:
+    if isinstance(diagnostic.notes, (str, bytes)):
+        raise TypeError('notes is a text, not a list of texts')
     return Diagnostic(choice(diagnostic.severity), text_of(diagnostic.code),
                       text_of(diagnostic.message),
                       *array_of(Label, map(label_of, diagnostic.labels)),
                       *array_of(Text, map(text_of, diagnostic.notes)))
 
 
-def chars_of(chars):
+def chars_of(chars: api.Chars) -> Chars:
     return Chars(text_of(chars.snippet_start), *(ord(getattr(chars, name)) for name in CHARACTERS))
 
 
-def color_spec_of(spec):
+def color_spec_of(spec: api.ColorSpec) -> ColorSpec:
     return ColorSpec(choice(spec.fg), choice(spec.bg), bool(spec.bold), bool(spec.intense))
 
 
-def config_of(config):
+@lru_cache
+def config_of(config: api.Config) -> Config:
+    """Returns the struct of a configuration. Nothing changes one, so calls share it."""
     styles = Styles(*(color_spec_of(getattr(config.styles, name)) for name in STYLES))
     return Config(ABI, *(choice(getattr(config, name)) for name in CHOICES),
                   *(number(getattr(config, name)) for name in COUNTS), chars_of(config.chars),
                   styles)
 
 
-def emit(files, diagnostic, config) -> Outcome:
+def emit(files: Sequence[api.File], diagnostic: api.Diagnostic, config: api.Config) -> Outcome:
     """Calls codespan_emit, again with a larger buffer where the first one is too small."""
     file_array, files_length = array_of(File, map(file_of, files))
     arguments = (file_array, files_length, c.byref(diagnostic_of(diagnostic)),
@@ -203,7 +217,7 @@ def emit(files, diagnostic, config) -> Outcome:
         capacity = written.value
 
 
-def status_text(status, argument) -> str:
+def status_text(status: int, argument: int) -> str:
     """Returns what codespan_status_text writes."""
     out = c.create_string_buffer(STATUS_TEXT_MAX)
     written = c.c_size_t()

@@ -1,6 +1,7 @@
 """Tests of the module, over the library that it loads."""
 import ctypes
 import dataclasses
+import pickle
 import random
 import re
 import subprocess
@@ -111,6 +112,10 @@ class Output(unittest.TestCase):
         config = Config(characters=Characters.CUSTOM, chars=Chars(single_primary_caret='~'))
         self.assertIn('~~~~ expected a number', codespan.emit([SETTINGS], odd_value(), config))
 
+    def test_version(self):
+        """The library has the version of the module."""
+        self.assertEqual(_native.LIBRARY.codespan_version().decode(), codespan.__version__)
+
     def test_long(self):
         message = 'é' * 100_000
         output = codespan.emit([], Diagnostic(message, Severity.NOTE))
@@ -219,6 +224,17 @@ class Errors(unittest.TestCase):
     def test_text_without_utf8(self):
         with self.assertRaises(ValueError):
             codespan.emit([], Diagnostic('\ud800'))
+
+    def test_pickled(self):
+        raised = InvalidArgument('a message', Argument.NOTE, 2)
+        copied = pickle.loads(pickle.dumps(raised))
+        self.assertEqual((str(copied), copied.argument, copied.index),
+                         ('a message', Argument.NOTE, 2))
+
+    def test_notes_that_are_a_text(self):
+        for notes in ('abc', b'abc'):
+            with self.assertRaises(TypeError):
+                codespan.emit([], Diagnostic('m', notes=notes))
 
     def test_greatest_numbers(self):
         greatest = 2 ** 64 - 1

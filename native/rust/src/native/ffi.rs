@@ -77,6 +77,14 @@ pub(crate) fn emit(
     }
 }
 
+// The archive refers to these three by name. Hidden, they are no names of a shared object that is
+// made with this crate inside.
+core::arch::global_asm!(
+    ".hidden rattle_alloc",
+    ".hidden rattle_realloc",
+    ".hidden rattle_dealloc",
+);
+
 /// What an allocation returns: whether it succeeded, and a pointer that is never null.
 #[repr(C)]
 pub struct Allocation {

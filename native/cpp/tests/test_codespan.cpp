@@ -1,0 +1,124 @@
+/* Tests of codespan.hpp: texts, errors, custom styles, and streams that are no terminal.
+ *
+ *     test_codespan print    prints a diagnostic to standard output, for tests with a terminal
+ */
+#include <codespan.hpp>
+#include <cstdlib>
+#include <cstring>
+
+namespace {
+
+int failures = 0;
+
+void check(bool holds, const char *what) {
+    if (holds)
+        return;
+    std::fprintf(stderr, "test_codespan: %s\n", what);
+    failures++;
+}
+
+constexpr std::string_view SOURCE = "fn main() {\n    let x = foo(y);\n}\n";
+
+const codespan::File FILE_OF_SOURCE{"main.rs", SOURCE};
+
+codespan::Diagnostic unknown_name() {
+    codespan::Diagnostic diagnostic{codespan::Severity::Error, "unknown name"};
+    diagnostic.code = "E0425";
+    diagnostic.labels = {codespan::primary(0, 28, 29, "not declared"),
+                         codespan::secondary(0, 3, 7, "in this function")};
+    diagnostic.notes = {"names are declared by let"};
+    return diagnostic;
+}
+
+constexpr std::string_view PLAIN = "error[E0425]: unknown name\n"
+                                   "  ┌─ main.rs:2:17\n"
+                                   "  │\n"
+                                   "1 │ fn main() {\n"
+                                   "  │    ---- in this function\n"
+                                   "2 │     let x = foo(y);\n"
+                                   "  │                 ^ not declared\n"
+                                   "  │\n"
+                                   "  = names are declared by let\n\n";
+
+constexpr std::string_view ASCII_SHORT = "main.rs:2:17: error[E0425]: unknown name\n";
+
+std::string text_of(const codespan::Diagnostic &diagnostic, const codespan::Config &config = {}) {
+    codespan::Emitted emitted = codespan::try_emit({FILE_OF_SOURCE}, diagnostic, config);
+    check(bool(emitted), "a diagnostic is rendered");
+    return emitted.text;
+}
+
+void test_texts() {
+    check(text_of(unknown_name()) == PLAIN, "the plain text");
+    codespan::Config config;
+    config.display_style = codespan::DisplayStyle::Short;
+    config.characters = codespan::Characters::Ascii;
+    check(text_of(unknown_name(), config) == ASCII_SHORT, "short style");
+    const codespan::Diagnostic bare{codespan::Severity::Bug, ""};
+    check(text_of(bare) == "bug: \n\n", "a diagnostic without labels");
+}
+
+/* An output that is longer than the first room, and lines of the caller's. */
+void test_long_output() {
+    const std::string message(5000, 'm');
+    const codespan::Diagnostic diagnostic{codespan::Severity::Note, message};
+    check(text_of(diagnostic) == "note: " + message + "\n\n", "a long output");
+    codespan::File file{"f", "abc"};
+    file.lines = {{0, 3, 70}};
+    codespan::Diagnostic labeled{codespan::Severity::Note, "m"};
+    labeled.labels = {codespan::primary(0, 1, 2)};
+    const codespan::Emitted emitted = codespan::try_emit({file}, labeled);
+    check(emitted.text == "note: m\n   ┌─ f:70:2\n   │\n70 │ abc\n   │  ^\n\n", "own lines");
+}
+
+void test_colors() {
+    codespan::Config config;
+    config.colors = codespan::Colors::Default;
+    const std::string colored = text_of(unknown_name(), config);
+    check(colored.find("\x1b[0m\x1b[1m\x1b[38;5;9merror[E0425]") == 0, "default colors");
+    config.colors = codespan::Colors::Custom;
+    config.styles.header_error = {CODESPAN_GREEN, CODESPAN_NO_COLOR, 0, 0};
+    check(text_of(unknown_name(), config).find("\x1b[0m\x1b[32merror[E0425]") == 0, "own styles");
+}
+
+void test_errors() {
+    codespan::Diagnostic diagnostic{codespan::Severity::Error, "m"};
+    diagnostic.labels = {codespan::primary(0, 0, 1), codespan::primary(7, 0, 1)};
+    const codespan::Emitted emitted = codespan::try_emit({FILE_OF_SOURCE}, diagnostic);
+    check(emitted.status == CODESPAN_FILE_MISSING && emitted.text.empty(), "a missing file");
+    check(emitted.detail.index == 1, "the index of its label");
+#ifdef __cpp_exceptions
+    diagnostic.labels.clear();
+    diagnostic.message = "\xff";
+    try {
+        codespan::emit({FILE_OF_SOURCE}, diagnostic);
+        check(false, "a message that is not UTF-8 throws");
+    } catch (const codespan::Error &error) {
+        check(error.status() == CODESPAN_INVALID, "its status");
+        check(error.argument() == CODESPAN_ARGUMENT_MESSAGE && error.index() == 0, "its argument");
+        check(std::strlen(error.what()) > 0, "its text");
+    }
+#endif
+}
+
+int print_it() {
+#ifdef __cpp_exceptions
+    return codespan::print(stdout, {FILE_OF_SOURCE}, unknown_name()) ? 0 : 1;
+#else
+    return 1;
+#endif
+}
+
+} // namespace
+
+int main(int argc, char **argv) {
+    if (argc == 2 && std::strcmp(argv[1], "print") == 0)
+        return print_it();
+    test_texts();
+    test_long_output();
+    test_colors();
+    test_errors();
+    if (failures == 0)
+        std::puts("test_codespan: ok");
+    return failures == 0 ? 0 : 1;
+}

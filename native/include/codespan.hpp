@@ -1,0 +1,283 @@
+/* codespan.hpp: compiler-style diagnostics for C++17, over codespan.h.
+ *
+ *     const codespan::File file{"main.c", source};
+ *     codespan::Diagnostic diagnostic{codespan::Severity::Error, "unknown name"};
+ *     diagnostic.labels = {codespan::primary(0, 12, 15, "not declared")};
+ *     codespan::print(stderr, {file}, diagnostic);
+ *
+ * Texts are views in UTF-8: what they view has to live until the call returns. Byte indices start
+ * at 0 and count from the start of the file, ends are exclusive; both may be any number.
+ *
+ * emit and print throw codespan::Error. Without exceptions (-fno-exceptions) call try_emit, which
+ * returns a status in its place.
+ */
+#ifndef CODESPAN_HPP
+#define CODESPAN_HPP
+
+#include <codespan.h>
+#include <codespan_stream.h>
+#include <cstddef>
+#include <cstdint>
+#include <cstdio>
+#include <exception>
+#include <new>
+#include <string>
+#include <string_view>
+#include <utility>
+#include <vector>
+
+namespace codespan {
+
+/* How bad what a diagnostic reports is. */
+enum class Severity : std::uint32_t {
+    Help = CODESPAN_HELP,
+    Note = CODESPAN_NOTE,
+    Warning = CODESPAN_WARNING,
+    Error = CODESPAN_ERROR,
+    Bug = CODESPAN_BUG
+};
+
+/* What is rendered: all, or headers with notes, or headers alone. */
+enum class DisplayStyle : std::uint32_t {
+    Rich = CODESPAN_RICH,
+    Medium = CODESPAN_MEDIUM,
+    Short = CODESPAN_SHORT
+};
+
+/* How lanes of multi-line labels are rendered: as in the Rust crate, or without gaps. */
+enum class Layout : std::uint32_t { Classic = CODESPAN_CLASSIC, Unbroken = CODESPAN_UNBROKEN };
+
+/* Which characters are used. */
+enum class Characters : std::uint32_t {
+    Box = CODESPAN_BOX_CHARS,
+    Ascii = CODESPAN_ASCII_CHARS,
+    Custom = CODESPAN_CUSTOM_CHARS /* those of Config::chars */
+};
+
+/* Whether the output has escape sequences for colors, and which. */
+enum class Colors : std::uint32_t {
+    None = CODESPAN_PLAIN,
+    Default = CODESPAN_ANSI,
+    Custom = CODESPAN_ANSI_STYLES /* those of Config::styles */
+};
+
+/* A file, or a window of one: codespan_file of codespan.h says what the numbers mean. */
+struct File {
+    std::string_view name;
+    std::string_view source = {};
+    std::size_t first_byte = 0; /* byte index in the file of the first byte of `source` */
+    std::size_t first_line = 0; /* how many lines are before it */
+    std::vector<codespan_line> lines = {};         /* none: a line starts after each newline */
+    std::vector<codespan_location> locations = {}; /* shown in place of computed ones */
+};
+
+/* A label: a range of bytes of a file, with a message. */
+struct Label {
+    std::uint32_t style; /* CODESPAN_PRIMARY or CODESPAN_SECONDARY */
+    std::size_t file;    /* index in the files that are passed */
+    std::size_t start;   /* byte index in the file */
+    std::size_t end;     /* byte index in the file, exclusive */
+    std::string_view message = {};
+};
+
+/* Returns a primary label: what the diagnostic is about. */
+inline Label primary(std::size_t file, std::size_t start, std::size_t end,
+                     std::string_view message = {}) {
+    return {CODESPAN_PRIMARY, file, start, end, message};
+}
+
+/* Returns a secondary label: what helps to understand a primary one. */
+inline Label secondary(std::size_t file, std::size_t start, std::size_t end,
+                       std::string_view message = {}) {
+    return {CODESPAN_SECONDARY, file, start, end, message};
+}
+
+/* A diagnostic. */
+struct Diagnostic {
+    Severity severity;
+    std::string_view message;
+    std::string_view code = {};
+    std::vector<Label> labels = {};
+    std::vector<std::string_view> notes = {};
+};
+
+/* A configuration. */
+struct Config {
+    DisplayStyle display_style = DisplayStyle::Rich;
+    Layout layout = Layout::Classic;
+    Colors colors = Colors::None; /* print decides itself */
+    Characters characters = Characters::Box;
+    std::size_t tab_width = 4; /* cells between tab stops */
+    std::size_t start_context_lines =
+        3;                              /* lines shown after the first line of a multi-line label */
+    std::size_t end_context_lines = 1;  /* lines shown before its last line */
+    std::size_t before_label_lines = 0; /* lines shown before a label */
+    std::size_t after_label_lines = 0;  /* lines shown after a label */
+    codespan_chars chars = codespan_box_chars();
+    codespan_styles styles = codespan_default_styles();
+};
+
+/* Why a diagnostic was not rendered. */
+class Error : public std::exception {
+  public:
+    Error(std::uint32_t status, codespan_detail detail) noexcept
+        : status_(status), detail_(detail) {
+        std::size_t length = 0;
+        codespan_status_text(status, detail.argument, reinterpret_cast<std::uint8_t *>(text_),
+                             sizeof text_ - 1, &length);
+        text_[length < sizeof text_ ? length : 0] = '\0';
+    }
+
+    /* One line of ASCII. */
+    const char *what() const noexcept override { return text_; }
+
+    /* CODESPAN_OUT_OF_MEMORY, CODESPAN_FILE_MISSING or CODESPAN_INVALID. */
+    std::uint32_t status() const noexcept { return status_; }
+
+    /* Which argument is invalid: CODESPAN_ARGUMENT_NONE where memory ran out. */
+    std::uint32_t argument() const noexcept { return detail_.argument; }
+
+    /* The index of the file, label, note, character or style that is invalid. */
+    std::size_t index() const noexcept { return detail_.index; }
+
+  private:
+    std::uint32_t status_;
+    codespan_detail detail_;
+    char text_[CODESPAN_STATUS_TEXT_MAX + 1];
+};
+
+/* What try_emit returns. */
+struct Emitted {
+    std::uint32_t status; /* CODESPAN_OK, or why there is no text */
+    codespan_detail detail;
+    std::string text;
+
+    explicit operator bool() const noexcept { return status == CODESPAN_OK; }
+};
+
+namespace detail {
+
+inline codespan_text text(std::string_view view) noexcept {
+    return codespan_text_of(view.data(), view.size());
+}
+
+/* Returns where the values of a vector are; what C takes for an empty one is not NULL. */
+template <typename T> const T *values(const std::vector<T> &vector) noexcept {
+    return vector.empty() ? static_cast<const T *>(static_cast<const void *>(&codespan_nothing))
+                          : vector.data();
+}
+
+inline codespan_file c_file(const File &file) noexcept {
+    return {text(file.name),    text(file.source), file.first_byte,        file.first_line,
+            values(file.lines), file.lines.size(), values(file.locations), file.locations.size()};
+}
+
+inline codespan_label c_label(const Label &label) noexcept {
+    return {label.style, label.file, label.start, label.end, text(label.message)};
+}
+
+inline codespan_config c_config(const Config &config) noexcept {
+    return {CODESPAN_ABI,
+            static_cast<std::uint32_t>(config.display_style),
+            static_cast<std::uint32_t>(config.layout),
+            static_cast<std::uint32_t>(config.colors),
+            static_cast<std::uint32_t>(config.characters),
+            config.tab_width,
+            config.start_context_lines,
+            config.end_context_lines,
+            config.before_label_lines,
+            config.after_label_lines,
+            config.chars,
+            config.styles};
+}
+
+/* The call, with the values of C++ as C has them. */
+class Call {
+  public:
+    Call(const std::vector<File> &files, const Diagnostic &diagnostic, const Config &config)
+        : config_(c_config(config)) {
+        files_.reserve(files.size());
+        for (const File &file : files)
+            files_.push_back(c_file(file));
+        labels_.reserve(diagnostic.labels.size());
+        for (const Label &label : diagnostic.labels)
+            labels_.push_back(c_label(label));
+        notes_.reserve(diagnostic.notes.size());
+        for (std::string_view note : diagnostic.notes)
+            notes_.push_back(text(note));
+        diagnostic_ = {static_cast<std::uint32_t>(diagnostic.severity),
+                       text(diagnostic.code),
+                       text(diagnostic.message),
+                       values(labels_),
+                       labels_.size(),
+                       values(notes_),
+                       notes_.size()};
+    }
+
+    /* Renders into a text that grows to the length of the output. */
+    Emitted emit() const {
+        Emitted emitted{CODESPAN_TOO_SMALL, {CODESPAN_ARGUMENT_NONE, 0}, {}};
+        std::size_t written = first_length;
+        while (emitted.status == CODESPAN_TOO_SMALL) {
+            emitted.text.resize(written);
+            emitted.status = codespan_emit(values(files_), files_.size(), &diagnostic_, &config_,
+                                           reinterpret_cast<std::uint8_t *>(emitted.text.data()),
+                                           emitted.text.size(), &written, &emitted.detail);
+        }
+        emitted.text.resize(written);
+        return emitted;
+    }
+
+  private:
+    static constexpr std::size_t first_length = 1024;
+    std::vector<codespan_file> files_;
+    std::vector<codespan_label> labels_;
+    std::vector<codespan_text> notes_;
+    codespan_diagnostic diagnostic_;
+    codespan_config config_;
+};
+
+} // namespace detail
+
+/* Renders a diagnostic, and returns the text or why there is none. */
+inline Emitted try_emit(const std::vector<File> &files, const Diagnostic &diagnostic,
+                        const Config &config = {}) {
+#ifdef __cpp_exceptions
+    try {
+        return detail::Call(files, diagnostic, config).emit();
+    } catch (const std::bad_alloc &) {
+        return {CODESPAN_OUT_OF_MEMORY, {CODESPAN_ARGUMENT_NONE, 0}, {}};
+    }
+#else
+    return detail::Call(files, diagnostic, config).emit();
+#endif
+}
+
+#ifdef __cpp_exceptions
+/* Renders a diagnostic as text. Throws Error. */
+inline std::string emit(const std::vector<File> &files, const Diagnostic &diagnostic,
+                        const Config &config = {}) {
+    Emitted emitted = try_emit(files, diagnostic, config);
+    if (!emitted)
+        throw Error(emitted.status, emitted.detail);
+    return std::move(emitted.text);
+}
+
+/* Renders a diagnostic and writes it to a stream, in colors where codespan_stream_has_colors says
+ * so, whatever `config.colors` is; in the styles of `config` where it has custom ones. Control
+ * characters in texts reach the stream. Returns whether all of it was written. Throws Error, and
+ * then nothing is written. */
+inline bool print(std::FILE *stream, const std::vector<File> &files, const Diagnostic &diagnostic,
+                  Config config = {}) {
+    if (!codespan_stream_has_colors(stream))
+        config.colors = Colors::None;
+    else if (config.colors == Colors::None)
+        config.colors = Colors::Default;
+    const std::string text = emit(files, diagnostic, config);
+    return std::fwrite(text.data(), 1, text.size(), stream) == text.size();
+}
+#endif
+
+} // namespace codespan
+
+#endif
