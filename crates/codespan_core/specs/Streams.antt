@@ -1,8 +1,9 @@
 -- What is written to a writer: bytes, style marks, and, where a law speaks of them, slots that
 -- stand for labels' messages.
-use Rattle.std.specs.Prelude.{ℕ, List, [], ◌∷◌, ◌++◌, map, replicate}
+use Rattle.std.specs.Prelude.{ℕ, List, [], ◌∷◌, ◌++◌, map, replicate, codes}
 use Rattle.std.specs.List.{repeat}
 use Rattle.std.specs.Char.{encode_utf8}
+use Rattle.std.specs.Str.{byte}
 use Rattle.codespan_core.specs.declared.term.config.style_mark.StyleMark.{StyleMark}
 
 -- bytes, style marks, and slots, each of which names a label by its index in the diagnostic's list
@@ -25,15 +26,15 @@ style_mark m = Mark m ∷ []
 
 -- that many spaces
 unfoldable pub spaces : ℕ → Stream
-spaces n = byte_stream (replicate n 32)
+spaces n = byte_stream (replicate n (byte " "))
 
 -- one space
 abbrev pub space : Stream
-space = byte_stream (32 ∷ [])
+space = byte_stream (codes " ")
 
 -- the end of a row
 abbrev pub newline : Stream
-newline = byte_stream (10 ∷ [])
+newline = byte_stream (codes "\n")
 
 -- one character, by its code
 abbrev pub glyph : ℕ → Stream

@@ -10,14 +10,11 @@ use Rattle.codespan_output.specs.FittedParts.{leave_out, part_pieces, piece_cell
 use Rattle.codespan_output.specs.FittedParts.{unit_cells}
 use Rattle.codespan_fitting.specs.LeftOut.{dot_ranges}
 use Rattle.codespan_fitting.specs.Walks.{first_count, last_count}
-use Rattle.codespan_fitting.proofs.LastUnits.{before-all, unit_cells-append}
+use Rattle.codespan_output.proofs.WiderRadius.Gaps.{before-length, drop-all-cells, kept-cells}
+use Rattle.codespan_output.proofs.WiderRadius.Gaps.{unit_cells-append}
+use Rattle.codespan_fitting.proofs.LastUnits.{before-all}
 
 -- ---- units that are shown
-
-pub kept-cells : (us : List TextUnit) (ps : List Piece)
-    → piece_cells (map Kept us ++ ps) ≡ unit_cells us + piece_cells ps
-kept-cells [] ps = omega arith
-kept-cells (u ∷ us) ps = omega (arith, kept-cells us ps)
 
 pub kept-ranges : (at : ℕ) (us : List TextUnit) (ps : List Piece)
     → dot_ranges at (map Kept us ++ ps) ≡ dot_ranges (at + unit_bytes us) ps
@@ -26,19 +23,6 @@ kept-ranges at (u ∷ us) ps =
     kept-ranges (at + u.bytes) us ps ∙ ap (λ n. dot_ranges n ps) (omega arith)
 
 -- ---- the last units of a gap and of what follows its first ones
-
-dropped-cells : (k : ℕ) (us : List TextUnit) → unit_cells (drop k us) ≤ unit_cells us
-dropped-cells zero us = omega arith
-dropped-cells (suc k) [] = omega arith
-dropped-cells (suc k) (u ∷ us) = omega (arith, dropped-cells k us)
-
-pub before-length : (r : ℕ) (us : List TextUnit) → count_before r us ≤ length us
-before-length r [] = omega arith
-before-length r (u ∷ us) =
-    ⊎_elim
-    (λ more. rw (lt-leb (unit_cells (u ∷ us)) r more) (omega (arith, before-length r us)))
-    (λ fits. rw (le-leb (unit_cells (u ∷ us)) r fits) (omega arith))
-    (cases_lt r (unit_cells (u ∷ us)))
 
 -- the first of them are kept, or none of those before the last ones
 before-dropped : (r k : ℕ) (us : List TextUnit)
@@ -54,7 +38,7 @@ before-dropped r (suc k) (u ∷ us) =
     (omega (arith, rest.0), λ h. omega (arith, rest.1 h)))
     (λ fits.
     let none : count_before r (drop k us) ≡ 0 =
-    before-all r (drop k us) (omega (arith, dropped-cells k us, fits)) in
+    before-all r (drop k us) (omega (arith, drop-all-cells k us, fits)) in
     let no : 0 < count_before r (drop k us) → ⊥ = λ h. omega (arith, h, none) in
     rw (le-leb (unit_cells (u ∷ us)) r fits) (omega arith, λ h. absurd (no h)))
     (cases_lt r (unit_cells (u ∷ us)))

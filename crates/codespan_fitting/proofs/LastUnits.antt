@@ -6,6 +6,7 @@ use Rattle.codespan_core.proofs.Std.{len_utf8}
 use Rattle.std.specs.Prelude.{⊤}
 use Rattle.codespan_output.specs.FittedParts.{TextUnit, cells_at_most, count_before, unit_bytes}
 use Rattle.codespan_output.specs.FittedParts.{unit_cells, units_of, with_char}
+use Rattle.codespan_output.proofs.WiderRadius.Gaps.{unit_cells-append}
 use Rattle.codespan_fitting.specs.Walks.{before_last, last_within, char_bytes, char_cells}
 use Rattle.codespan_fitting.specs.Walks.{BeginsUnit, HaveNoCells, IsPassed}
 use Rattle.codespan_fitting.proofs.UnitLemmas.{with-cell, with-no_cell, units-bytes, units-cells}
@@ -83,11 +84,6 @@ cells-append tab (x ∷ xs) ys = omega (arith, cells-append tab xs ys)
 pub no-cells : (tab : ℕ) (zs : List ℕ) → HaveNoCells tab zs → char_cells tab zs ≡ 0
 no-cells tab [] h = refl
 no-cells tab (z ∷ zs) h = omega (arith, h.0, no-cells tab zs h.1)
-
-pub unit_cells-append : (us vs : List TextUnit)
-    → unit_cells (us ++ vs) ≡ unit_cells us + unit_cells vs
-unit_cells-append [] vs = omega arith
-unit_cells-append (u ∷ us) vs = omega (arith, unit_cells-append us vs)
 
 -- ---- the last units
 

@@ -4,18 +4,12 @@ use Rattle.codespan_core.proofs.Std.{◌∷◌, ◌++◌, length, take, drop, ge
 use Rattle.codespan_core.proofs.Std.{ap₂, sym, ◌∙◌, subst, arith, length-append, append-nil}
 use Rattle.codespan_core.proofs.Std.{append_assoc, take-append-drop, take-append_seam, take-length}
 use Rattle.codespan_core.proofs.Std.{length-encode, IsScalar, len_utf8, encode_utf8}
-use Rattle.codespan_core.proofs.Std.{encode_utf8_all, IsUtf8, chars, IsCharBoundary, ⊎_elim}
-use Rattle.codespan_core.proofs.Std.{cases_lt, length-drop, get_or-drop, length-take-le}
-use Rattle.std.proofs.lemmas.List.{get_or-take}
+use Rattle.codespan_core.proofs.Std.{encode_utf8_all, IsUtf8, chars, IsCharBoundary}
 use Rattle.std.proofs.lemmas.Str.{IsUtf8-past_char, drop_past_char, IsCharBoundary-from_drop}
-use Rattle.std.proofs.lemmas.Str.{IsCharBoundary-at_seam, IsCharBoundary-from_take, IsUtf8-take}
+use Rattle.std.proofs.lemmas.Str.{IsCharBoundary-at_seam, IsUtf8-take}
 use Rattle.std.proofs.lemmas.Str.{IsUtf8-encode, IsCharBoundary-after_ascii, chars_past_char}
 use Rattle.std.proofs.lemmas.Str.{chars-nil, chars-append, encodes-chars}
 use Rattle.codespan_fitting.specs.Walks.{IsAhead, IsBehind, char_bytes}
-
--- the whole text is ahead at its start
-pub ahead-start : (text : List ℕ) → IsUtf8 text → IsAhead text 0 text
-ahead-start text u = record { utf8 = u; rest_is = refl; within = omega arith }
 
 -- a step over one character
 pub ahead-step : (text rest next : List ℕ) (at c : ℕ) → IsAhead text at rest
@@ -33,12 +27,6 @@ pub ahead-boundary : (text rest : List ℕ) (at : ℕ) → IsAhead text at rest
     → IsCharBoundary text at
 ahead-boundary text rest at h =
     IsCharBoundary-from_drop text at (omega (arith, h.within)) (subst IsUtf8 (sym h.rest_is) h.utf8)
-
--- one character more is in the text
-pub ahead-room : (text rest next : List ℕ) (at c : ℕ) → IsAhead text at rest
-    → rest ≡ encode_utf8 c ++ next → at + len_utf8 c ≤ length text
-ahead-room text rest next at c h e =
-    omega (arith, h.within, ap length e, length-append (encode_utf8 c) next, length-encode c)
 
 -- after ASCII a text may be cut
 pub plain-boundary : (text : List ℕ) (at : ℕ) → IsUtf8 text → 0 < at
@@ -96,19 +84,6 @@ behind-step text before next at c h s e =
       within = omega (arith, h.within);
     }
 
--- a text may be cut there
-pub behind-boundary : (text before : List ℕ) (at : ℕ) → IsUtf8 text
-    → IsBehind text at before
-    → IsCharBoundary text at
-behind-boundary text before at u h =
-    IsCharBoundary-from_take text at u h.within (subst IsUtf8 (sym h.before_is) h.utf8)
-
--- one character more is before it
-pub behind-room : (text before next : List ℕ) (at c : ℕ) → IsBehind text at before
-    → before ≡ next ++ encode_utf8 c → len_utf8 c ≤ at
-behind-room text before next at c h e =
-    omega (arith, h.length_is, ap length e, length-append next (encode_utf8 c), length-encode c)
-
 -- the bytes of the characters of a text
 pub encoded-bytes : (cs : List ℕ) → length (encode_utf8_all cs) ≡ char_bytes cs
 encoded-bytes [] = refl
@@ -118,22 +93,3 @@ encoded-bytes (c ∷ cs) =
 
 pub text-bytes : (text : List ℕ) → IsUtf8 text → char_bytes (chars text) ≡ length text
 text-bytes text u = sym (encoded-bytes (chars text)) ∙ ap length (encodes-chars text u)
-
--- a block of ASCII more
-pub plain-more : (bytes : List ℕ) (len n : ℕ)
-    → ((k : ℕ) → k < len → get_or bytes k 0 < 128)
-    → ((k : ℕ) → k < length (take n (drop len bytes))
-    → get_or (take n (drop len bytes)) k 0 < 128)
-    → len + n ≤ length bytes → (k : ℕ) → k < len + n → get_or bytes k 0 < 128
-plain-more bytes len n before block room k h =
-    ⊎_elim (before k)
-    (λ past.
-    let size : length (take n (drop len bytes)) ≡ n =
-    length-take-le n (drop len bytes) (omega (arith, length-drop len bytes, room)) in
-    let short : k - len < n = omega (arith, h, past) in
-    let same : get_or (take n (drop len bytes)) (k - len) 0 ≡ get_or bytes k 0 =
-    get_or-take n (drop len bytes) (k - len) 0 short
-    ∙ get_or-drop len bytes (k - len) 0
-    ∙ ap (λ i. get_or bytes i 0) (omega (arith, past)) in
-    subst (λ x. x < 128) same (block (k - len) (omega (arith, size, short))))
-    (cases_lt k len)

@@ -1,5 +1,5 @@
 -- The gaps of a line.
-use Rattle.std.specs.Prelude.{ℕ, ◌+◌, List, [], ◌∷◌, All, slice_range}
+use Rattle.std.specs.Prelude.{ℕ, ◌+◌, List, [], ◌∷◌, map, All, slice_range}
 use Rattle.std.specs.Str.{IsCharBoundary}
 use Rattle.codespan_output.specs.FittedParts.{Part, part_pieces, piece_cells}
 use Rattle.codespan_output.specs.FittedParts as part
@@ -26,3 +26,7 @@ abbrev pub gap_cells : ℕ → ℕ → List ℕ → List Gap → ℕ
 gap_cells radius tab text [] = 0
 gap_cells radius tab text (gap ∷ gaps) =
     piece_cells (part_pieces radius (gap_part tab text gap)) + gap_cells radius tab text gaps
+
+-- the gaps as parts, with the bytes at which they begin
+abbrev pub placed_gaps : ℕ → List ℕ → List Gap → List (ℕ × Part)
+placed_gaps tab text gaps = map (λ (gap : Gap). (gap.start, gap_part tab text gap)) gaps

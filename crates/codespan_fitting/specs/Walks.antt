@@ -1,11 +1,15 @@
 -- The characters of a text one after another, and the units that they make.
 use Rattle.std.specs.Prelude.{ℕ, ◌≡◌, ◌+◌, ◌-◌, ◌<◌, ◌≤◌, Bool, ◌==◌}
 use Rattle.std.specs.Prelude.{nat_le, if◌then◌else◌, List, [], ◌∷◌, ◌++◌, length}
-use Rattle.std.specs.Prelude.{take, drop, suc, ⊤}
+use Rattle.std.specs.Prelude.{take, drop, suc, ⊤, slice_index}
 use Rattle.std.specs.Str.{chars, IsUtf8}
 use Rattle.std.specs.Char.{len_utf8}
 use Rattle.codespan_output.specs.FittedParts.{TextUnit, cells_at_most, count_before, count_within}
 use Rattle.codespan_output.specs.FittedParts.{units_of}
+
+-- the byte at this index is a printable character of ASCII
+abbrev pub IsPrintableAt : List ℕ → ℕ → Type 0
+IsPrintableAt bytes k = (32 ≤ slice_index bytes k) × (slice_index bytes k ≤ 126)
 
 -- ---- where a loop over characters is
 

@@ -1,7 +1,13 @@
 //! A line that fits a width.
 
-ghost use Rattle.std.specs.Prelude.{◌≡◌, IfOk, length};
-ghost use Rattle.codespan_fitting.specs.Gaps.{AreIn};
+ghost use Rattle.std.specs.Prelude.{◌≡◌, ◌+◌, IfOk, MatchOption, false, map, nat_le};
+ghost use Rattle.codespan_output.specs.CharMetrics.{char_metrics, width_of};
+ghost use Rattle.codespan_output.specs.FittedParts.{chosen_parts, parts_of, shortened};
+ghost use Rattle.codespan_fitting.specs.Cuts.{AreBetweenChars, AreCutsOf, cut_view};
+ghost use Rattle.codespan_fitting.specs.Fitting.{label_spans_of};
+ghost use Rattle.codespan_fitting.specs.Gaps.{AreIn, gap_cells, placed_gaps};
+ghost use Rattle.codespan_fitting.specs.Lines.{IsFitted, IsLeft, line_view};
+ghost use Rattle.codespan_fitting.specs.Parts.{gaps_from};
 
 use crate::buffers::FittingBuffers;
 use crate::cuts::{refill_cuts, write_text};
@@ -46,18 +52,16 @@ pub fn fit_line<'buffers, 'd>(
     buffers: &'buffers mut FittingBuffers<'d>,
     frame: Frame,
     line: FittedLine<'_, 'd>,
-) -> Result<Option<FittedLine<'buffers, 'd>>, AllocError> {
+) -> Result<Option<FittedLine<'buffers, 'd>>, AllocError>
+    ensures { IfOk result (IsFitted frame line.entry) }
+{
     let room = room(frame.width, frame.padding, frame.num_lanes);
     let past_end = past_end(line.text, line.labels);
-    if past_end <= room && text_fits(frame.tab_width, line.text, room - past_end) {
+    if fits(frame.tab_width, line.text, past_end, room) {
         return Ok(None);
     }
-    find_cuts(
-        buffers,
-        frame.tab_width,
-        line,
-        room.saturating_sub(past_end),
-    )?;
+    let left = room.saturating_sub(past_end);
+    find_cuts(buffers, frame.tab_width, line, left)?;
     write_text(&mut buffers.text, line.text, buffers.cuts.as_slice())?;
     move_labels(&mut buffers.labels, buffers.cuts.as_slice(), line.labels)?;
     move_marks(
@@ -72,33 +76,59 @@ pub fn fit_line<'buffers, 'd>(
     }))
 }
 
+/// Returns whether a line has room: its text, and the cell past its end where it needs one.
+fn fits(tab_width: usize, text: &str, past_end: usize, room: usize) -> bool
+    ensures { result ≡ nat_le (width_of (char_metrics tab_width text.now) + past_end) room }
+{
+    past_end <= room && text_fits(tab_width, text, room - past_end)
+}
+
 /// Replaces the cuts with what has to be left out of a line so that it has at most `left` cells.
 fn find_cuts(
     buffers: &mut FittingBuffers<'_>,
     tab_width: usize,
     line: FittedLine<'_, '_>,
     left: usize,
-) -> Result<(), AllocError> {
-    let text = line.text;
-    if text.is_empty() {
+) -> Result<(), AllocError>
+    ensures cuts { IfOk result (λ _. AreCutsOf (shortened left tab_width (line_view 0 0 line.entry))
+        buffers.new.cuts.items) }
+    ensures between { IfOk result (λ _. AreBetweenChars line.entry.text.now 0
+        (map cut_view buffers.new.cuts.items)) }
+{
+    if line.text.is_empty() {
         buffers.cuts.clear();
         return Ok(());
     }
-    let mut for_gaps = find_gaps(buffers, tab_width, line, LabelSpan::Whole, left)?;
-    if !gaps_fit(buffers, tab_width, text, for_gaps) {
-        for_gaps = find_gaps(buffers, tab_width, line, LabelSpan::Ends, left)?;
-    }
+    let for_gaps = choose_gaps(buffers, tab_width, line, left)?;
+    let gaps = buffers.gaps.as_slice();
     let radius = match for_gaps {
-        Some(for_gaps) => find_radius(tab_width, text, buffers.gaps.as_slice(), for_gaps, left),
+        Some(for_gaps) => find_radius(tab_width, line.text, gaps, for_gaps, left),
         None => 0,
     };
-    refill_cuts(
-        &mut buffers.cuts,
-        tab_width,
-        text,
-        buffers.gaps.as_slice(),
-        radius,
-    )
+    refill_cuts(&mut buffers.cuts, tab_width, line.text, gaps, radius)
+}
+
+/// Replaces the spans and gaps with those of a line, of whole labels where these fit and else of
+/// their ends, and returns the cells that the needed units leave of `left`, or `None` where they
+/// are more.
+fn choose_gaps(
+    buffers: &mut FittingBuffers<'_>,
+    tab_width: usize,
+    line: FittedLine<'_, '_>,
+    left: usize,
+) -> Result<Option<usize>, AllocError>
+    ensures within { IfOk result (λ _. AreIn line.entry.text.now buffers.new.gaps.items) }
+    ensures gaps { IfOk result (λ _. placed_gaps tab_width line.entry.text.now
+        buffers.new.gaps.items
+        ≡ gaps_from 0 (chosen_parts left tab_width (line_view 0 0 line.entry))) }
+    ensures rest { IfOk result
+        (IsLeft left (chosen_parts left tab_width (line_view 0 0 line.entry))) }
+{
+    let for_gaps = find_gaps(buffers, tab_width, line, LabelSpan::Whole, left)?;
+    if gaps_fit(buffers, tab_width, line.text, for_gaps) {
+        return Ok(for_gaps);
+    }
+    find_gaps(buffers, tab_width, line, LabelSpan::Ends, left)
 }
 
 /// Replaces the spans and gaps with those of a line, and returns the cells that the needed units
@@ -111,6 +141,12 @@ fn find_gaps(
     left: usize,
 ) -> Result<Option<usize>, AllocError>
     ensures within { IfOk result (λ _. AreIn line.entry.text.now buffers.new.gaps.items) }
+    ensures gaps { IfOk result (λ _. placed_gaps tab_width line.entry.text.now
+        buffers.new.gaps.items
+        ≡ gaps_from 0 (parts_of (label_spans_of label_span) tab_width
+        (line_view 0 0 line.entry))) }
+    ensures rest { IfOk result (IsLeft left (parts_of (label_spans_of label_span) tab_width
+        (line_view 0 0 line.entry))) }
 {
     let bytes = LineBytes {
         len: line.text.len(),
@@ -140,6 +176,11 @@ fn gaps_fit(
     for_gaps: Option<usize>,
 ) -> bool
     requires within { AreIn text.now buffers.now.gaps.items }
+    ensures { MatchOption for_gaps (result ≡ false)
+        (λ rest. result ≡ nat_le (gap_cells 0 tab_width text.now buffers.now.gaps.items) rest) }
 {
-    for_gaps.is_some_and(|left| fits_at(tab_width, text, buffers.gaps.as_slice(), left, 0))
+    match for_gaps {
+        None => false,
+        Some(left) => fits_at(tab_width, text, buffers.gaps.as_slice(), left, 0),
+    }
 }

@@ -1,8 +1,11 @@
 //! The gaps between the needed units of a line.
 
-ghost use Rattle.std.specs.Prelude.{ℕ, IfOk, List};
+ghost use Rattle.std.specs.Prelude.{ℕ, ◌≡◌, ◌+◌, ◌++◌, ◌<◌, IfOk, List, MatchOption};
+ghost use Rattle.std.specs.List.Sorted.{IsNonDecreasingBy};
 ghost use Rattle.std.specs.Str.{IsCharBoundary};
-ghost use Rattle.codespan_fitting.specs.Gaps.{AreIn};
+ghost use Rattle.codespan_fitting.specs.Fitting.{span_views};
+ghost use Rattle.codespan_fitting.specs.Gaps.{AreIn, placed_gaps};
+ghost use Rattle.codespan_fitting.specs.Parts.{gap_between, gaps_from, needed_cells, text_parts};
 
 use crate::gap::Gap;
 use crate::spans::Span;
@@ -18,10 +21,17 @@ pub fn refill_gaps(
     spans: &[Span],
     left: usize,
 ) -> Result<Option<usize>, AllocError>
+    requires sorted { IsNonDecreasingBy (λ s. s.first) spans.now }
     ensures within { IfOk result (λ _. AreIn text.now gaps.new.items) }
+    ensures gaps { IfOk result (λ _. placed_gaps tab_width text.now gaps.new.items
+        ≡ gaps_from 0 (text_parts tab_width text.now (span_views spans.now))) }
+    ensures rest { IfOk result (λ rest. MatchOption rest
+        (left < needed_cells (text_parts tab_width text.now (span_views spans.now)))
+        (λ rest. rest + needed_cells (text_parts tab_width text.now (span_views spans.now))
+        ≡ left)) }
 {
     gaps.clear();
-    let mut left = Some(left);
+    let mut rest = Some(left);
     let mut shown = 0;
     for span in spans {
         let start = unit_start(tab_width, text, span.first);
@@ -31,11 +41,11 @@ pub fn refill_gaps(
         }
         push_gap(gaps, shown, start, true)?;
         let needed = &text[shown.max(start)..end];
-        left = left.and_then(|left| cells_left(tab_width, needed, left));
+        rest = rest.and_then(|rest| cells_left(tab_width, needed, rest));
         shown = end;
     }
     push_gap(gaps, shown, text.len(), false)?;
-    Ok(left)
+    Ok(rest)
 }
 
 /// Appends the gap between two byte indices, if there are bytes between. A needed unit is before
@@ -48,6 +58,10 @@ fn push_gap(
 ) -> Result<(), AllocError>
     ensures within { IfOk result (λ _. (text : List ℕ) → AreIn text gaps.old.items
         → IsCharBoundary text start → IsCharBoundary text end → AreIn text gaps.new.items) }
+    ensures placed { IfOk result (λ _. (tab : ℕ) → (text : List ℕ)
+        → placed_gaps tab text gaps.new.items
+        ≡ placed_gaps tab text gaps.old.items
+        ++ gap_between tab text start end is_before_needed) }
 {
     if start < end {
         gaps.push(Gap {

@@ -1,11 +1,12 @@
 //! How many cells a line has, and how many it may have.
 
-ghost use Rattle.std.specs.Prelude.{◌≡◌, ℕ, ◌<◌, ◌≤◌, IsTrue, length};
-ghost use Rattle.std.specs.Prelude.{slice_index};
+ghost use Rattle.std.specs.Prelude.{◌≡◌, ℕ, ◌<◌, ◌≤◌, IsTrue, length, nat_le};
 ghost use Rattle.std.specs.Char.{IsScalar};
 ghost use Rattle.codespan_fitting.specs.Fitting.{past_end_of, room_of};
 ghost use Rattle.codespan_output.specs.FittedParts.{cells_at_most};
+ghost use Rattle.codespan_fitting.specs.Walks.{IsPrintableAt};
 ghost use Rattle.codespan_output.specs.Arguments.{single_label_views};
+ghost use Rattle.codespan_output.specs.CharMetrics.{char_metrics, width_at, width_of};
 
 use codespan_output::arguments::SingleLabel;
 use codespan_output::rows::carets::max_label_end;
@@ -57,7 +58,9 @@ pub fn past_end(text: &str, labels: &[SingleLabel<'_>]) -> usize
 
 /// Returns whether the cells of the text, tabs at their stops, are at most `left`. It reads no
 /// further than the first character that ends past them.
-pub fn text_fits(tab_width: usize, text: &str, left: usize) -> bool {
+pub fn text_fits(tab_width: usize, text: &str, left: usize) -> bool
+    ensures { result ≡ nat_le (width_of (char_metrics tab_width text.now)) left }
+{
     let mut column = plain_len(text.as_bytes(), left);
     for c in text[column..].chars() {
         let cells = cells_at(tab_width, column, c);
@@ -74,7 +77,7 @@ pub fn text_fits(tab_width: usize, text: &str, left: usize) -> bool {
 fn plain_len(bytes: &[u8], most: usize) -> usize
     ensures within { result ≤ length bytes.now }
     ensures most { result ≤ most }
-    ensures ascii { (k : ℕ) → k < result → slice_index bytes.now k < 128 }
+    ensures printable { (k : ℕ) → k < result → IsPrintableAt bytes.now k }
 {
     let mut len = 0;
     while bytes.len() - len >= BLOCK && most - len >= BLOCK && is_plain(&bytes[len..len + BLOCK]) {
@@ -85,8 +88,7 @@ fn plain_len(bytes: &[u8], most: usize) -> usize
 
 /// Returns whether these bytes are printable ASCII.
 fn is_plain(block: &[u8]) -> bool
-    ensures ascii { IsTrue result → (k : ℕ) → k < length block.now
-        → slice_index block.now k < 128 }
+    ensures { IsTrue result → (k : ℕ) → k < length block.now → IsPrintableAt block.now k }
 {
     let mut plain = true;
     for byte in block {
@@ -97,7 +99,9 @@ fn is_plain(block: &[u8]) -> bool
 
 /// Returns the cells of a character at a column: of a tab those up to its next stop.
 #[inline(always)]
-fn cells_at(tab_width: usize, column: usize, c: char) -> usize {
+fn cells_at(tab_width: usize, column: usize, c: char) -> usize
+    ensures value { result ≡ width_at tab_width column c }
+{
     if c == '\t' && tab_width != 0 {
         return tab_width - column % tab_width;
     }

@@ -1,7 +1,7 @@
 //! The greatest radius at which a line fits.
 
 ghost use Rattle.std.specs.Prelude.{◌≡◌, ◌+◌, ◌-◌, ◌<◌, ◌≤◌, nat_le, true};
-ghost use Rattle.codespan_output.specs.FittedParts.{part_pieces, piece_cells};
+ghost use Rattle.codespan_output.specs.FittedParts.{greatest, part_pieces, piece_cells};
 ghost use Rattle.codespan_fitting.specs.Gaps.{AreIn, IsIn, gap_cells, gap_part};
 ghost use Rattle.codespan_fitting.specs.LeftOut.{dot_ranges, left_out_ranges};
 
@@ -43,28 +43,21 @@ pub fn fits_at(tab_width: usize, text: &str, gaps: &[Gap], left: usize, radius: 
     true
 }
 
-/// Returns the greatest radius up to `greatest` at which the gaps have at most `left` cells, 0
-/// where there is none.
-pub fn find_radius(
-    tab_width: usize,
-    text: &str,
-    gaps: &[Gap],
-    left: usize,
-    greatest: usize,
-) -> usize
+/// Returns the greatest radius up to `most` at which the gaps have at most `left` cells, 0 where
+/// there is none.
+pub fn find_radius(tab_width: usize, text: &str, gaps: &[Gap], left: usize, most: usize) -> usize
     requires within { AreIn text.now gaps.now }
-    ensures bound { result ≤ greatest }
-    ensures fits { 0 < result
-        → nat_le (gap_cells result tab_width text.now gaps.now) left ≡ true }
+    ensures { result
+        ≡ greatest (λ r. nat_le (gap_cells r tab_width text.now gaps.now) left) most }
 {
     let mut least = 0;
-    let mut greatest = greatest;
-    while least < greatest {
-        let radius = greatest - (greatest - least) / 2;
+    let mut most = most;
+    while least < most {
+        let radius = most - (most - least) / 2;
         if fits_at(tab_width, text, gaps, left, radius) {
             least = radius;
         } else {
-            greatest = radius - 1;
+            most = radius - 1;
         }
     }
     least

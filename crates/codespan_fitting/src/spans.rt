@@ -1,9 +1,12 @@
 //! What of a line has to be shown, as stretches of its bytes.
 
-ghost use Rattle.std.specs.Prelude.{◌≡◌};
-ghost use Rattle.codespan_fitting.specs.Fitting.{mark_span_views};
+ghost use Rattle.std.specs.Prelude.{◌≡◌, ◌++◌, IfOk, map};
+ghost use Rattle.std.specs.List.Sorted.{IsNonDecreasingBy, IsPermutation};
+ghost use Rattle.codespan_fitting.specs.Fitting.{label_spans_of, mark_span_views, span_view};
+ghost use Rattle.codespan_fitting.specs.Fitting.{span_views, spans_of};
 ghost use Rattle.codespan_output.specs.FittedParts.{first_byte, last_byte, mark_spans};
-ghost use Rattle.codespan_output.specs.Arguments.{multi_label_view};
+ghost use Rattle.codespan_output.specs.Arguments.{lane_mark_view, multi_label_view};
+ghost use Rattle.codespan_output.specs.Arguments.{single_label_view, single_label_views};
 
 use codespan_core::diagnostic::LabelStyle;
 use codespan_output::arguments::{MultiLabel, SingleLabel};
@@ -54,7 +57,13 @@ pub fn refill_spans(
     label_span: LabelSpan,
     labels: &[SingleLabel<'_>],
     lane_marks: &[(usize, LabelStyle, MultiLabel<'_>)],
-) -> Result<(), AllocError> {
+) -> Result<(), AllocError>
+    ensures spans { IfOk result (λ _. IsPermutation
+        (spans_of (label_spans_of label_span) line.len line.leading
+        (single_label_views labels.now) (map lane_mark_view lane_marks.now))
+        (span_views spans.new.items)) }
+    ensures sorted { IfOk result (λ _. IsNonDecreasingBy (λ s. s.first) spans.new.items) }
+{
     spans.clear();
     for label in labels {
         push_label_spans(spans, line.len, label_span, label)?;
@@ -77,7 +86,11 @@ fn push_label_spans(
     n: usize,
     label_span: LabelSpan,
     label: &SingleLabel<'_>,
-) -> Result<(), AllocError> {
+) -> Result<(), AllocError>
+    ensures { IfOk result (λ _. span_views spans.new.items
+        ≡ span_views spans.old.items
+        ++ label_spans_of label_span n (single_label_view label.now)) }
+{
     let first = first_byte(n, label.1.start);
     let last = last_byte(n, label.1.end);
     match label_span {

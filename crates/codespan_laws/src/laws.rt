@@ -19,6 +19,8 @@ ghost use Rattle.codespan_laws.specs.ColorLaws.{ColorsChangeNoText, NoColorIsPla
 ghost use Rattle.codespan_output.specs.CaretLaws.{CaretsAreCells, PointersAreCells};
 ghost use Rattle.codespan_output.specs.CaretLaws.{StartsHaveCells};
 ghost use Rattle.codespan_output.specs.RichLaws.{MeansLabels, NoneReversed};
+ghost use Rattle.codespan_output.specs.FittedLineLaws.{LinesFitWidths};
+ghost use Rattle.codespan_output.specs.FittingLaws.{WiderRadiusHasMoreCells};
 ghost use Rattle.codespan_output.specs.LaneLaws.{BarsAreLabels, LanesJoinCorners, LanesAreShown};
 ghost use Rattle.codespan_output.specs.LineLaws.{BreaksHaveBars, BreaksReplaceLines};
 ghost use Rattle.codespan_output.specs.LineLaws.{RowsAreOfShownLines, PaddingFits};
@@ -225,4 +227,20 @@ pub fn colors_change_no_text<Id>()
         (renderer_config view_config : Config) (files : FileDatabase Id) (d : Diagnostic Id)
         (loci : List Locus)
         → NoColorIsPlain styles (output display_style renderer_config view_config files d loci) }
+{}
+
+// ---- lines that fit a width
+
+/// States that a line that is shortened never has fewer cells at a wider radius, whatever of its
+/// labels has to be shown.
+pub fn wider_radius_has_more_cells()
+    ensures { (label_spans : ℕ → LabelModel → List (ℕ × ℕ)) (tab_width : ℕ) (line : Line)
+        → WiderRadiusHasMoreCells label_spans tab_width line }
+{}
+
+/// States what a line is that fits a width, by its definition in `FittedLines`: what it shows of
+/// the line, and where its labels are, what its rows are, how many cells it has, and that to fit it
+/// once more changes nothing.
+pub fn lines_fit_widths()
+    ensures { LinesFitWidths }
 {}

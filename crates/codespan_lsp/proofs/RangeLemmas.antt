@@ -15,7 +15,7 @@ use Rattle.codespan_lsp.proofs.LawLemmas.{positions-ascend}
 use Rattle.std.proofs.lemmas.Grind.{common_steps}
 
 -- neither of two errors
-neither : (o p : Option Error) → or_failure o p ≡ None → (o ≡ None) × (p ≡ None)
+pub neither : (o p : Option Error) → or_failure o p ≡ None → (o ≡ None) × (p ≡ None)
 neither None p h = (refl, h)
 neither (Some e) p h = cc
 
@@ -35,7 +35,7 @@ column-passes text start end byte h = grind (arith, common_steps, tests-pass, na
 
 module _ (encoding : PositionEncoding) (f : FileModel) where
   -- so a byte whose position is found is on its line
-  found-on-line : (failure : Lookup → Option Error) (byte : ℕ)
+  pub found-on-line : (failure : Lookup → Option Error) (byte : ℕ)
       → position_failure encoding f failure byte ≡ None → IsOnLine f byte
   found-on-line failure byte h = grind (arith, common_steps, neither, column-passes)
 

@@ -9,3 +9,5 @@ pub mod DrawnLines
 pub mod Order
 pub mod Utf8
 pub mod Outputs
+pub mod Fitting
+pub mod WiderRadius

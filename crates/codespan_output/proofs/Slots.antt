@@ -11,3 +11,4 @@ pub mod RefilledLines
 pub mod RefilledLine
 pub mod RefilledOutput
 pub mod RefilledRows
+pub mod RefilledFitting

@@ -8,3 +8,4 @@ pub mod Streams
 pub mod Texts
 pub mod ListElements
 pub mod Sequences
+pub mod FittedRows

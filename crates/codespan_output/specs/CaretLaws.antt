@@ -4,6 +4,7 @@ use Rattle.std.specs.Prelude.{◌≡◌, ℕ, ◌<◌, Bool, ◌&&◌, ◌==◌,
 use Rattle.std.specs.Prelude.{map, Contains, IsTrue, encode_utf8_all, if◌then◌else◌, find}
 use Rattle.std.specs.Prelude.{nat_le, nat_lt, ◌+◌}
 use Rattle.std.specs.List.{list_any, range_with_len}
+use Rattle.std.specs.Str.{byte}
 use Rattle.codespan_output.specs.Types.{Chars}
 use Rattle.codespan_core.specs.Labels.{LabelModel}
 use Rattle.codespan_core.specs.Streams.{text_of, space}
@@ -48,7 +49,7 @@ points_at labels cs k =
 -- the first `n` cells of a pointer row
 abbrev pub pointer_cells : Chars → List LabelModel → List Metrics → ℕ → List ℕ
 pointer_cells chars labels cs n =
-    map (λ k. if points_at labels cs k then chars.pointer_left else 32) (range_with_len 0 n)
+    map (λ k. if points_at labels cs k then chars.pointer_left else byte " ") (range_with_len 0 n)
 
 -- no hanging label starts in a character of width 0
 abbrev pub StartsHaveCells : List LabelModel → List Metrics → Type 0

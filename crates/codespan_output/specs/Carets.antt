@@ -1,7 +1,8 @@
 -- The carets under a line: in which cells they are, and of which style.
-use Rattle.std.specs.Prelude.{ℕ, ◌+◌, max, min, Bool, ◌&&◌, nat_lt, List, ◌∷◌, fold}
-use Rattle.std.specs.Prelude.{Option, Some, None, if◌then◌else◌, []}
+use Rattle.std.specs.Prelude.{ℕ, ◌+◌, max, min, Bool, ◌&&◌, nat_lt, List, fold}
+use Rattle.std.specs.Prelude.{Option, Some, None, if◌then◌else◌}
 use Rattle.std.specs.List.{list_any}
+use Rattle.std.specs.Str.{byte}
 use Rattle.codespan_output.specs.Types.{LabelStyle, Primary, Secondary, Chars}
 use Rattle.codespan_core.specs.Labels.{LabelModel, is_primary}
 use Rattle.codespan_output.specs.declared.char_metrics.Metrics.{Metrics}
@@ -33,6 +34,6 @@ max_label_end labels = fold (λ m (x : LabelModel). max m x.end) 0 labels
 
 -- the caret of a style, and a space for none
 abbrev pub caret_for : Chars → Option LabelStyle → ℕ
-caret_for chars None = 32
+caret_for chars None = byte " "
 caret_for chars (Some Primary) = chars.single_primary_caret
 caret_for chars (Some Secondary) = chars.single_secondary_caret

@@ -3,14 +3,14 @@ use Rattle.std.specs.Prelude.{ℕ, ◌+◌, ◌-◌, ◌%◌, Bool, false, ◌||
 use Rattle.std.specs.Prelude.{if◌then◌else◌, unwrap_or, List, ◌∷◌, length, sum_by, take}
 use Rattle.std.specs.Prelude.{take_while, []}
 use Rattle.std.specs.List.{suffix_len}
-use Rattle.std.specs.Str.{chars}
+use Rattle.std.specs.Str.{byte, chars}
 use Rattle.std.specs.Char.{len_utf8, is_whitespace}
 use Rattle.codespan_output.specs.declared.char_metrics.Metrics.{Metrics}
 use Rattle.unicode_width.specs.Width.{char_width}
 
 -- the byte is a line feed, a carriage return or NUL, which are not rendered at a line's end
 abbrev pub is_line_end : ℕ → Bool
-is_line_end b = (b == 10) || (b == 13) || (b == 0)
+is_line_end b = (b == byte "\n") || (b == byte "\r") || (b == 0)
 
 -- the text of a line as it is rendered: without such bytes at its end
 abbrev pub text_without_line_end : List ℕ → List ℕ
@@ -20,7 +20,7 @@ text_without_line_end text = take (length text - suffix_len is_line_end text) te
 -- any other what `unicode_width` returns (`false`: not the CJK width), none where it returns none
 abbrev pub width_at : ℕ → ℕ → ℕ → ℕ
 width_at tab column c =
-    if c == 9 then (if tab == 0 then 0 else tab - column % tab)
+    if c == byte "\t" then (if tab == 0 then 0 else tab - column % tab)
     else unwrap_or (char_width false c) 0
 
 -- these characters with their cells, the first at this byte index and column, and then the list
@@ -45,7 +45,7 @@ char_metrics tab line = metrics_then (λ _ _. []) tab 0 0 (chars line)
 -- the placeholder after the last character: a space, of one byte and one cell
 abbrev pub placeholder : ℕ → ℕ → List Metrics
 placeholder byte_index column =
-    record { ch = 32; byte_index = byte_index; bytes = 1; column = column; unicode_width = 1 }
+    record { ch = byte " "; byte_index = byte_index; bytes = 1; column = column; unicode_width = 1 }
     ∷ []
 
 -- the characters of a line with their cells, and the placeholder after the last one

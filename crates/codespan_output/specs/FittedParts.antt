@@ -3,7 +3,7 @@ use Rattle.std.specs.Prelude.{ℕ, ◌+◌, ◌-◌, min, Bool, true, false, ◌
 use Rattle.std.specs.Prelude.{nat_lt, nat_le, if◌then◌else◌, List, [], ◌∷◌, ◌++◌}
 use Rattle.std.specs.Prelude.{length, map, flat_map, take, drop, unwrap_or, zero, suc}
 use Rattle.std.specs.List.{list_any}
-use Rattle.std.specs.Str.{chars}
+use Rattle.std.specs.Str.{byte, chars}
 use Rattle.std.specs.Char.{len_utf8}
 use Rattle.unicode_width.specs.Width.{char_width}
 use Rattle.codespan_core.specs.Labels.{LabelModel, LaneMark, MultiLabel, Top, Left, Bottom}
@@ -21,7 +21,7 @@ pub record TextUnit : Type 0 where
 
 -- the cells of a character, of a tab as many as it can have: those between two tab stops
 abbrev pub cells_at_most : ℕ → ℕ → ℕ
-cells_at_most tab c = if c == 9 then tab else unwrap_or (char_width false c) 0
+cells_at_most tab c = if c == byte "\t" then tab else unwrap_or (char_width false c) 0
 
 -- a character before these units: it takes in the first of them, where that has no cells
 abbrev pub with_char : ℕ → ℕ → List TextUnit → List TextUnit

@@ -19,7 +19,6 @@ pub mod Snippets
 pub mod Padding
 pub mod OutputStreams
 pub mod Picture
-pub mod ViewPictures
 pub mod Lookups
 -- labels, lane marks and loci as calls take them
 pub mod Arguments
@@ -32,8 +31,10 @@ pub mod RowLaws
 pub mod SortLaws
 pub mod Utf8Laws
 pub mod TrailingLaws
+pub mod FittedLineLaws
 pub mod StatedNames
 pub mod RichLaws
+pub mod FittingLaws
 -- what each call of `Renderer` renders
 pub mod RenderedRows
 -- definitions for proofs, and for the contracts of calls that users do not name
@@ -55,7 +56,6 @@ unfoldable pub use Rattle.codespan_output.specs.Snippets.*
 unfoldable pub use Rattle.codespan_output.specs.Padding.*
 unfoldable pub use Rattle.codespan_output.specs.OutputStreams.*
 unfoldable pub use Rattle.codespan_output.specs.Picture.*
-unfoldable pub use Rattle.codespan_output.specs.ViewPictures.*
 unfoldable pub use Rattle.codespan_output.specs.Lookups.*
 unfoldable pub use Rattle.codespan_output.specs.Arguments.*
 unfoldable pub use Rattle.codespan_output.specs.CaretLaws.*
@@ -66,6 +66,8 @@ unfoldable pub use Rattle.codespan_output.specs.RowLaws.*
 unfoldable pub use Rattle.codespan_output.specs.SortLaws.*
 unfoldable pub use Rattle.codespan_output.specs.Utf8Laws.*
 unfoldable pub use Rattle.codespan_output.specs.TrailingLaws.*
+unfoldable pub use Rattle.codespan_output.specs.FittedLineLaws.*
 unfoldable pub use Rattle.codespan_output.specs.StatedNames.*
 unfoldable pub use Rattle.codespan_output.specs.RichLaws.*
+unfoldable pub use Rattle.codespan_output.specs.FittingLaws.*
 unfoldable pub use Rattle.codespan_output.specs.RenderedRows.*

@@ -3,9 +3,11 @@ use Rattle.std.specs.Prelude.{◌≡◌, ℕ, Bool, List, ◌++◌, map, string_
 use Rattle.std.specs.List.{AllByRecursion, AllZip}
 use Rattle.std.specs.Option.{option_map}
 use Rattle.std.specs.Str.{IsUtf8}
+use Rattle.std.specs.declared.ops.Range.{Range}
 use Rattle.codespan_output.specs.Types.{Config, DisplayStyle, Rich, Medium, Short, Diagnostic}
-use Rattle.codespan_output.specs.Types.{Label, Severity}
+use Rattle.codespan_output.specs.Types.{Label, LabelStyle, Severity}
 use Rattle.codespan_core.specs.FileModel.{FileDatabase, FileModel}
+use Rattle.codespan_core.specs.Labels.{LabelModel}
 use Rattle.codespan_core.specs.Streams.{Stream, byte_stream}
 use Rattle.codespan_output.specs.Padding.{padding_of}
 use Rattle.codespan_output.specs.Rows.{HeaderText, Locus, RowContext}
@@ -16,17 +18,15 @@ use Rattle.codespan_output.specs.Snippets.{primary_of, rich_rows}
 
 -- ---- a diagnostic, as its output reads it
 
--- a label
+-- a label by its style, its range and the text of its message
+abbrev pub label_model : LabelStyle → Range ℕ → List ℕ → LabelModel
+label_model style range message =
+    record { style = style; start = range.start; end = range.end; message = byte_stream message }
+
+-- a label of the diagnostic
 abbrev pub label_of : {Id : Type 0} → Label Id → LabelInFile Id
-label_of x = record {
-  file_id = x.file_id;
-  label = record {
-    style = x.style;
-    start = x.range.start;
-    end = x.range.end;
-    message = byte_stream (string_bytes x.message);
-  };
-}
+label_of x =
+    record { file_id = x.file_id; label = label_model x.style x.range (string_bytes x.message) }
 
 -- the labels in the order given
 abbrev pub labels_of : {Id : Type 0} → Diagnostic Id → List (LabelInFile Id)

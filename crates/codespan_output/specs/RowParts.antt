@@ -6,6 +6,7 @@ use Rattle.std.specs.Prelude.{fold, flat_map, Option, Some, None, codes, decimal
 use Rattle.std.specs.Prelude.{if◌then◌else◌}
 use Rattle.std.specs.Option.{option_and_then, option_map_or}
 use Rattle.std.specs.List.{list_any, range_with_len, zip, last_or}
+use Rattle.std.specs.Str.{byte}
 use Rattle.codespan_output.specs.Types.{Severity, LabelStyle, Primary, Secondary, Chars}
 use Rattle.codespan_core.specs.Streams.{Stream, style_mark, glyph, byte_stream, spaces, space}
 use Rattle.codespan_core.specs.Streams.{repeated}
@@ -161,7 +162,7 @@ source_style line c =
 
 -- a character of the source as it is written: a tab as spaces
 unfoldable pub source_glyph : Metrics → Stream
-source_glyph c = if c.ch == 9 then spaces c.unicode_width else glyph c.ch
+source_glyph c = if c.ch == byte "\t" then spaces c.unicode_width else glyph c.ch
 
 -- the text of a source row
 unfoldable pub colored_text : RowContext → Line → Stream

@@ -16,9 +16,9 @@ use Rattle.codespan_output.specs.declared.rows.lanes.LaneRowKind.TheVariants.{Un
 use Rattle.codespan_output.specs.{leading_whitespace, LaneMarkTuple, lane_mark_view}
 use Rattle.codespan_output.specs.{multi_label_view, RowContext, Line, UnderlineRow, has_underline}
 use Rattle.codespan_output.specs.{inner_gutter, underline, underline_message, first_note_row}
-use Rattle.codespan_output.specs.{later_note_row, stream_of_rows, later_note_rows_stream}
+use Rattle.codespan_output.specs.{later_note_row, stream_of, stream_of_rows, later_note_rows_stream}
 use Rattle.codespan_output.specs.Private.{row_lanes_stream, underline_by_width, underline_width}
-use Rattle.codespan_output.specs.Private.{note_bullet, note_row_stream, underline_row}
+use Rattle.codespan_output.specs.Private.{note_bullet, note_row_stream}
 use Rattle.codespan_output.specs.Rows.{Lanes}
 use Rattle.codespan_core.proofs.Loops.{StillToWrite}
 use Rattle.codespan_output.specs.declared.arguments.MultiLabel as rust_multi_label
@@ -93,8 +93,8 @@ pub underlines-in : (context : RowContext) (line : Line) (leading : ℕ)
     → i < length lane_marks
     → leading ≡ leading_whitespace line.text
     → has_underline leading (multi_label_view (get_or lane_marks i d).2) ≡ true
-    → underlines_of context line (drop i lane_marks) ≡ underline_row context line
-    (lane_mark_view (get_or lane_marks i d)) ++ newline
+    → underlines_of context line (drop i lane_marks) ≡ stream_of context
+    (UnderlineRow line (lane_mark_view (get_or lane_marks i d))) ++ newline
     ++ underlines_of context line (drop (i + 1) lane_marks)
 underlines-in context line leading lane_marks i d h e t =
     let k : has_underline (leading_whitespace line.text)

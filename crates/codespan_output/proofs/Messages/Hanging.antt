@@ -11,9 +11,9 @@ use Rattle.codespan_core.specs.Labels.{LabelModel, has_message}
 use Rattle.codespan_core.specs.Streams.{Stream, newline}
 use Rattle.codespan_output.specs.{max_label_end, SingleLabelTuple, single_label_view}
 use Rattle.codespan_output.specs.{single_label_views, RowContext, Line, HangingRow, trailing_label}
-use Rattle.codespan_output.specs.{hanging_labels, stream_of, stream_of_rows}
+use Rattle.codespan_output.specs.{hanging_labels, stream_of, stream_of_rows, PointerRow}
 use Rattle.codespan_output.specs.Private.{indexed_label_view, AreHanging, hanging_stream}
-use Rattle.codespan_output.specs.Private.{pointer_and_hanging_rows, hanging_row, pointer_row}
+use Rattle.codespan_output.specs.Private.{pointer_and_hanging_rows}
 use Rattle.codespan_output.specs.Private.{last_with_end, does_trail, indexed_trailing_label}
 use Rattle.codespan_output.proofs.Messages.TrailingLabel.{is_empty_bytes, entry_is, without_at}
 use Rattle.codespan_output.proofs.Messages.Rightmost.{trailing-indexed, hanging-indexed}
@@ -141,7 +141,8 @@ hanging_parts labels before after h =
 -- the message of the last label is first
 hanging_push : (context : RowContext) (line : Line) (xs : List LabelModel) (x : LabelModel)
     → hanging_stream context line
-    (xs ++ x ∷ []) ≡ (hanging_row context line x ++ newline) ++ hanging_stream context line xs
+    (xs ++ x ∷ []) ≡ (stream_of context (HangingRow line x) ++ newline)
+    ++ hanging_stream context line xs
 hanging_push context line xs x = rw (reverse-append xs (x ∷ [])) refl
 
 -- the labels with a message, of these and one more
@@ -158,7 +159,7 @@ pub hanging_first : (context : RowContext) (line : Line) (left rest : List Singl
     → left ≡ push rest x
     → empty ≡ (length x.2.now == 0) → empty ≡ false
     → hanging_stream context line (filter has_message (single_label_views left))
-    ≡ (hanging_row context line (single_label_view x) ++ newline)
+    ≡ (stream_of context (HangingRow line (single_label_view x)) ++ newline)
     ++ hanging_stream context line (filter has_message (single_label_views rest))
 hanging_first context line left rest x empty step is some =
     rw (step, messages_push rest x true (ap not (sym is ∙ some)))
@@ -239,7 +240,7 @@ nothing_hangs context line labels before after h early late =
 -- the pointers, and the messages that hang, the last one first
 rows_are : (context : RowContext) (line : Line) (xs : List LabelModel) → (xs ≡ [] → ⊥)
     → stream_of_rows context
-    (pointer_and_hanging_rows line xs) ≡ (pointer_row context line ++ newline)
+    (pointer_and_hanging_rows line xs) ≡ (stream_of context (PointerRow line) ++ newline)
     ++ hanging_stream context line xs
 rows_are context line [] h = absurd (h refl)
 rows_are context line (x ∷ xs) h = refl
@@ -269,7 +270,7 @@ pub all_hanging : (context : RowContext) (line : Line) (labels before after : Li
     ⊎ (list_any has_message (single_label_views after) ≡ true)
     → stream_of_rows context (pointer_and_hanging_rows line
     (hanging_labels (single_label_views labels)))
-    ≡ pointer_row context line ++ newline
+    ≡ stream_of context (PointerRow line) ++ newline
     ++ hanging_stream context line (filter has_message (single_label_views after))
     ++ hanging_stream context line (filter has_message (single_label_views before))
 all_hanging context line labels before after h some =
@@ -280,8 +281,8 @@ all_hanging context line labels before after h some =
     ∙ rows_are context line (early ++ late)
     (λ none. ⊎_elim (λ b. some_message before b (none-left early late none))
     (λ a. some_message after a (none-right early late none)) some)
-    ∙ ap (λ (s : Stream). (pointer_row context line ++ newline) ++ s)
+    ∙ ap (λ (s : Stream). (stream_of context (PointerRow line) ++ newline) ++ s)
     (hanging_append context line early late)
     ∙ sym
-    (append_assoc (pointer_row context line ++ newline) (hanging_stream context line late)
-    (hanging_stream context line early))
+    (append_assoc (stream_of context (PointerRow line) ++ newline)
+    (hanging_stream context line late) (hanging_stream context line early))

@@ -91,7 +91,7 @@ abbrev pub Ascends : List LabelModel → Type 0
 Ascends = Rises range_precedes
 
 -- what holds of the inserted label and of the others holds of all
-each-insert_sorted : (P : LabelModel → Type 0) (x : LabelModel) (ys : List LabelModel) → P x
+pub each-insert_sorted : (P : LabelModel → Type 0) (x : LabelModel) (ys : List LabelModel) → P x
     → AllByRecursion P ys → AllByRecursion P (insert_sorted x ys)
 each-insert_sorted P x [] h k = (h, tt)
 each-insert_sorted P x (y ∷ ys) h k =

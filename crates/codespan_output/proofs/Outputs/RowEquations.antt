@@ -13,9 +13,9 @@ use Rattle.codespan_output.specs.declared.rows.lanes.LaneRowKind.TheVariants.{Si
 use Rattle.codespan_output.specs.{SingleLabelTuple, single_label_views, RowContext, Line, Row}
 use Rattle.codespan_output.specs.{SourceRow, hanging_labels, rows_of, bracketed, stream_of}
 use Rattle.codespan_output.specs.{stream_of_rows, char_metrics, metrics_before, style_change}
-use Rattle.codespan_output.specs.{outer_gutter, inner_gutter}
+use Rattle.codespan_output.specs.{outer_gutter, inner_gutter, CaretRow}
 use Rattle.codespan_output.specs.Private.{row_lanes_stream, caret_rows, pointer_and_hanging_rows}
-use Rattle.codespan_output.specs.Private.{underline_rows, caret_row, source_row}
+use Rattle.codespan_output.specs.Private.{underline_rows}
 use Rattle.codespan_output.specs.Rows.{Lanes}
 use Rattle.codespan_core.proofs.Writes.{byte_stream-append}
 use Rattle.codespan_core.proofs.Repeats.{repeat-add}
@@ -104,7 +104,8 @@ row_and_end context row = stream_of context row ++ newline
 -- the rows of a line are its source row, its caret row, its pointer and hanging rows, and its
 -- underlines
 pub line_rows : (context : RowContext) (line : Line) → stream_of_rows context (rows_of line)
-    ≡ source_row context line ++ newline ++ stream_of_rows context (caret_rows line line.labels)
+    ≡ stream_of context (SourceRow line) ++ newline
+    ++ stream_of_rows context (caret_rows line line.labels)
     ++ stream_of_rows context (pointer_and_hanging_rows line (hanging_labels line.labels))
     ++ stream_of_rows context (underline_rows line)
 line_rows context line =
@@ -126,10 +127,10 @@ caret_rows_none context line (x ∷ xs) h = absurd (omega arith)
 -- a line with labels has one
 pub caret_rows_some : (context : RowContext) (line : Line) (labels : List SingleLabelTuple)
     → 1 ≤ length labels
-    → stream_of_rows context (caret_rows line (single_label_views labels)) ≡ caret_row context
-    line ++ newline
+    → stream_of_rows context (caret_rows line (single_label_views labels)) ≡ stream_of context
+    (CaretRow line) ++ newline
 caret_rows_some context line [] h = absurd (omega arith)
-caret_rows_some context line (x ∷ xs) h = append-nil (caret_row context line ++ newline)
+caret_rows_some context line (x ∷ xs) h = append-nil (stream_of context (CaretRow line) ++ newline)
 
 -- ---- characters before a byte index
 

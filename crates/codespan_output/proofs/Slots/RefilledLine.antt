@@ -30,7 +30,7 @@ pub map-ext : {X Y : Type 0} (f g : X → Y) → ((x : X) → f x ≡ g x) → (
 map-ext f g h [] = refl
 map-ext f g h (x ∷ xs) = ap₂ (λ y ys. y ∷ ys) (h x) (map-ext f g h xs)
 
-reverse-map : {X Y : Type 0} (f : X → Y) (xs : List X)
+pub reverse-map : {X Y : Type 0} (f : X → Y) (xs : List X)
     → reverse (map f xs) ≡ map f (reverse xs)
 reverse-map f [] = refl
 reverse-map f (x ∷ xs) =

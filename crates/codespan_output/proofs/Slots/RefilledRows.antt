@@ -26,7 +26,7 @@ use Rattle.codespan_output.proofs.Slots.RefilledLanes.{underline_lanes-refilled}
 use Rattle.codespan_output.proofs.Slots.RefilledLanes.{trailing_label-refilled}
 use Rattle.codespan_output.proofs.Slots.RefilledLines.{colored_text-refilled, carets-refilled}
 use Rattle.codespan_output.proofs.Slots.RefilledLines.{pointers-refilled}
-use Rattle.codespan_output.specs.Private.{break_row, empty_row, leading_of, row_start, source_row}
+use Rattle.codespan_output.specs.Private.{leading_of, row_start}
 use Rattle.codespan_output.proofs.Slots.Rows as slot
 use Rattle.codespan_output.proofs.Slots.Parts as slot_part
 
@@ -202,17 +202,17 @@ module _ (m : ℕ → List ℕ) (full : (k : ℕ) → is_empty (map Byte (m k)) 
     fill-row context (SnippetStartRow at) =
         without_slots _ (λ k. slot.slots-stream_of k context (SnippetStartRow at)) refl
     fill-row context (EmptyRow lanes) =
-        without_slots (empty_row context lanes)
+        without_slots (stream_of context (EmptyRow lanes))
         (λ k. slot.slots-stream_of k context (EmptyRow lanes))
         (ap (λ s. outer_gutter context.padding ++ border_left context.chars ++ s)
         (plain_lanes-refilled (fill m) keeps context lanes))
     fill-row context (BreakRow lanes) =
-        without_slots (break_row context lanes)
+        without_slots (stream_of context (BreakRow lanes))
         (λ k. slot.slots-stream_of k context (BreakRow lanes))
         (ap (λ s. outer_gutter context.padding ++ border_left_break context.chars ++ s)
         (plain_lanes-refilled (fill m) keeps context lanes))
     fill-row context (SourceRow line) =
-        without_slots (source_row context line)
+        without_slots (stream_of context (SourceRow line))
         (λ k. slot.slots-stream_of k context (SourceRow line))
         (ap₂
         (λ a b. outer_gutter_number context.padding line.number ++ border_left context.chars ++ a

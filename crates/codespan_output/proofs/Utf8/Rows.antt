@@ -48,8 +48,7 @@ use Rattle.codespan_output.proofs.Utf8.Lanes.{text-label_glyph, text-lane_charac
 use Rattle.codespan_output.proofs.Utf8.Lanes.{scalar-caret_for, scalar-start_caret}
 use Rattle.codespan_output.proofs.Utf8.Lanes.{scalar-end_caret, scalar-char_metrics}
 use Rattle.codespan_output.proofs.Utf8.Lanes.{text-source_glyph, MultiLabelIsUtf8, RowIsUtf8}
-use Rattle.codespan_output.specs.Private.{inner_gutter_column, hanging_row, leading_of, row_start}
-use Rattle.codespan_output.specs.Private.{underline_row}
+use Rattle.codespan_output.specs.Private.{inner_gutter_column, leading_of, row_start}
 use Rattle.codespan_output.proofs.Characters.Styled.{carets-is, colored_text-is}
 
 -- ---- rows
@@ -203,8 +202,7 @@ module _ (context : RowContext) (ok : CharsAreScalars context.chars) where
 
   -- the stream of a row is a text where what it is rendered from are texts
   pub text-row : (row : Row) → RowIsUtf8 row → StreamIsUtf8 (stream_of context row)
-  unfolding header_row snippet_start_row
-      hanging_row underline_row first_note_row later_note_row
+  unfolding header_row snippet_start_row first_note_row later_note_row
   text-row (HeaderRow at header_text) h =
       followed
       (followed

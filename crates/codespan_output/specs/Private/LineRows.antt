@@ -5,11 +5,10 @@ use Rattle.std.specs.Option.{option_map_or}
 use Rattle.codespan_core.specs.Labels.{LabelModel, LaneMark, is_empty, multi_line_labels}
 use Rattle.codespan_output.specs.CharMetrics.{leading_whitespace}
 use Rattle.codespan_core.specs.Streams.{Stream, space}
-use Rattle.codespan_output.specs.Rows.{RowContext, Lanes, Line, Row, EmptyRow, BreakRow, SourceRow}
-use Rattle.codespan_output.specs.Rows.{CaretRow, PointerRow, HangingRow, UnderlineRow}
+use Rattle.codespan_output.specs.Rows.{RowContext, Line, Row, BreakRow, CaretRow, PointerRow}
+use Rattle.codespan_output.specs.Rows.{HangingRow, UnderlineRow}
 use Rattle.codespan_output.specs.Rows.{has_underline, row_if_any, rows_of}
 use Rattle.codespan_output.specs.RowParts.{gutters}
-use Rattle.codespan_output.specs.RowStreams.{stream_of}
 use Rattle.codespan_output.specs.Snippets.{LabeledFileModel}
 
 -- the caret row of a line that has these labels, if it has any
@@ -35,28 +34,6 @@ leading_of line = leading_whitespace line.text
 -- what the caret, pointer and hanging rows of a line begin with
 abbrev pub row_start : RowContext → Line → Stream
 row_start context line = gutters context (CaretRow line) line.lanes ++ space
-
--- the streams of an empty row, and of those that show something of lines
-abbrev pub empty_row : RowContext → Lanes → Stream
-empty_row context lanes = stream_of context (EmptyRow lanes)
-
-abbrev pub break_row : RowContext → Lanes → Stream
-break_row context lanes = stream_of context (BreakRow lanes)
-
-abbrev pub source_row : RowContext → Line → Stream
-source_row context line = stream_of context (SourceRow line)
-
-abbrev pub caret_row : RowContext → Line → Stream
-caret_row context line = stream_of context (CaretRow line)
-
-abbrev pub pointer_row : RowContext → Line → Stream
-pointer_row context line = stream_of context (PointerRow line)
-
-abbrev pub hanging_row : RowContext → Line → LabelModel → Stream
-hanging_row context line x = stream_of context (HangingRow line x)
-
-abbrev pub underline_row : RowContext → Line → LaneMark → Stream
-underline_row context line m = stream_of context (UnderlineRow line m)
 
 -- the rows of a line
 abbrev pub line_rows : (ℕ → Line) → ℕ → List Row

@@ -7,7 +7,8 @@ ghost use Rattle.codespan_core.specs.WriterLaw.{Writes};
 ghost use Rattle.codespan_output.specs.Private.LineViews.{context_view, lanes_view};
 ghost use Rattle.codespan_output.specs.Private.WrittenParts.{note_row_stream};
 ghost use Rattle.codespan_output.specs.RenderedRows.{note_stream};
-ghost use Rattle.codespan_output.specs.Private.LineRows.{empty_row, break_row};
+ghost use Rattle.codespan_output.specs.Rows.{EmptyRow, BreakRow};
+ghost use Rattle.codespan_output.specs.RowStreams.{stream_of};
 
 use crate::rows::lanes::{LaneRowKind, inner_gutter};
 use crate::rows::line::{Lanes, RowContext};
@@ -28,7 +29,7 @@ pub fn write_snippet_empty<W: PutStyle>(
     lanes: Lanes<'_, '_>,
 ) -> Result<(), W::Error>
     ensures { Writes (W.sink w.old)
-        (empty_row (context_view context.entry) (lanes_view lanes.entry) ++ newline)
+        (stream_of (context_view context.entry) (EmptyRow (lanes_view lanes.entry)) ++ newline)
         result (W.sink w.new) }
 {
     outer_gutter(w, context.padding)?;
@@ -48,7 +49,7 @@ pub fn write_break<W: PutStyle>(
     lanes: Lanes<'_, '_>,
 ) -> Result<(), W::Error>
     ensures { Writes (W.sink w.old)
-        (break_row (context_view context.entry) (lanes_view lanes.entry) ++ newline)
+        (stream_of (context_view context.entry) (BreakRow (lanes_view lanes.entry)) ++ newline)
         result (W.sink w.new) }
 {
     outer_gutter(w, context.padding)?;

@@ -10,7 +10,8 @@ ghost use Rattle.codespan_output.specs.Private.WrittenParts.{pointers_before_str
 ghost use Rattle.codespan_output.specs.Private.WrittenParts.{hanging_rows_stream};
 ghost use Rattle.codespan_output.specs.Private.WrittenParts.{pointer_and_hanging_rows_stream};
 ghost use Rattle.codespan_output.specs.RowParts.{max_label_start};
-ghost use Rattle.codespan_output.specs.Private.LineRows.{pointer_row, hanging_row};
+ghost use Rattle.codespan_output.specs.Rows.{PointerRow, HangingRow};
+ghost use Rattle.codespan_output.specs.RowStreams.{stream_of};
 
 use crate::arguments::SingleLabel;
 use crate::char_metrics::Metrics;
@@ -86,8 +87,8 @@ fn write_pointer_row<W: PutStyle, S: LineCharacters>(
     rows: &LineRows<'_, '_, S>,
 ) -> Result<(), W::Error>
     ensures { Writes (W.sink w.old)
-        (pointer_row (context_view rows.now.context) (line_view rows.now.line) ++ newline)
-        result (W.sink w.new) }
+        (stream_of (context_view rows.now.context) (PointerRow (line_view rows.now.line))
+        ++ newline) result (W.sink w.new) }
 {
     write_row_start(w, rows.context, rows.line)?;
     let edge = rows
@@ -106,8 +107,8 @@ fn write_hanging_row<W: PutStyle, S: LineCharacters>(
     requires within_max_start { (single_label_view label.now).start
         ≤ max_label_start (single_label_views rows.now.line.labels.now) }
     ensures { Writes (W.sink w.old)
-        (hanging_row (context_view rows.now.context) (line_view rows.now.line)
-        (single_label_view label.now)
+        (stream_of (context_view rows.now.context)
+        (HangingRow (line_view rows.now.line) (single_label_view label.now))
         ++ newline) result (W.sink w.new) }
 {
     write_row_start(w, rows.context, rows.line)?;

@@ -5,7 +5,8 @@ ghost use Rattle.codespan_core.specs.Streams.{byte_stream, newline};
 ghost use Rattle.codespan_core.specs.WriterLaw.{Writes};
 ghost use Rattle.codespan_output.specs.Private.LineViews.{context_view, line_view};
 ghost use Rattle.codespan_output.specs.RowParts.{style_change, colored_text};
-ghost use Rattle.codespan_output.specs.Private.LineRows.{source_row};
+ghost use Rattle.codespan_output.specs.Rows.{SourceRow};
+ghost use Rattle.codespan_output.specs.RowStreams.{stream_of};
 
 use crate::rows::char_cursor::CharCursor;
 use crate::rows::lanes::{LaneRowKind, inner_gutter};
@@ -91,7 +92,7 @@ pub fn write_source_row<W: PutStyle, S: LineCharacters>(
     rows: &LineRows<'_, '_, S>,
 ) -> Result<(), W::Error>
     ensures { Writes (W.sink w.old)
-        (source_row (context_view rows.now.context) (line_view rows.now.line) ++ newline)
+        (stream_of (context_view rows.now.context) (SourceRow (line_view rows.now.line)) ++ newline)
         result (W.sink w.new) }
 {
     let context = rows.context;

@@ -9,9 +9,10 @@ ghost use Rattle.codespan_output.specs.Private.LineViews.{context_view, line_vie
 ghost use Rattle.codespan_output.specs.Private.Underlines.{underline_by_width, underline_width};
 ghost use Rattle.codespan_output.specs.Private.Underlines.{underline_caret, width_if_any};
 ghost use Rattle.codespan_output.specs.Private.LineCharacters.{metrics_of};
-ghost use Rattle.codespan_output.specs.Private.LineRows.{underline_rows, underline_row};
+ghost use Rattle.codespan_output.specs.Private.LineRows.{underline_rows};
 ghost use Rattle.codespan_output.specs.RowParts.{underline_message};
-ghost use Rattle.codespan_output.specs.RowStreams.{stream_of_rows};
+ghost use Rattle.codespan_output.specs.Rows.{UnderlineRow};
+ghost use Rattle.codespan_output.specs.RowStreams.{stream_of, stream_of_rows};
 
 use crate::arguments::MultiLabel;
 use crate::rows::lanes::{LaneRowKind, inner_gutter};
@@ -106,8 +107,8 @@ fn write_underline_row<W: PutStyle>(
     requires { width ≡ underline_width (char_metrics context.tab_width line.text.now)
         (multi_label_view lane_mark.2) }
     ensures { Writes (W.sink w.old)
-        (underline_row (context_view context.entry) (line_view line.entry)
-        (lane_mark_view lane_mark.entry)
+        (stream_of (context_view context.entry)
+        (UnderlineRow (line_view line.entry) (lane_mark_view lane_mark.entry))
         ++ newline) result (W.sink w.new) }
 {
     let (lane, style, multi_label) = lane_mark;

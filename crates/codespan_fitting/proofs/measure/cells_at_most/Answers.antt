@@ -1,7 +1,6 @@
-use Rattle.std.proofs.Common.{arith}
+use Rattle.codespan_core.proofs.Std.{arith}
 use Rattle.codespan_fitting.proofs.CellSteps.{cells_at_most-printable}
 use Rattle.codespan_fitting.proofs.measure.cells_at_most.Goals as goal
 
 pub returns-then-matches-clause-value : goal.returns-then-matches-clause-value
-returns-then-matches-clause-value c =
-    cells_at_most-printable c.args.tab_width c.args.c (omega arith) (omega arith)
+returns-then-matches-clause-value c = grind (arith, cells_at_most-printable)

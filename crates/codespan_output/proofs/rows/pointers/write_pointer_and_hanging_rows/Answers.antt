@@ -1,7 +1,8 @@
 use Rattle.codespan_core.proofs.Std.{◌≡◌, ◌++◌, refl, sym, ◌∙◌, inl, inr}
 use Rattle.codespan_core.specs.Streams.{newline}
 use Rattle.codespan_output.specs.Private.{context_view, line_view, hanging_rows_stream}
-use Rattle.codespan_output.specs.Private.{pointer_and_hanging_rows_stream, pointer_row}
+use Rattle.codespan_output.specs.{PointerRow, stream_of}
+use Rattle.codespan_output.specs.Private.{pointer_and_hanging_rows_stream}
 use Rattle.codespan_core.proofs.Chains.{written-then, failed-then, failed-before, failed}
 use Rattle.codespan_core.proofs.Chains.{writes-last}
 use Rattle.codespan_core.proofs.Loops.{StillToWrite-start, StillToWrite-end}
@@ -17,7 +18,7 @@ use Rattle.codespan_output.proofs.rows.pointers.write_pointer_and_hanging_rows.G
 hanging : (g : Over) (c : After-write_pointer_row g)
     → let rows = c.args.rows.now in
     pointer_and_hanging_rows_stream rows.context rows.line
-    ≡ pointer_row (context_view rows.context) (line_view rows.line) ++ newline
+    ≡ stream_of (context_view rows.context) (PointerRow (line_view rows.line)) ++ newline
     ++ hanging_rows_stream rows.context rows.line rows.messages.after.now
     ++ hanging_rows_stream rows.context rows.line rows.messages.before.now
 hanging g c =

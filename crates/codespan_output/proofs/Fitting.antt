@@ -1,0 +1,24 @@
+-- lines that fit a width
+pub mod Moved
+pub mod HangingLabels
+pub mod Pieces
+pub mod NeededBytes
+pub mod Spelled
+pub mod Leading
+pub mod KeptLabels
+pub mod ShownParts
+pub mod FittedPieces
+pub mod ShownBytes
+pub mod ShownChars
+pub mod LabelsStay
+pub mod CutLines
+pub mod Widths
+pub mod FittedRows
+pub mod DrawnLines
+pub mod FittedSnippets
+pub mod ShownUnits
+pub mod ShortGaps
+pub mod MovedSpans
+pub mod ShownGaps
+pub mod FitsOnce
+pub mod FittedLaws

@@ -1,0 +1,3 @@
+-- the cells of a line at a wider radius
+pub mod Gaps
+pub mod Parts
