@@ -1,8 +1,6 @@
 -- the numbers and the words of lines, and the names that may follow these
 pub mod Numbers
 pub mod Words
--- texts with escapes
-pub mod Escapes
 -- what a line states, and what it does to the cases before it
 pub mod Statements
 pub mod Cases

@@ -1,6 +1,7 @@
 -- What a line states.
 use Rattle.std.specs.Prelude.{◌≡◌, ◌≢◌, ◌⊎◌, ℕ, true, false, List, Option, Some}
 use Rattle.std.specs.Prelude.{None, IsSomeAnd, codes, string_bytes}
+use Rattle.std.specs.Result.{result_ok}
 use Rattle.codespan_base.specs.declared.diagnostic.Label.{Label}
 use Rattle.codespan_base.specs.declared.diagnostic.LabelStyle.{LabelStyle}
 use Rattle.codespan_base.specs.declared.diagnostic.LabelStyle.TheVariants as styles
@@ -18,7 +19,7 @@ use Rattle.gallery_cases.specs.declared.words.Word.TheVariants.{Database, File, 
 use Rattle.gallery_cases.specs.declared.words.Word.TheVariants.{Style, Layout, Tab, Context}
 use Rattle.gallery_cases.specs.declared.words.Word.TheVariants.{Characters, Colors, Severity, Code}
 use Rattle.gallery_cases.specs.declared.words.Word.TheVariants.{Message, Primary, Secondary, Note}
-use Rattle.gallery_cases.specs.Escapes.{Unescapes}
+use Rattle.program_io.specs.Escapes.{unescaped}
 use Rattle.program_io.specs.Fields.{field_of, past_space, is_ignored_text}
 use Rattle.program_io.specs.Names.{severity_named, display_style_named}
 use Rattle.gallery_cases.specs.Numbers.{IsNumber, IsBadNumber}
@@ -37,7 +38,11 @@ past_three_spaces text = past_space (past_two_spaces text)
 
 -- the escaped text stands for these bytes
 abbrev pub UnescapesTo : List ℕ → List ℕ → Type 0
-UnescapesTo text bytes = Unescapes text (Some bytes)
+UnescapesTo text bytes = result_ok (unescaped text) ≡ Some bytes
+
+-- it stands for none: it has a backslash that does not begin an escape
+abbrev pub HasNoText : List ℕ → Type 0
+HasNoText text = result_ok (unescaped text) ≡ None
 
 -- the word with which a label of this style begins
 abbrev pub label_style_word : LabelStyle → Word
@@ -130,13 +135,13 @@ HasBadNumber rest _ = ⊥
 
 -- the text of the rest has a backslash that does not begin an escape
 abbrev pub HasBadEscape : List ℕ → Word → Type 0
-HasBadEscape rest File = Unescapes rest None
-HasBadEscape rest Source = Unescapes rest None
-HasBadEscape rest Code = Unescapes rest None
-HasBadEscape rest Message = Unescapes rest None
-HasBadEscape rest Note = Unescapes rest None
-HasBadEscape rest Primary = Unescapes (past_three_spaces rest) None
-HasBadEscape rest Secondary = Unescapes (past_three_spaces rest) None
+HasBadEscape rest File = HasNoText rest
+HasBadEscape rest Source = HasNoText rest
+HasBadEscape rest Code = HasNoText rest
+HasBadEscape rest Message = HasNoText rest
+HasBadEscape rest Note = HasNoText rest
+HasBadEscape rest Primary = HasNoText (past_three_spaces rest)
+HasBadEscape rest Secondary = HasNoText (past_three_spaces rest)
 HasBadEscape rest _ = ⊥
 
 -- what is wrong with a line of this word and this rest, whatever precedes it

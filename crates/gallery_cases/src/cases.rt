@@ -3,10 +3,9 @@
 //! The input is a text of lines. A line begins with a word, which ends at the first space; its rest
 //! is what follows that space. Lines that are empty or begin with `#` are ignored. A line
 //! `case NAME` begins a case, and the lines after it state it ([`Statement`] lists their words);
-//! texts in these are escaped ([`unescape`] lists the escapes).
+//! texts in these are escaped ([`program_io::escapes`] lists the escapes).
 //!
 //! [`Statement`]: crate::statement::Statement
-//! [`unescape`]: crate::escape::unescape
 
 ghost use Rattle.std.specs.Prelude.{◌≡◌, [], map, OnOk, IfOk, IfErr};
 ghost use Rattle.std.specs.Option.{option_copied};

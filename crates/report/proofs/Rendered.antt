@@ -9,7 +9,7 @@ use Rattle.codespan_core.specs.ConfigEquality.{IsEqualConfig}
 use Rattle.codespan_core.specs.Streams.{text_of}
 use Rattle.codespan_output.specs.Types.{Diagnostic, Error, Config, DisplayStyle}
 use Rattle.codespan_output.specs.Lookups.{Failures}
-use Rattle.codespan_output.specs.ViewPictures.{picture_of_diagnostic_view}
+use Rattle.codespan_output.specs.Picture.{picture_of_diagnostic_view}
 use Rattle.codespan_views.specs.Output.{IsRendered}
 use Rattle.codespan_output.proofs.Outputs.StatedNames.{output_stated}
 use Rattle.codespan_output.proofs.Outputs.ViewPictures.{picture-of_view}

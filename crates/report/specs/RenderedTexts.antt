@@ -17,7 +17,7 @@ use Rattle.codespan_core.specs.Diagnostics.{DiagnosticView}
 use Rattle.codespan_core.specs.FileModel.{FileModel}
 use Rattle.codespan_core.specs.SimpleModel.{simple_file}
 use Rattle.codespan_core.specs.Streams.{text_of}
-use Rattle.codespan_output.specs.ViewPictures.{picture_of_diagnostic_view}
+use Rattle.codespan_output.specs.Picture.{picture_of_diagnostic_view}
 use Rattle.report.specs.declared.report_error.ReportError.{ReportError}
 use Rattle.report.specs.declared.report_error.ReportError.TheVariants as report_errors
 use Rattle.report.specs.declared.request.ScriptOutput.{ScriptOutput}
