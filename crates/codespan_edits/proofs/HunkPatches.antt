@@ -11,7 +11,7 @@ use Rattle.codespan_edits.specs.Numbers.{NumberedRow, numbered}
 use Rattle.codespan_edits.specs.Diffs.{diff_rows}
 use Rattle.codespan_edits.specs.Patches.{shown_from, patched}
 use Rattle.codespan_edits.specs.DrawnRows.{Context, changed_among, is_near_change, is_drawn}
-use Rattle.codespan_edits.specs.DrawnRows.{runs_from, last_run}
+use Rattle.codespan_edits.specs.DrawnRows.{runs_from, last_run, hunks_of}
 use Rattle.codespan_edits.specs.HunkLaws.{rows_of_hunks, ChangedRowsAreDrawn, HunksArePatch}
 use Rattle.codespan_edits.proofs.HunkLemmas.{changed_more}
 use Rattle.codespan_edits.proofs.PatchLemmas.{shown-rows-are-patch}
@@ -30,7 +30,7 @@ changed-add n m rows =
     ∙ length-append (filter p (take n rows)) (filter p (take m (drop n rows)))) in
     rw split (omega arith)
 
-changed-le : (m n : ℕ) (rows : List NumberedRow) → m ≤ n
+pub changed-le : (m n : ℕ) (rows : List NumberedRow) → m ≤ n
     → changed_among m rows ≤ changed_among n rows
 changed-le m n rows few =
     let is : n ≡ m + (n - m) = omega (arith, few) in
@@ -106,6 +106,12 @@ all-picked context rows k (r ∷ rs) is =
           changed,
       all-picked context rows (k + 1) rs (sym (ap (drop 1) next)),
     )
+
+-- the rows of the hunks of rows are those that are drawn
+pub hunks-shown : (context : Context) (rows : List NumberedRow)
+    → rows_of_hunks (hunks_of context rows) ≡ shown_from (is_drawn context rows) 0 rows
+hunks-shown context rows =
+    runs-shown (is_drawn context rows) 0 [] rows (all-picked context rows 0 rows refl)
 
 pub hunks-are-patch : HunksArePatch
 hunks-are-patch context text edits fine =

@@ -19,3 +19,6 @@ pub mod KeptLines
 pub mod NumberLemmas
 pub mod HunkLemmas
 pub mod HunkPatches
+pub mod DrawnExactly
+pub mod HunkRuns
+pub mod PatchesBack

@@ -69,7 +69,7 @@ numbers-same i j k l rows p q = rw (p, q) refl
 
 -- rows that are shown make the new lines of the old ones, behind the lines sk of kept rows before
 -- them that are not shown
-abbrev Patches : (ℕ → Bool) → ℕ → List Row → Type 0
+abbrev pub Patches : (ℕ → Bool) → ℕ → List Row → Type 0
 Patches picks k rows = (w sk : List (List ℕ)) (p : ℕ)
     → patch_rows (shown_from picks k
     (numbered_from (p + length sk + 1) (length w + length sk + 1) rows))
@@ -134,7 +134,7 @@ one-more picks k Added line rs t h rest w sk p =
     ∙ ap Some (append_assoc (w ++ sk) (line ∷ []) (lines_with is_new rs)
     ∙ append_assoc w sk (line ∷ lines_with is_new rs)))
 
-all-patch : (picks : ℕ → Bool) (k : ℕ) (rows : List Row) → Patches picks k rows
+pub all-patch : (picks : ℕ → Bool) (k : ℕ) (rows : List Row) → Patches picks k rows
 all-patch picks k [] = λ w sk p. refl
 all-patch picks k (r ∷ rs) =
     one-more picks k r.sign r.line rs (picks k) refl (all-patch picks (k + 1) rs)

@@ -6,6 +6,8 @@ ghost use Rattle.codespan_edits.specs.DiffLaws.{DiffHasAllLines, BlocksAreTrimme
 ghost use Rattle.codespan_edits.specs.DiffLaws.{UnchangedTextIsKept, SameEditsHaveSameDiff};
 ghost use Rattle.codespan_edits.specs.Patches.{ShownRowsArePatch};
 ghost use Rattle.codespan_edits.specs.HunkLaws.{ChangedRowsAreDrawn, HunksArePatch};
+ghost use Rattle.codespan_edits.specs.HunkLaws.{RowsNearChangesAreDrawn, HunksAreRuns};
+ghost use Rattle.codespan_edits.specs.HunkLaws.{HunksArePatchBack};
 
 /// States that edits without a fault make the text that they make one after another, each in the
 /// text that the later ones have made, from the last one in order to the first.
@@ -61,8 +63,26 @@ pub fn changed_rows_are_drawn()
     ensures { ChangedRowsAreDrawn }
 {}
 
+/// States that exactly those rows are drawn that are near a changed one, as many rows before it or
+/// after it as the context has, or fewer, and single rows between two of these.
+pub fn rows_near_changes_are_drawn()
+    ensures { RowsNearChangesAreDrawn }
+{}
+
+/// States that hunks have exactly the drawn rows, in their order, and that two rows or more are
+/// left out between two hunks.
+pub fn hunks_are_runs()
+    ensures { HunksAreRuns }
+{}
+
 /// States that the rows of the hunks of a diff are a patch, whatever the context: they make the
 /// lines of the text after the edits of those of the source.
 pub fn hunks_are_patch()
     ensures { HunksArePatch }
+{}
+
+/// States that the rows of the hunks of a diff, with signs and numbers exchanged, make the lines of
+/// the source of those of the text after the edits.
+pub fn hunks_are_patch_back()
+    ensures { HunksArePatchBack }
 {}

@@ -16,9 +16,17 @@ pub mod DrawnText
 pub mod DrawnFiles
 pub mod SuggestionRows
 pub mod SuggestionOutput
+-- the output as it is read
+pub mod ReadOutput
+pub mod ReadableChars
+pub mod ReadPatches
 -- laws
 pub mod SuggestionLaws
 pub mod RenderingLaws
 pub mod WrittenLaws
+pub mod ReadingLaws
+pub mod PatchLaws
+pub mod BorderLaws
+pub mod ActionLaws
 -- of this crate alone
 pub mod Private

@@ -6,6 +6,7 @@ ghost use Rattle.codespan_suggestions.specs.DrawnFiles.{NamesAreStated};
 ghost use Rattle.codespan_suggestions.specs.SuggestionOutput.{WritesSuggestion, suggestion_stream};
 ghost use Rattle.codespan_suggestions.specs.SuggestionOutput.{rendering_fault};
 ghost use Rattle.codespan_suggestions.specs.NamedFiles.{FailsByFault};
+ghost use Rattle.codespan_suggestions.specs.ReadingLaws.{TextGivesTexts};
 
 use crate::drawn_files::draw_files;
 use crate::error::SuggestionError;
@@ -50,6 +51,9 @@ pub fn emit_suggestion_into_string<'files, F: Files<'files>>(
     ensures text { NamesAreStated (F.database files.now) suggestion.now.edits.items
         → IfOk result (λ text. string_bytes text
         ≡ text_of (suggestion_stream config.now (F.database files.now) suggestion.now)) }
+    ensures gives { NamesAreStated (F.database files.now) suggestion.now.edits.items
+        → IfOk result (λ text.
+        TextGivesTexts config.now (F.database files.now) suggestion.now (string_bytes text)) }
     ensures failed { FailsByFault
         (rendering_fault config.now (F.database files.now) suggestion.now) result }
 {

@@ -8,6 +8,7 @@ ghost use Rattle.codespan_suggestions.specs.Faults.{file_fault, FailsBy};
 ghost use Rattle.codespan_suggestions.specs.NamedFiles.{IsNameOf, named_file_fault};
 ghost use Rattle.codespan_suggestions.specs.NamedFiles.{named_files_fault, FailsByFault};
 ghost use Rattle.codespan_suggestions.specs.Private.Spans.{numbered_rows, rows_of_hunks};
+ghost use Rattle.codespan_suggestions.specs.PatchLaws.{TextIsPatch};
 ghost use Rattle.codespan_suggestions.specs.UnifiedDiffs.{needs_quotes, has_space, path_text};
 ghost use Rattle.codespan_suggestions.specs.UnifiedDiffs.{file_header, hunk_header, sign_byte};
 ghost use Rattle.codespan_suggestions.specs.UnifiedDiffs.{row_text, hunk_text, patch_text};
@@ -60,6 +61,8 @@ pub fn unified_diff<'files, F: Files<'files>>(
 ) -> Result<String, SuggestionError>
     ensures text { IfOk result (λ text.
         IsUnifiedDiff (F.database files.now) suggestion.now.edits.items (string_bytes text)) }
+    ensures patches { IfOk result (λ text.
+        TextIsPatch (F.database files.now) suggestion.now.edits.items (string_bytes text)) }
     ensures failed { FailsByFault
         (named_files_fault (F.database files.now) suggestion.now.edits.items) result }
 {

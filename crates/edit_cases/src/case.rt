@@ -1,6 +1,7 @@
-//! The case that the input states.
+//! Edits of one source, as the input states them.
 
 use crate::error::CaseError;
+use crate::fields::{Texts, read_numbers};
 use codespan_edits::Edit;
 use std::alloc::Global;
 
@@ -16,17 +17,14 @@ pub struct Case<'a> {
 }
 
 impl<'a> Case<'a> {
-    /// Reads a case.
+    /// Reads a case from the numbers of the first line and the texts below it.
     ///
     /// # Errors
     ///
     /// - `Input`: the input is malformed.
     /// - `OutOfMemory`: an allocation fails.
-    pub fn read(alloc: Global, input: &'a str) -> Result<Case<'a>, CaseError> {
-        let Some((line, left)) = input.split_once('\n') else {
-            return Err(CaseError::Input);
-        };
-        let mut texts = Texts { left };
+    pub fn read(alloc: Global, line: &str, left: &'a str) -> Result<Case<'a>, CaseError> {
+        let mut texts = Texts::new(left);
         let numbers = read_numbers(alloc, line)?;
         let [times, ranges @ ..] = numbers.as_slice() else {
             return Err(CaseError::Input);
@@ -45,36 +43,7 @@ impl<'a> Case<'a> {
         Ok(Case {
             times: *times,
             edits,
-            source: texts.left,
+            source: texts.rest(),
         })
     }
-}
-
-/// The texts that are left to be read.
-#[derive(Drop)]
-struct Texts<'a> {
-    left: &'a str,
-}
-
-impl<'a> Texts<'a> {
-    /// Reads the next text, which has this many bytes.
-    fn take(&mut self, length: usize) -> Result<&'a str, CaseError> {
-        let Some((text, left)) = self.left.split_at_checked(length) else {
-            return Err(CaseError::Input);
-        };
-        self.left = left;
-        Ok(text)
-    }
-}
-
-/// Reads numbers with a space between two.
-fn read_numbers(alloc: Global, line: &str) -> Result<Vec<usize>, CaseError> {
-    let mut numbers = Vec::new(alloc);
-    for word in line.split(' ') {
-        match word.parse() {
-            Ok(number) => numbers.push(number)?,
-            Err(_) => return Err(CaseError::Input),
-        }
-    }
-    Ok(numbers)
 }

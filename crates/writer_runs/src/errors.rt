@@ -17,6 +17,8 @@ pub enum StopKind {
     Slow,
     /// In this way, at a write.
     AtWrite(Stop),
+    /// It accepts one byte at a time, and fails after some.
+    AtByte,
     /// It fails at a style mark, after the first byte of its spelling.
     AtStyleMark,
 }
@@ -107,6 +109,7 @@ impl fmt::Display for StopKind {
             StopKind::AtWrite(Stop::TakesNothing) => "takes nothing of a write",
             StopKind::AtWrite(Stop::IsInterrupted) => "is interrupted",
             StopKind::AtWrite(Stop::TakesOneByte) => "takes one byte and then fails",
+            StopKind::AtByte => "takes one byte at a time and then fails",
             StopKind::AtStyleMark => "fails at a style mark",
         })
     }

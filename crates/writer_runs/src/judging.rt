@@ -4,8 +4,10 @@ use crate::direct::DirectCall;
 use crate::direct::rows::DirectRow;
 use crate::errors::{WrongRun, WrongRunAt};
 use crate::rendering::{CALLS, Render, RenderCall, RenderInput, Rendering};
-use crate::stops::{judge_stops, judge_style_marks};
+use crate::stops::{judge_bytes, judge_stops, judge_style_marks};
 use crate::style_writers::{STYLE_WRITERS, StyleWriterKind};
+use crate::suggestions::RenderedSuggestion;
+use crate::suggestions::rows::SuggestionRow;
 use crate::worked_output::{ExpectedColors, WorkedOutput};
 use codespan_base::diagnostic::Diagnostic;
 use codespan_base::files::{Error, Files};
@@ -227,4 +229,25 @@ pub fn judge_direct(alloc: Global, row: &DirectRow<'_>) -> Result<usize, WrongRu
 fn judge_direct_call(alloc: Global, row: &DirectRow<'_>) -> Result<usize, WrongRun> {
     let direct = DirectCall::new(alloc, row.call)?;
     judge_call(alloc, &direct, row.text, row.colors)
+}
+
+/// Makes all runs of a suggestion, and returns their number.
+///
+/// # Errors
+///
+/// The first error of a run, with its style and without a call.
+pub fn judge_suggestion(alloc: Global, row: &SuggestionRow<'_>) -> Result<usize, WrongRunAt> {
+    at(Some(row.style), None, judge_suggestion_row(alloc, row))
+}
+
+/// Makes all runs of a suggestion, and returns their number, or the first error.
+fn judge_suggestion_row(alloc: Global, row: &SuggestionRow<'_>) -> Result<usize, WrongRun> {
+    let rendered = RenderedSuggestion::new(alloc, row)?;
+    let mut runs = judge_call(alloc, &rendered, row.text, row.colors)?;
+    for style_writer in STYLE_WRITERS {
+        let recording = style_writer.record(alloc, &rendered, row.text)?;
+        let more = judge_bytes(alloc, style_writer, &rendered, recording.text())?;
+        runs = runs.saturating_add(more);
+    }
+    Ok(runs)
 }

@@ -4,9 +4,10 @@ ghost use Rattle.std.specs.Prelude.{◌≤◌};
 
 use crate::direct::rows::{DirectRow, rows};
 use crate::errors::{FatalError, WrongRunAt};
-use crate::judging::{DISPLAY_STYLES, judge_direct, judge_output};
+use crate::judging::{DISPLAY_STYLES, judge_direct, judge_output, judge_suggestion};
 use crate::rendering::CALLS;
 use crate::stops::WRITERS;
+use crate::suggestions;
 use crate::worked_output::WorkedOutput;
 use crate::worked_outputs::parse_outputs;
 use program_io::input::read_text;
@@ -15,9 +16,9 @@ use std::fmt::Display;
 use std::io;
 use std::io::{Read, Write};
 
-/// Makes the runs of each worked output and of each direct call, writes a line for each and a last
-/// line with the numbers of them and of the runs, and returns the program's status. An error that
-/// ends the program is written to `stderr`, whose own errors are ignored.
+/// Makes the runs of each worked output, of each direct call and of each suggestion, writes a line
+/// for each and a last line with the numbers of them and of the runs, and returns the program's
+/// status. An error that ends the program is written to `stderr`, whose own errors are ignored.
 pub fn run<R: Read, W: Write, E: Write>(
     alloc: Global,
     stdin: &mut R,
@@ -35,17 +36,18 @@ pub fn run<R: Read, W: Write, E: Write>(
     }
 }
 
-/// How many worked outputs and rows were judged, by how many runs, and whether one was wrong.
+/// How many worked outputs, rows and suggestions were judged, by how many runs, and whether one was
+/// wrong.
 #[derive(Clone, Copy, Default)]
 struct Counts {
-    outputs_and_rows: usize,
+    subjects: usize,
     runs: usize,
     is_wrong: bool,
 }
 
 impl Counts {
-    /// Counts a worked output or a row, and its runs, and writes its line: by which calls it was
-    /// rendered, or the error.
+    /// Counts a worked output, a row or a suggestion, and its runs, and writes its line: by which
+    /// calls it was rendered, or the error.
     fn report<W: Write, T: Display + Drop, D: Display + Drop>(
         &mut self,
         stdout: &mut W,
@@ -53,7 +55,7 @@ impl Counts {
         judged: Result<usize, WrongRunAt>,
         calls: D,
     ) -> io::Result<()> {
-        self.outputs_and_rows = self.outputs_and_rows.saturating_add(1);
+        self.subjects = self.subjects.saturating_add(1);
         match judged {
             Ok(runs) => {
                 self.runs = self.runs.saturating_add(runs);
@@ -68,16 +70,16 @@ impl Counts {
 
     /// Writes the line of the counts.
     fn write_counts<W: Write>(self, stdout: &mut W) -> io::Result<()> {
-        let (outputs_and_rows, runs) = (self.outputs_and_rows, self.runs);
+        let (subjects, runs) = (self.subjects, self.runs);
         writeln!(
             stdout,
-            "{outputs_and_rows} worked outputs and rows, {runs} runs"
+            "{subjects} worked outputs, rows and suggestions, {runs} runs"
         )
     }
 }
 
-/// Makes the runs of the worked outputs of the input, and of the direct calls, writes a line for
-/// each and the line of the counts, and returns the counts.
+/// Makes the runs of the worked outputs of the input, of the direct calls and of the suggestions,
+/// writes a line for each and the line of the counts, and returns the counts.
 fn judge_all<R: Read, W: Write>(
     alloc: Global,
     stdin: &mut R,
@@ -89,6 +91,7 @@ fn judge_all<R: Read, W: Write>(
     for rows in &rows() {
         judge_direct_rows(alloc, rows, stdout, &mut counts)?;
     }
+    judge_suggestions(alloc, stdout, &mut counts)?;
     counts.write_counts(stdout)?;
     Ok(counts)
 }
@@ -131,6 +134,20 @@ fn judge_direct_rows<W: Write>(
     for row in rows {
         let (name, judged) = (row.name, judge_direct(alloc, row));
         counts.report(stdout, format_args!("row {name}"), judged, row.call)?;
+    }
+    Ok(())
+}
+
+/// Makes the runs of suggestions, and writes a line for each.
+fn judge_suggestions<W: Write>(
+    alloc: Global,
+    stdout: &mut W,
+    counts: &mut Counts,
+) -> Result<(), FatalError> {
+    for row in suggestions::rows::rows() {
+        let (name, judged) = (row.name, judge_suggestion(alloc, row));
+        let call = "emit_suggestion_to_write_style, stopped after each byte too";
+        counts.report(stdout, format_args!("suggestion {name}"), judged, call)?;
     }
     Ok(())
 }

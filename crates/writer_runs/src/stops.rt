@@ -65,6 +65,27 @@ pub fn judge_stops<D: Render>(
     Ok(runs)
 }
 
+/// Renders by way of a writer of styles to each writer that takes one byte at a time and fails
+/// after some of the bytes of the whole text, and returns the number of runs.
+///
+/// # Errors
+///
+/// `UnexpectedResult`: the first run whose result or whose writer is not as expected.
+pub fn judge_bytes<D: Render>(
+    alloc: Global,
+    style_writer: StyleWriterKind,
+    call: &D,
+    whole: &[u8],
+) -> Result<usize, WrongRun> {
+    for bytes in 0..whole.len() {
+        let stopping = Recording::stopping(alloc, 1, bytes, Stop::Fails);
+        if !stops_at(style_writer, call, stopping, whole, bytes) {
+            return Err(WrongRun::UnexpectedResult(style_writer, StopKind::AtByte, bytes));
+        }
+    }
+    Ok(whole.len())
+}
+
 /// Returns the number of bytes in a writer that stops in this way, after this many bytes.
 fn written_length(stop: Stop, start: usize, whole: usize) -> usize {
     match stop {

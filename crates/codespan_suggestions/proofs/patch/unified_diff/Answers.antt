@@ -6,6 +6,7 @@ use Rattle.codespan_suggestions.specs.UnifiedDiffs.{file_patch}
 use Rattle.codespan_suggestions.specs.NamedFiles.{named_file_fault}
 use Rattle.codespan_suggestions.proofs.FaultLoops.{fault-more, fault-here}
 use Rattle.codespan_suggestions.proofs.NamedParts.{no-part, part-more, parts-end}
+use Rattle.codespan_suggestions.proofs.PatchedTexts.{unified-diffs-are-patches}
 use Rattle.codespan_suggestions.proofs.patch.unified_diff.Goals as goal
 
 -- no file comes before the first one
@@ -77,3 +78,9 @@ returns-in_err-push_file_patch-clause-failed g c =
     (subst (λ es. named_file_fault database es x
     ≡ Some c.in_err-push_file_patch.field-0.0) c.deref-in-loop-id.ensures.value
     (c.in_err-push_file_patch.ensures.failed known formatted)))
+
+-- so the text is a patch
+pub returns-clause-patches : goal.returns-clause-patches
+returns-clause-patches g c =
+    unified-diffs-are-patches (g.F.Files.database c.args.files.now)
+    c.args.suggestion.now.edits.items _ (returns-clause-text g c)
