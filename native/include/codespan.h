@@ -1,21 +1,34 @@
 /* codespan.h: compiler-style diagnostics, rendered by a library whose output is proved.
  *
- * The one call that renders, codespan_emit, keeps nothing after it returns and has no global state:
- * any number of threads may call it at once, each with its own `out`, `written` and `detail`. It
- * returns a status whatever the numbers and the bytes of its arguments are.
+ *     codespan_config config = codespan_default_config();
+ *     status = codespan_emit(files, 1, &diagnostic, &config, out, sizeof out, &written, &detail);
+ *
+ * The call that renders, codespan_emit, returns a status whatever the numbers and the bytes of its
+ * arguments are. It keeps nothing after it returns and has no global state: any number of threads
+ * may call it at once, each with its own `out`, `written` and `detail`.
  *
  * A caller has to ensure only what a C type can not state:
- *  - each pointer is aligned, is not NULL, and points to as many values as the length beside it
- *    says. For a length of 0 use the CODESPAN_NO_ names or codespan_no_text below;
+ *  - each pointer is aligned and points to as many values as the length beside it says. It may be
+ *    NULL where that length is 0, so a struct may be {0} but for `abi`. `diagnostic`, `config`,
+ *    `written` and `detail` are not NULL;
  *  - `out`, `written` and `detail` overlap nothing else that is passed;
  *  - nothing that is passed changes while the call runs.
  *
  * Lengths and byte indices are in bytes, indices start at 0, and ends are exclusive. Texts are
- * UTF-8 without a final NUL; control characters in them reach the output. Enumerations are passed
- * as uint32_t; with an unknown number a call returns CODESPAN_INVALID.
+ * UTF-8 without a final NUL, and so is `out`. Enumerations are passed as uint32_t; with an unknown
+ * number a call returns CODESPAN_INVALID.
  *
- * For C11 and C++11. CODESPAN_ABI fixes the layouts of the structs: a library with other layouts
- * has another number, and returns CODESPAN_INVALID where `abi` of the configuration is not its own.
+ * Memory: the call allocates with the `malloc` and `realloc` of the program and frees all of it
+ * before it returns, so there is nothing to free. Where an allocation fails it returns
+ * CODESPAN_OUT_OF_MEMORY; it never ends the program. It needs at most 32 KiB of stack. An output of
+ * a few rows fits in 4096 bytes.
+ *
+ * For C11 and C++11. CODESPAN_ABI fixes the layouts of the structs and the meaning of each field
+ * and number: a library of another ABI returns CODESPAN_INVALID where `abi` is not its own, which
+ * is the first field of the configuration in each. Within an ABI a new field may take the place of
+ * reserved words, which mean nothing while they are 0, and there may be new functions and numbers,
+ * but no new status. The bytes of an output may change with a minor version, and CHANGELOG.md then
+ * says how; in a patch they do not.
  */
 #ifndef CODESPAN_H
 #define CODESPAN_H
@@ -33,7 +46,7 @@ extern "C" {
 #define CODESPAN_VERSION "0.1.0"
 
 /* The ABI version of this header; codespan_abi_version returns that of the library. */
-#define CODESPAN_ABI 1u
+#define CODESPAN_ABI 2u
 
 /* The greatest tab width, in cells: a greater one is taken as this one, so that a tab can not grow
  * the output without bound. */
@@ -93,6 +106,7 @@ typedef struct codespan_file {
      * from 1. */
     const codespan_location *locations;
     size_t locations_length;
+    size_t reserved[2]; /* 0 */
 } codespan_file;
 
 /* ---- diagnostics ---- */
@@ -110,6 +124,7 @@ typedef struct codespan_label {
                      * before the start, and either past the end of the file or inside a
                      * character */
     codespan_text message; /* empty: none */
+    size_t reserved[2];    /* 0 */
 } codespan_label;
 
 /* A severity. */
@@ -128,8 +143,9 @@ typedef struct codespan_diagnostic {
     codespan_text message;
     const codespan_label *labels;
     size_t labels_length;
-    const codespan_text *notes;
+    const codespan_text *notes; /* shown after the source, each behind a bullet */
     size_t notes_length;
+    size_t reserved[4]; /* 0 */
 } codespan_diagnostic;
 
 /* ---- configuration ---- */
@@ -157,26 +173,44 @@ enum {
     CODESPAN_CUSTOM_CHARS = 2 /* those of `chars` */
 };
 
-/* How style marks, the changes of style between texts, are spelled. */
+/* The form of an output.
+ *
+ * Text that is **safe** has what a terminal shows: without control characters but tab and newline,
+ * without directional controls and other characters that some terminals show in other cells than
+ * carets count, and with U+FFFD for noncharacters and separators. So no name, source or message can
+ * start an escape sequence or reorder a row, and each caret is under its character. HTML and SVG
+ * show the same characters. The two forms of text that is not safe are for a file, or for a program
+ * that makes another form of them. */
 enum {
-    CODESPAN_PLAIN = 0,       /* not at all */
-    CODESPAN_ANSI = 1,        /* by escape sequences, in the default styles */
-    CODESPAN_ANSI_STYLES = 2, /* by escape sequences, in those of `styles` */
-    CODESPAN_STYLE_MARKS = 3  /* by the byte 255, which UTF-8 never has, and the number of the
-                               * style mark */
+    CODESPAN_TERMINAL = 0,    /* safe text, for a terminal or a log */
+    CODESPAN_TEXT = 1,        /* text: names, sources and messages as they are passed */
+    CODESPAN_STYLE_MARKS = 2, /* that text, with style marks: CODESPAN_STYLE_MARK_BYTE, which UTF-8
+                               * never has, and a number */
+    CODESPAN_HTML = 3,        /* an HTML element, `pre`, for a page in UTF-8 that has the style
+                               * sheet of codespan_html_styles */
+    CODESPAN_SVG = 4          /* an SVG document, with its default background and size */
 };
 
-/* The numbers of style marks, for CODESPAN_STYLE_MARKS. To those of headers and labels the number
- * of the severity is added. A reset ends each style. */
+/* The colors of an output: the escape sequences of CODESPAN_TERMINAL and CODESPAN_TEXT, and with
+ * CODESPAN_OWN_STYLES those of CODESPAN_SVG, which otherwise has the default styles. The other
+ * forms do not depend on it. */
 enum {
-    CODESPAN_STYLE_MARK_HEADER = 0, /* 0 to 4 */
-    CODESPAN_STYLE_MARK_HEADER_MESSAGE = 5,
-    CODESPAN_STYLE_MARK_LINE_NUMBER = 6,
-    CODESPAN_STYLE_MARK_NOTE_BULLET = 7,
-    CODESPAN_STYLE_MARK_SOURCE_BORDER = 8,
-    CODESPAN_STYLE_MARK_PRIMARY_LABEL = 9,    /* 9 to 13 */
-    CODESPAN_STYLE_MARK_SECONDARY_LABEL = 14, /* 14 to 18 */
-    CODESPAN_STYLE_MARK_RESET = 19
+    CODESPAN_COLORS_OFF = 0,
+    CODESPAN_DEFAULT_STYLES = 1,
+    CODESPAN_OWN_STYLES = 2 /* those of `styles` */
+};
+
+/* The numbers of style marks, the changes of style between texts. To those of headers and labels
+ * the number of the severity is added. A reset ends each style. */
+enum {
+    CODESPAN_STYLE_MARK_HEADER = 128, /* 128 to 132 */
+    CODESPAN_STYLE_MARK_HEADER_MESSAGE = 133,
+    CODESPAN_STYLE_MARK_LINE_NUMBER = 134,
+    CODESPAN_STYLE_MARK_NOTE_BULLET = 135,
+    CODESPAN_STYLE_MARK_SOURCE_BORDER = 136,
+    CODESPAN_STYLE_MARK_PRIMARY_LABEL = 137,   /* 137 to 141 */
+    CODESPAN_STYLE_MARK_SECONDARY_LABEL = 142, /* 142 to 146 */
+    CODESPAN_STYLE_MARK_RESET = 147
 };
 
 /* The byte before the number of a style mark. */
@@ -248,7 +282,8 @@ typedef struct codespan_config {
     uint32_t abi;               /* CODESPAN_ABI, for all structs that are passed */
     uint32_t display_style;     /* CODESPAN_RICH to CODESPAN_SHORT */
     uint32_t layout;            /* CODESPAN_CLASSIC or CODESPAN_UNBROKEN */
-    uint32_t spelling;          /* CODESPAN_PLAIN to CODESPAN_STYLE_MARKS */
+    uint32_t form;              /* CODESPAN_TERMINAL to CODESPAN_SVG */
+    uint32_t color_mode;        /* CODESPAN_COLORS_OFF to CODESPAN_OWN_STYLES */
     uint32_t characters;        /* CODESPAN_BOX_CHARS to CODESPAN_CUSTOM_CHARS */
     size_t tab_width;           /* cells between tab stops, up to CODESPAN_TAB_WIDTH_MAX */
     size_t start_context_lines; /* lines shown after the first line of a multi-line label */
@@ -256,7 +291,8 @@ typedef struct codespan_config {
     size_t before_label_lines;  /* lines shown before a label */
     size_t after_label_lines;   /* lines shown after a label */
     codespan_chars chars;       /* read only for CODESPAN_CUSTOM_CHARS */
-    codespan_styles styles;     /* read only for CODESPAN_ANSI_STYLES */
+    codespan_styles styles;     /* read only for CODESPAN_OWN_STYLES */
+    size_t reserved[8];         /* 0 */
 } codespan_config;
 
 /* ---- the call ---- */
@@ -276,24 +312,28 @@ enum {
     CODESPAN_ARGUMENT_ABI = 1,
     CODESPAN_ARGUMENT_DISPLAY_STYLE = 2,
     CODESPAN_ARGUMENT_LAYOUT = 3,
-    CODESPAN_ARGUMENT_SPELLING = 4,
-    CODESPAN_ARGUMENT_CHARACTERS = 5,
-    CODESPAN_ARGUMENT_SNIPPET_START = 6,   /* not UTF-8 */
-    CODESPAN_ARGUMENT_CHARACTER = 7,       /* not a Unicode scalar value; index: the field, from 0
-                                            * for source_border_left to 14 for pointer_left */
-    CODESPAN_ARGUMENT_COLOR = 8,           /* index: the style, from 0 for header_bug to 14 for
-                                            * note_bullet */
-    CODESPAN_ARGUMENT_FILE_NAME = 9,       /* not UTF-8; index: the file */
-    CODESPAN_ARGUMENT_FILE_SOURCE = 10,    /* not UTF-8; index: the file */
-    CODESPAN_ARGUMENT_FILE_LINES = 11,     /* index: the file */
-    CODESPAN_ARGUMENT_FILE_LOCATIONS = 12, /* index: the file */
-    CODESPAN_ARGUMENT_SEVERITY = 13,
-    CODESPAN_ARGUMENT_CODE = 14,          /* not UTF-8 */
-    CODESPAN_ARGUMENT_MESSAGE = 15,       /* not UTF-8 */
-    CODESPAN_ARGUMENT_LABEL_STYLE = 16,   /* index: the label */
-    CODESPAN_ARGUMENT_LABEL_MESSAGE = 17, /* not UTF-8; index: the label */
-    CODESPAN_ARGUMENT_LABEL_FILE = 18,    /* with CODESPAN_FILE_MISSING; index: the label */
-    CODESPAN_ARGUMENT_NOTE = 19           /* not UTF-8; index: the note */
+    CODESPAN_ARGUMENT_FORM = 4,
+    CODESPAN_ARGUMENT_COLOR_MODE = 5,
+    CODESPAN_ARGUMENT_CHARACTERS = 6,
+    CODESPAN_ARGUMENT_SNIPPET_START = 7, /* not UTF-8 */
+    CODESPAN_ARGUMENT_CHARACTER = 8,     /* not a Unicode scalar value; index: the field, from 0 for
+                                            source_border_left to 14 for pointer_left */
+    CODESPAN_ARGUMENT_COLOR = 9, /* index: the style, from 0 for header_bug to 14 for note_bullet */
+    CODESPAN_ARGUMENT_CONFIG_RESERVED = 10, /* not 0 */
+    CODESPAN_ARGUMENT_FILE_NAME = 11,       /* not UTF-8; index: the file */
+    CODESPAN_ARGUMENT_FILE_SOURCE = 12,     /* not UTF-8; index: the file */
+    CODESPAN_ARGUMENT_FILE_LINES = 13,      /* index: the file */
+    CODESPAN_ARGUMENT_FILE_LOCATIONS = 14,  /* index: the file */
+    CODESPAN_ARGUMENT_FILE_RESERVED = 15,   /* not 0; index: the file */
+    CODESPAN_ARGUMENT_SEVERITY = 16,
+    CODESPAN_ARGUMENT_CODE = 17,                /* not UTF-8 */
+    CODESPAN_ARGUMENT_MESSAGE = 18,             /* not UTF-8 */
+    CODESPAN_ARGUMENT_DIAGNOSTIC_RESERVED = 19, /* not 0 */
+    CODESPAN_ARGUMENT_LABEL_STYLE = 20,         /* index: the label */
+    CODESPAN_ARGUMENT_LABEL_MESSAGE = 21,       /* not UTF-8; index: the label */
+    CODESPAN_ARGUMENT_LABEL_FILE = 22,          /* with CODESPAN_FILE_MISSING; index: the label */
+    CODESPAN_ARGUMENT_LABEL_RESERVED = 23,      /* not 0; index: the label */
+    CODESPAN_ARGUMENT_NOTE = 24                 /* not UTF-8; index: the note */
 };
 
 /* Which argument is invalid. */
@@ -310,7 +350,7 @@ typedef struct codespan_detail {
  * CODESPAN_OK: out[0..*written) is the output, and the rest of `out` is unchanged.
  * CODESPAN_TOO_SMALL: *written is the length of the output, more than out_length, and `out` is
  * unchanged. Call again with that much room: the output is the same. So a call with an out_length
- * of 0, and any `out` but NULL, sets *written to the length.
+ * of 0 sets *written to the length.
  * Any other status: *written is 0, and `out` is unchanged.
  *
  * The arguments are checked before anything is allocated. Where one is invalid the status is
@@ -320,6 +360,13 @@ typedef struct codespan_detail {
 uint32_t codespan_emit(const codespan_file *files, size_t files_length,
                        const codespan_diagnostic *diagnostic, const codespan_config *config,
                        uint8_t *out, size_t out_length, size_t *written, codespan_detail *detail);
+
+/* Writes to `out` the CSS style sheet of the elements of CODESPAN_HTML, which shows them in these
+ * styles, meant for a dark page. Returns CODESPAN_OK, CODESPAN_TOO_SMALL or CODESPAN_OUT_OF_MEMORY
+ * and sets *written, as codespan_emit does; and CODESPAN_INVALID, with a *written of 0, where a
+ * color is not one of those above. */
+uint32_t codespan_html_styles(const codespan_styles *styles, uint8_t *out, size_t out_length,
+                              size_t *written);
 
 /* Returns the ABI version of the library; CODESPAN_ABI is the header's. */
 uint32_t codespan_abi_version(void);
@@ -341,22 +388,9 @@ uint32_t codespan_status_text(uint32_t status, uint32_t argument, uint8_t *text,
 
 /* ---- helpers for callers, which are not symbols of the library ---- */
 
-/* What a pointer for a length of 0 points to. */
-static const size_t codespan_nothing = 0;
-
-#define CODESPAN_NO_FILES ((const codespan_file *)(const void *)&codespan_nothing)
-#define CODESPAN_NO_LINES ((const codespan_line *)(const void *)&codespan_nothing)
-#define CODESPAN_NO_LOCATIONS ((const codespan_location *)(const void *)&codespan_nothing)
-#define CODESPAN_NO_LABELS ((const codespan_label *)(const void *)&codespan_nothing)
-#define CODESPAN_NO_NOTES ((const codespan_text *)(const void *)&codespan_nothing)
-
-/* Returns the text of these bytes; `bytes` may be NULL where length is 0. */
+/* Returns the text of these bytes. */
 static inline codespan_text codespan_text_of(const char *bytes, size_t length) {
-    codespan_text text = {(const uint8_t *)(const void *)&codespan_nothing, 0};
-    if (length > 0) {
-        text.bytes = (const uint8_t *)bytes;
-        text.length = length;
-    }
+    codespan_text text = {(const uint8_t *)bytes, length};
     return text;
 }
 
@@ -370,22 +404,22 @@ static inline codespan_text codespan_text_from(const char *string) {
 
 /* Returns a whole file, whose lines start after newlines. */
 static inline codespan_file codespan_new_file(codespan_text name, codespan_text source) {
-    codespan_file file = {name, source, 0, 0, CODESPAN_NO_LINES, 0, CODESPAN_NO_LOCATIONS, 0};
+    codespan_file file = {name, source, 0, 0, NULL, 0, NULL, 0, {0, 0}};
     return file;
 }
 
 /* Returns a label of the bytes from start to end of files[file]. */
 static inline codespan_label codespan_new_label(uint32_t style, size_t file, size_t start,
                                                 size_t end, codespan_text message) {
-    codespan_label label = {style, file, start, end, message};
+    codespan_label label = {style, file, start, end, message, {0, 0}};
     return label;
 }
 
 /* Returns a diagnostic with no code, labels or notes. */
 static inline codespan_diagnostic codespan_new_diagnostic(uint32_t severity,
                                                           codespan_text message) {
-    codespan_diagnostic diagnostic = {severity, codespan_no_text(), message, CODESPAN_NO_LABELS,
-                                      0,        CODESPAN_NO_NOTES,  0};
+    codespan_diagnostic diagnostic = {severity, codespan_no_text(), message, NULL, 0, NULL,
+                                      0,        {0, 0, 0, 0}};
     return diagnostic;
 }
 
@@ -410,7 +444,7 @@ static inline codespan_chars codespan_box_chars(void) {
     return chars;
 }
 
-/* Returns the default styles, those of CODESPAN_ANSI. */
+/* Returns the default styles, those of CODESPAN_DEFAULT_STYLES. */
 static inline codespan_styles codespan_default_styles(void) {
     codespan_styles styles = {
         {CODESPAN_RED, CODESPAN_NO_COLOR, 1, 1},      /* header_bug */
@@ -432,13 +466,14 @@ static inline codespan_styles codespan_default_styles(void) {
     return styles;
 }
 
-/* Returns the default configuration: rich style, classic layout, plain text, box drawing, tab stops
- * every 4 cells. */
+/* Returns the default configuration: rich style, classic layout, safe text without colors, box
+ * drawing, tab stops every 4 cells. */
 static inline codespan_config codespan_default_config(void) {
     codespan_config config = {CODESPAN_ABI,
                               CODESPAN_RICH,
                               CODESPAN_CLASSIC,
-                              CODESPAN_PLAIN,
+                              CODESPAN_TERMINAL,
+                              CODESPAN_COLORS_OFF,
                               CODESPAN_BOX_CHARS,
                               4, /* tab_width */
                               3, /* start_context_lines */
@@ -446,7 +481,8 @@ static inline codespan_config codespan_default_config(void) {
                               0, /* before_label_lines */
                               0, /* after_label_lines */
                               codespan_box_chars(),
-                              codespan_default_styles()};
+                              codespan_default_styles(),
+                              {0, 0, 0, 0, 0, 0, 0, 0}};
     return config;
 }
 

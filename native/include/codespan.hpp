@@ -5,8 +5,9 @@
  *     diagnostic.labels = {codespan::primary(0, 12, 15, "not declared")};
  *     codespan::print(stderr, {file}, diagnostic);
  *
- * Texts are views in UTF-8: what they view has to live until the call returns. Byte indices start
- * at 0 and count from the start of the file, ends are exclusive; both may be any number.
+ * Texts are views in UTF-8: what they view has to live until the call returns. So a text that is
+ * put together, such as "unknown name " + name, has to be in a std::string of its own. Byte indices
+ * start at 0 and count from the start of the file, ends are exclusive; both may be any number.
  *
  * emit and print throw codespan::Error. Without exceptions (-fno-exceptions) call try_emit, which
  * returns a status in its place.
@@ -54,11 +55,20 @@ enum class Characters : std::uint32_t {
     Custom = CODESPAN_CUSTOM_CHARS /* those of Config::chars */
 };
 
-/* Whether the output has escape sequences for colors, and which. */
+/* The form of an output. codespan.h says what is safe. */
+enum class Form : std::uint32_t {
+    Terminal = CODESPAN_TERMINAL,      /* safe text, for a terminal or a log */
+    Text = CODESPAN_TEXT,              /* text as it is passed */
+    StyleMarks = CODESPAN_STYLE_MARKS, /* that text with style marks */
+    Html = CODESPAN_HTML,              /* an HTML element */
+    Svg = CODESPAN_SVG                 /* an SVG document */
+};
+
+/* The colors of an output. */
 enum class Colors : std::uint32_t {
-    None = CODESPAN_PLAIN,
-    Default = CODESPAN_ANSI,
-    Custom = CODESPAN_ANSI_STYLES /* those of Config::styles */
+    Off = CODESPAN_COLORS_OFF,
+    Default = CODESPAN_DEFAULT_STYLES,
+    Own = CODESPAN_OWN_STYLES /* those of Config::styles */
 };
 
 /* A file, or a window of one: codespan_file of codespan.h says what the numbers mean. */
@@ -105,7 +115,8 @@ struct Diagnostic {
 struct Config {
     DisplayStyle display_style = DisplayStyle::Rich;
     Layout layout = Layout::Classic;
-    Colors colors = Colors::None; /* print decides itself */
+    Form form = Form::Terminal;
+    Colors colors = Colors::Off; /* print decides itself */
     Characters characters = Characters::Box;
     std::size_t tab_width = 4; /* cells between tab stops */
     std::size_t start_context_lines =
@@ -161,25 +172,21 @@ inline codespan_text text(std::string_view view) noexcept {
     return codespan_text_of(view.data(), view.size());
 }
 
-/* Returns where the values of a vector are; what C takes for an empty one is not NULL. */
-template <typename T> const T *values(const std::vector<T> &vector) noexcept {
-    return vector.empty() ? static_cast<const T *>(static_cast<const void *>(&codespan_nothing))
-                          : vector.data();
-}
-
 inline codespan_file c_file(const File &file) noexcept {
-    return {text(file.name),    text(file.source), file.first_byte,        file.first_line,
-            values(file.lines), file.lines.size(), values(file.locations), file.locations.size()};
+    return {text(file.name),       text(file.source),     file.first_byte,
+            file.first_line,       file.lines.data(),     file.lines.size(),
+            file.locations.data(), file.locations.size(), {}};
 }
 
 inline codespan_label c_label(const Label &label) noexcept {
-    return {label.style, label.file, label.start, label.end, text(label.message)};
+    return {label.style, label.file, label.start, label.end, text(label.message), {}};
 }
 
 inline codespan_config c_config(const Config &config) noexcept {
     return {CODESPAN_ABI,
             static_cast<std::uint32_t>(config.display_style),
             static_cast<std::uint32_t>(config.layout),
+            static_cast<std::uint32_t>(config.form),
             static_cast<std::uint32_t>(config.colors),
             static_cast<std::uint32_t>(config.characters),
             config.tab_width,
@@ -188,7 +195,8 @@ inline codespan_config c_config(const Config &config) noexcept {
             config.before_label_lines,
             config.after_label_lines,
             config.chars,
-            config.styles};
+            config.styles,
+            {}};
 }
 
 /* The call, with the values of C++ as C has them. */
@@ -208,10 +216,11 @@ class Call {
         diagnostic_ = {static_cast<std::uint32_t>(diagnostic.severity),
                        text(diagnostic.code),
                        text(diagnostic.message),
-                       values(labels_),
+                       labels_.data(),
                        labels_.size(),
-                       values(notes_),
-                       notes_.size()};
+                       notes_.data(),
+                       notes_.size(),
+                       {}};
     }
 
     /* Renders into a text that grows to the length of the output. */
@@ -220,7 +229,7 @@ class Call {
         std::size_t written = first_length;
         while (emitted.status == CODESPAN_TOO_SMALL) {
             emitted.text.resize(written);
-            emitted.status = codespan_emit(values(files_), files_.size(), &diagnostic_, &config_,
+            emitted.status = codespan_emit(files_.data(), files_.size(), &diagnostic_, &config_,
                                            reinterpret_cast<std::uint8_t *>(emitted.text.data()),
                                            emitted.text.size(), &written, &emitted.detail);
         }
@@ -254,7 +263,7 @@ inline Emitted try_emit(const std::vector<File> &files, const Diagnostic &diagno
 }
 
 #ifdef __cpp_exceptions
-/* Renders a diagnostic as text. Throws Error. */
+/* Renders a diagnostic, in the form of the configuration. Throws Error. */
 inline std::string emit(const std::vector<File> &files, const Diagnostic &diagnostic,
                         const Config &config = {}) {
     Emitted emitted = try_emit(files, diagnostic, config);
@@ -263,15 +272,49 @@ inline std::string emit(const std::vector<File> &files, const Diagnostic &diagno
     return std::move(emitted.text);
 }
 
-/* Renders a diagnostic and writes it to a stream, in colors where codespan_stream_has_colors says
- * so, whatever `config.colors` is; in the styles of `config` where it has custom ones. Control
- * characters in texts reach the stream. Returns whether all of it was written. Throws Error, and
- * then nothing is written. */
+/* Returns a diagnostic as an HTML element, for a page in UTF-8 that has the style sheet of
+ * html_styles. Throws Error. */
+inline std::string to_html(const std::vector<File> &files, const Diagnostic &diagnostic,
+                           Config config = {}) {
+    config.form = Form::Html;
+    return emit(files, diagnostic, config);
+}
+
+/* Returns a diagnostic as an SVG document, in the styles of `config` where it has own ones. Throws
+ * Error. */
+inline std::string to_svg(const std::vector<File> &files, const Diagnostic &diagnostic,
+                          Config config = {}) {
+    config.form = Form::Svg;
+    return emit(files, diagnostic, config);
+}
+
+/* Returns the CSS style sheet of the elements of to_html, which shows them in these styles, meant
+ * for a dark page. Throws Error. */
+inline std::string html_styles(const codespan_styles &styles = codespan_default_styles()) {
+    std::string css;
+    std::size_t written = 4096;
+    std::uint32_t status = CODESPAN_TOO_SMALL;
+    while (status == CODESPAN_TOO_SMALL) {
+        css.resize(written);
+        status = codespan_html_styles(&styles, reinterpret_cast<std::uint8_t *>(css.data()),
+                                      css.size(), &written);
+    }
+    if (status != CODESPAN_OK)
+        throw Error(status, {CODESPAN_ARGUMENT_COLOR, 0});
+    css.resize(written);
+    return css;
+}
+
+/* Renders a diagnostic as safe text and writes it to a stream, in colors where
+ * codespan_stream_has_colors says so, whatever `config.form` and `config.colors` are; in the styles
+ * of `config` where it has own ones. Returns whether all of it was written. Throws Error, and then
+ * nothing is written. */
 inline bool print(std::FILE *stream, const std::vector<File> &files, const Diagnostic &diagnostic,
                   Config config = {}) {
+    config.form = Form::Terminal;
     if (!codespan_stream_has_colors(stream))
-        config.colors = Colors::None;
-    else if (config.colors == Colors::None)
+        config.colors = Colors::Off;
+    else if (config.colors == Colors::Off)
         config.colors = Colors::Default;
     const std::string text = emit(files, diagnostic, config);
     return std::fwrite(text.data(), 1, text.size(), stream) == text.size();

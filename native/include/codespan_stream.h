@@ -37,7 +37,8 @@ static inline int codespan_stream_has_colors(FILE *stream) {
 /* Returns the default configuration, with colors where output to the stream is to be colored. */
 static inline codespan_config codespan_stream_config(FILE *stream) {
     codespan_config config = codespan_default_config();
-    config.spelling = codespan_stream_has_colors(stream) ? CODESPAN_ANSI : CODESPAN_PLAIN;
+    config.color_mode =
+        codespan_stream_has_colors(stream) ? CODESPAN_DEFAULT_STYLES : CODESPAN_COLORS_OFF;
     return config;
 }
 

@@ -8,10 +8,12 @@ ghost use Rattle.codespan_native.specs.EmitCalls.{EmitsToBuffer};
 ghost use Rattle.codespan_native.specs.Results.{IsTooSmall, IsWritten};
 ghost use Rattle.codespan_native.specs.Statuses.{OK, TOO_SMALL};
 ghost use Rattle.codespan_native.specs.StatusTexts.{text_for};
+ghost use Rattle.codespan_native.specs.StyleSheets.{WritesStyleSheet};
 
 use codespan_native::emit::emit;
-use codespan_native::raw::{ABI, Detail, RawConfig, RawDiagnostic, RawFile};
+use codespan_native::raw::{ABI, Detail, RawConfig, RawDiagnostic, RawFile, RawStyles};
 use codespan_native::status::write_status;
+use codespan_native::style_sheet::write_style_sheet;
 use std::alloc::Global;
 
 /// Renders a diagnostic over files into `out`, and returns a status: see [`emit`].
@@ -32,6 +34,20 @@ pub extern "C" fn codespan_emit(
     *written = outcome.written;
     *detail = outcome.detail;
     outcome.status
+}
+
+/// Writes the style sheet of HTML elements to `out`, and returns a status: see
+/// [`write_style_sheet`].
+#[unsafe(no_mangle)]
+pub extern "C" fn codespan_html_styles(
+    alloc: Global,
+    styles: &RawStyles,
+    out: &mut [u8],
+    written: &mut usize,
+) -> u32
+    ensures { WritesStyleSheet styles.now out.old out.new result written.new }
+{
+    write_style_sheet(alloc, styles, out, written)
 }
 
 /// Returns the ABI version, which fixes the layouts of the structs.

@@ -5,13 +5,16 @@ use Rattle.std.proofs.Common.{inr, refl, sym, ap, subst, arith}
 use Rattle.std.proofs.lemmas.Bool.{cases_order}
 use Rattle.codespan_native.specs.declared.error.Argument.{Argument}
 use Rattle.codespan_native.specs.declared.error.Argument.TheVariants.{Abi, DisplayStyle, Layout}
-use Rattle.codespan_native.specs.declared.error.Argument.TheVariants.{Spelling, Characters}
+use Rattle.codespan_native.specs.declared.error.Argument.TheVariants.{Form, ColorMode, Characters}
 use Rattle.codespan_native.specs.declared.error.Argument.TheVariants.{SnippetStart, Character}
-use Rattle.codespan_native.specs.declared.error.Argument.TheVariants.{Color, FileName, FileSource}
+use Rattle.codespan_native.specs.declared.error.Argument.TheVariants.{Color, ConfigReserved}
+use Rattle.codespan_native.specs.declared.error.Argument.TheVariants.{FileName, FileSource}
 use Rattle.codespan_native.specs.declared.error.Argument.TheVariants.{FileLines, FileLocations}
-use Rattle.codespan_native.specs.declared.error.Argument.TheVariants.{Severity, Code, Message}
+use Rattle.codespan_native.specs.declared.error.Argument.TheVariants.{FileReserved, Severity, Code}
+use Rattle.codespan_native.specs.declared.error.Argument.TheVariants.{Message, DiagnosticReserved}
 use Rattle.codespan_native.specs.declared.error.Argument.TheVariants.{LabelStyle, LabelMessage}
-use Rattle.codespan_native.specs.declared.error.Argument.TheVariants.{LabelFile, Note}
+use Rattle.codespan_native.specs.declared.error.Argument.TheVariants.{LabelFile, LabelReserved}
+use Rattle.codespan_native.specs.declared.error.Argument.TheVariants.{Note}
 use Rattle.codespan_native.specs.declared.raw.RawConfig.{RawConfig}
 use Rattle.codespan_native.specs.declared.raw.RawDiagnostic.{RawDiagnostic}
 use Rattle.codespan_native.specs.declared.raw.RawFile.{RawFile}
@@ -40,21 +43,26 @@ kind : (a : Argument) → (a ≡ LabelFile) ⊎ IsOther a
 kind Abi = other Abi (λ e. absurd (omega (arith, e))) refl
 kind DisplayStyle = other DisplayStyle (λ e. absurd (omega (arith, e))) refl
 kind Layout = other Layout (λ e. absurd (omega (arith, e))) refl
-kind Spelling = other Spelling (λ e. absurd (omega (arith, e))) refl
+kind Form = other Form (λ e. absurd (omega (arith, e))) refl
+kind ColorMode = other ColorMode (λ e. absurd (omega (arith, e))) refl
 kind Characters = other Characters (λ e. absurd (omega (arith, e))) refl
 kind SnippetStart = other SnippetStart (λ e. absurd (omega (arith, e))) refl
 kind Character = other Character (λ e. absurd (omega (arith, e))) refl
 kind Color = other Color (λ e. absurd (omega (arith, e))) refl
+kind ConfigReserved = other ConfigReserved (λ e. absurd (omega (arith, e))) refl
 kind FileName = other FileName (λ e. absurd (omega (arith, e))) refl
 kind FileSource = other FileSource (λ e. absurd (omega (arith, e))) refl
 kind FileLines = other FileLines (λ e. absurd (omega (arith, e))) refl
 kind FileLocations = other FileLocations (λ e. absurd (omega (arith, e))) refl
+kind FileReserved = other FileReserved (λ e. absurd (omega (arith, e))) refl
 kind Severity = other Severity (λ e. absurd (omega (arith, e))) refl
 kind Code = other Code (λ e. absurd (omega (arith, e))) refl
 kind Message = other Message (λ e. absurd (omega (arith, e))) refl
+kind DiagnosticReserved = other DiagnosticReserved (λ e. absurd (omega (arith, e))) refl
 kind LabelStyle = other LabelStyle (λ e. absurd (omega (arith, e))) refl
 kind LabelMessage = other LabelMessage (λ e. absurd (omega (arith, e))) refl
 kind LabelFile = inl refl
+kind LabelReserved = other LabelReserved (λ e. absurd (omega (arith, e))) refl
 kind Note = other Note (λ e. absurd (omega (arith, e))) refl
 
 -- its status goes by its number

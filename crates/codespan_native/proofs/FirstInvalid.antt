@@ -7,13 +7,16 @@ use Rattle.std.proofs.lemmas.Bool.{cases_lt}
 use Rattle.std.specs.List.{HoldsAt}
 use Rattle.codespan_native.specs.declared.error.Argument.{Argument}
 use Rattle.codespan_native.specs.declared.error.Argument.TheVariants.{Abi, DisplayStyle, Layout}
-use Rattle.codespan_native.specs.declared.error.Argument.TheVariants.{Spelling, Characters}
+use Rattle.codespan_native.specs.declared.error.Argument.TheVariants.{Form, ColorMode, Characters}
 use Rattle.codespan_native.specs.declared.error.Argument.TheVariants.{SnippetStart, Character}
-use Rattle.codespan_native.specs.declared.error.Argument.TheVariants.{Color, FileName, FileSource}
+use Rattle.codespan_native.specs.declared.error.Argument.TheVariants.{Color, ConfigReserved}
+use Rattle.codespan_native.specs.declared.error.Argument.TheVariants.{FileName, FileSource}
 use Rattle.codespan_native.specs.declared.error.Argument.TheVariants.{FileLines, FileLocations}
-use Rattle.codespan_native.specs.declared.error.Argument.TheVariants.{Severity, Code, Message}
+use Rattle.codespan_native.specs.declared.error.Argument.TheVariants.{FileReserved, Severity, Code}
+use Rattle.codespan_native.specs.declared.error.Argument.TheVariants.{Message, DiagnosticReserved}
 use Rattle.codespan_native.specs.declared.error.Argument.TheVariants.{LabelStyle, LabelMessage}
-use Rattle.codespan_native.specs.declared.error.Argument.TheVariants.{LabelFile, Note}
+use Rattle.codespan_native.specs.declared.error.Argument.TheVariants.{LabelFile, LabelReserved}
+use Rattle.codespan_native.specs.declared.error.Argument.TheVariants.{Note}
 use Rattle.codespan_native.specs.declared.raw.RawConfig.{RawConfig}
 use Rattle.codespan_native.specs.declared.raw.RawDiagnostic.{RawDiagnostic}
 use Rattle.codespan_native.specs.declared.raw.RawFile.{RawFile}
@@ -60,10 +63,11 @@ by_test test P (Some i) sound complete found = record {
 -- all arguments, by their numbers
 abbrev pub in_order : List Argument
 in_order =
-    Abi ∷ DisplayStyle ∷ Layout ∷ Spelling ∷ Characters
-    ∷ SnippetStart ∷ Character ∷ Color ∷ FileName ∷ FileSource
-    ∷ FileLines ∷ FileLocations ∷ Severity ∷ Code ∷ Message
-    ∷ LabelStyle ∷ LabelMessage ∷ LabelFile ∷ Note ∷ []
+    Abi ∷ DisplayStyle ∷ Layout ∷ Form ∷ ColorMode
+    ∷ Characters ∷ SnippetStart ∷ Character ∷ Color ∷ ConfigReserved
+    ∷ FileName ∷ FileSource ∷ FileLines ∷ FileLocations ∷ FileReserved
+    ∷ Severity ∷ Code ∷ Message ∷ DiagnosticReserved ∷ LabelStyle
+    ∷ LabelMessage ∷ LabelFile ∷ LabelReserved ∷ Note ∷ []
 
 -- the argument of a number
 at_number : (b : Argument) (i : ℕ) (d : Argument) → argument_number b ≡ i + 1
@@ -71,22 +75,27 @@ at_number : (b : Argument) (i : ℕ) (d : Argument) → argument_number b ≡ i 
 at_number Abi i d e = let at : i ≡ 0 = omega (arith, e) in rw at refl
 at_number DisplayStyle i d e = let at : i ≡ 1 = omega (arith, e) in rw at refl
 at_number Layout i d e = let at : i ≡ 2 = omega (arith, e) in rw at refl
-at_number Spelling i d e = let at : i ≡ 3 = omega (arith, e) in rw at refl
-at_number Characters i d e = let at : i ≡ 4 = omega (arith, e) in rw at refl
-at_number SnippetStart i d e = let at : i ≡ 5 = omega (arith, e) in rw at refl
-at_number Character i d e = let at : i ≡ 6 = omega (arith, e) in rw at refl
-at_number Color i d e = let at : i ≡ 7 = omega (arith, e) in rw at refl
-at_number FileName i d e = let at : i ≡ 8 = omega (arith, e) in rw at refl
-at_number FileSource i d e = let at : i ≡ 9 = omega (arith, e) in rw at refl
-at_number FileLines i d e = let at : i ≡ 10 = omega (arith, e) in rw at refl
-at_number FileLocations i d e = let at : i ≡ 11 = omega (arith, e) in rw at refl
-at_number Severity i d e = let at : i ≡ 12 = omega (arith, e) in rw at refl
-at_number Code i d e = let at : i ≡ 13 = omega (arith, e) in rw at refl
-at_number Message i d e = let at : i ≡ 14 = omega (arith, e) in rw at refl
-at_number LabelStyle i d e = let at : i ≡ 15 = omega (arith, e) in rw at refl
-at_number LabelMessage i d e = let at : i ≡ 16 = omega (arith, e) in rw at refl
-at_number LabelFile i d e = let at : i ≡ 17 = omega (arith, e) in rw at refl
-at_number Note i d e = let at : i ≡ 18 = omega (arith, e) in rw at refl
+at_number Form i d e = let at : i ≡ 3 = omega (arith, e) in rw at refl
+at_number ColorMode i d e = let at : i ≡ 4 = omega (arith, e) in rw at refl
+at_number Characters i d e = let at : i ≡ 5 = omega (arith, e) in rw at refl
+at_number SnippetStart i d e = let at : i ≡ 6 = omega (arith, e) in rw at refl
+at_number Character i d e = let at : i ≡ 7 = omega (arith, e) in rw at refl
+at_number Color i d e = let at : i ≡ 8 = omega (arith, e) in rw at refl
+at_number ConfigReserved i d e = let at : i ≡ 9 = omega (arith, e) in rw at refl
+at_number FileName i d e = let at : i ≡ 10 = omega (arith, e) in rw at refl
+at_number FileSource i d e = let at : i ≡ 11 = omega (arith, e) in rw at refl
+at_number FileLines i d e = let at : i ≡ 12 = omega (arith, e) in rw at refl
+at_number FileLocations i d e = let at : i ≡ 13 = omega (arith, e) in rw at refl
+at_number FileReserved i d e = let at : i ≡ 14 = omega (arith, e) in rw at refl
+at_number Severity i d e = let at : i ≡ 15 = omega (arith, e) in rw at refl
+at_number Code i d e = let at : i ≡ 16 = omega (arith, e) in rw at refl
+at_number Message i d e = let at : i ≡ 17 = omega (arith, e) in rw at refl
+at_number DiagnosticReserved i d e = let at : i ≡ 18 = omega (arith, e) in rw at refl
+at_number LabelStyle i d e = let at : i ≡ 19 = omega (arith, e) in rw at refl
+at_number LabelMessage i d e = let at : i ≡ 20 = omega (arith, e) in rw at refl
+at_number LabelFile i d e = let at : i ≡ 21 = omega (arith, e) in rw at refl
+at_number LabelReserved i d e = let at : i ≡ 22 = omega (arith, e) in rw at refl
+at_number Note i d e = let at : i ≡ 23 = omega (arith, e) in rw at refl
 
 -- the numbers of arguments from this one on
 abbrev AreNumbered : ℕ → List Argument → Type 0
@@ -118,7 +127,7 @@ module _ (files : List RawFile) (d : RawDiagnostic) (c : RawConfig) (i : ℕ) wh
   ]
 
   -- the argument at the index is the first invalid one
-  pub first-found : (index : ℕ) → i < 19
+  pub first-found : (index : ℕ) → i < 24
       → ((b : Argument) (j : ℕ) → argument_number b ≤ i → IsValidAt files d c b j)
       → IsFirstInvalidIndex (IsValidAt files d c (get_or in_order i Abi)) index
       → IsFirstInvalid files d c (get_or in_order i Abi) index

@@ -12,3 +12,4 @@ pub mod Rendered
 pub mod LookupsFound
 -- what the call does
 pub mod Emitted
+pub mod StyleSheets

@@ -26,7 +26,7 @@ use Rattle.codespan_output.specs.Lookups.{late_lookups, lookup_past_end, lookups
 use Rattle.codespan_output.specs.Lookups.{numbers_for_padding, filled_line_lookups}
 use Rattle.codespan_output.specs.Lookups.{label_line_lookups, line_lookups, snippet_lookups}
 use Rattle.codespan_output.specs.Snippets.{LabelInFile, file_ids, locus_byte_of, primary_of}
-use Rattle.codespan_output.specs.ViewPictures.{label_of_view}
+use Rattle.codespan_output.specs.Picture.{label_of_view}
 use Rattle.codespan_native.specs.declared.error.Argument.TheVariants.{LabelFile}
 use Rattle.codespan_native.specs.declared.raw.RawConfig.{RawConfig}
 use Rattle.codespan_native.specs.declared.raw.RawDiagnostic.{RawDiagnostic}

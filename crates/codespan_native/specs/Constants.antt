@@ -4,7 +4,7 @@ use Rattle.std.specs.Prelude.{ℕ}
 
 -- the ABI version, which fixes the layouts of the structs
 abbrev pub ABI : ℕ
-ABI = 1
+ABI = 2
 
 -- the greatest tab width, in cells
 abbrev pub TAB_WIDTH_MAX : ℕ

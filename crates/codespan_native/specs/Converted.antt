@@ -1,12 +1,12 @@
--- What the structs of C are converted to: a diagnostic, a configuration and its styles, and files.
+-- What the structs of C are converted to: a diagnostic, a configuration, its styles and the form of
+-- the output, and files.
 use Rattle.std.specs.Prelude.{ℕ, ◌-◌, ◌==◌, if◌then◌else◌, not, min, List, []}
 use Rattle.std.specs.Prelude.{◌∷◌, map, slice_get, Option, Some, None}
 use Rattle.std.specs.Option.{option_map_or}
 use Rattle.codespan_base.specs.Characters.{ascii, box_drawing}
 use Rattle.codespan_base.specs.Diagnostics.{DiagnosticView, LabelView}
 use Rattle.codespan_base.specs.FileModel.{FileDatabase}
-use Rattle.codespan_base.specs.Streams.{Spelling, plain_spelling}
-use Rattle.codespan_base.specs.StyleSpellings.{ansi_spelling, default_styles}
+use Rattle.codespan_base.specs.StyleSpellings.{default_styles}
 use Rattle.codespan_base.specs.declared.diagnostic.LabelStyle.{LabelStyle}
 use Rattle.codespan_base.specs.declared.diagnostic.LabelStyle.TheVariants.{Primary, Secondary}
 use Rattle.codespan_base.specs.declared.diagnostic.Severity.{Severity}
@@ -25,6 +25,10 @@ use Rattle.codespan_base.specs.declared.term.config.color.Color.TheVariants.{Yel
 use Rattle.codespan_base.specs.declared.term.config.color.Color.TheVariants.{Cyan, White}
 use Rattle.codespan_base.specs.declared.term.config.color.ColorSpec.{ColorSpec}
 use Rattle.codespan_base.specs.declared.term.config.styles.Styles.{Styles}
+use Rattle.codespan_native.specs.declared.convert.forms.Form.{Form}
+use Rattle.codespan_native.specs.declared.convert.forms.Form.TheVariants.{SafeText, Terminal, Text}
+use Rattle.codespan_native.specs.declared.convert.forms.Form.TheVariants.{Ansi, StyleMarks, Html}
+use Rattle.codespan_native.specs.declared.convert.forms.Form.TheVariants.{Svg}
 use Rattle.codespan_native.specs.declared.raw.RawChars.{RawChars}
 use Rattle.codespan_native.specs.declared.raw.RawColorSpec.{RawColorSpec}
 use Rattle.codespan_native.specs.declared.raw.RawConfig.{RawConfig}
@@ -35,7 +39,6 @@ use Rattle.codespan_native.specs.declared.raw.RawLine.{RawLine}
 use Rattle.codespan_native.specs.declared.raw.RawStyles.{RawStyles}
 use Rattle.codespan_native.specs.declared.raw.RawText.{RawText}
 use Rattle.codespan_native.specs.Constants.{TAB_WIDTH_MAX}
-use Rattle.codespan_native.specs.StyleMarkBytes.{style_mark_spelling}
 use Rattle.codespan_native.specs.StatedLines.{location_at}
 use Rattle.codespan_native.specs.SourceTexts.{SourceTextView, NativeFileView, native_database}
 use Rattle.codespan_native.specs.SourceTexts.{stated_text, newline_text}
@@ -175,11 +178,29 @@ custom_styles s = record {
   note_bullet = color_spec_of s.note_bullet;
 }
 
--- how style marks are spelled
-abbrev pub spelling_of : RawConfig → Spelling
-spelling_of c =
-    if c.spelling == 0 then plain_spelling else if c.spelling == 1 then ansi_spelling default_styles
-    else if c.spelling == 2 then ansi_spelling (custom_styles c.styles) else style_mark_spelling
+-- ---- the form
+
+-- the styles that are chosen
+unfoldable pub styles_of : RawConfig → Styles
+styles_of c = if c.color_mode == 2 then custom_styles c.styles else default_styles
+
+-- safe text for a terminal
+abbrev pub terminal_form : RawConfig → Form
+terminal_form c = if c.color_mode == 0 then SafeText else Terminal (styles_of c)
+
+-- text
+abbrev pub text_form : RawConfig → Form
+text_form c = if c.color_mode == 0 then Text else Ansi (styles_of c)
+
+-- text with style marks in band, or a document
+abbrev pub other_form : RawConfig → Form
+other_form c =
+    if c.form == 2 then StyleMarks else if c.form == 3 then Html else Svg (styles_of c)
+
+-- what the output is written as
+abbrev pub form_of : RawConfig → Form
+form_of c =
+    if c.form == 0 then terminal_form c else if c.form == 1 then text_form c else other_form c
 
 -- ---- the files
 

@@ -10,7 +10,7 @@ pub mod SourceTexts
 pub mod SourceModel
 -- what the structs of C are converted to, which of their values are valid, and what a call leaves
 pub mod Converted
-pub mod Spellings
+pub mod Forms
 pub mod Validity
 pub mod ValidParts
 pub mod Results
@@ -20,6 +20,8 @@ pub mod StatusTexts
 -- the output of the structs, what it means, and what the call does
 pub mod Meaning
 pub mod EmitCalls
+-- the style sheet of HTML elements
+pub mod StyleSheets
 pub mod RenderedStreams
 -- lemmas, which a reader may skip
 pub mod Lemmas

@@ -2,18 +2,19 @@
 use Rattle.std.specs.Prelude.{◌≡◌, ℕ, List}
 use Rattle.codespan_base.specs.Diagnostics.{diagnostic_view}
 use Rattle.codespan_base.specs.ConfigEquality.{IsEqualConfig}
-use Rattle.codespan_base.specs.Streams.{Stream, spelled}
+use Rattle.codespan_base.specs.Streams.{Stream}
 use Rattle.codespan_base.specs.declared.diagnostic.Diagnostic.{Diagnostic}
 use Rattle.codespan_base.specs.declared.term.config.Config.{Config}
 use Rattle.codespan_base.specs.declared.term.config.DisplayStyle.TheVariants.{Rich}
 use Rattle.codespan_output.specs.RichLaws.{IsOutput}
 use Rattle.codespan_output.specs.Lookups.{AllSucceed, lookups_in}
-use Rattle.codespan_output.specs.ViewPictures.{picture_of_diagnostic_view}
+use Rattle.codespan_output.specs.Picture.{picture_of_diagnostic_view}
 use Rattle.codespan_native.specs.declared.raw.RawConfig.{RawConfig}
 use Rattle.codespan_native.specs.declared.raw.RawDiagnostic.{RawDiagnostic}
 use Rattle.codespan_native.specs.declared.raw.RawFile.{RawFile}
-use Rattle.codespan_native.specs.Converted.{converted_diagnostic, converted_config, spelling_of}
-use Rattle.codespan_native.specs.Converted.{converted_files}
+use Rattle.codespan_native.specs.Converted.{converted_diagnostic, converted_config, converted_files}
+use Rattle.codespan_native.specs.Converted.{form_of}
+use Rattle.codespan_native.specs.Forms.{bytes_in_form}
 
 -- the output that the structs describe
 abbrev pub output_stream : List RawFile → RawDiagnostic → RawConfig → Stream
@@ -22,10 +23,10 @@ output_stream files diagnostic config =
     picture_of_diagnostic_view (converted_config config) database.same database.file
     (converted_diagnostic files diagnostic)
 
--- its bytes
+-- its bytes, in the form of the configuration
 unfoldable pub output_bytes : List RawFile → RawDiagnostic → RawConfig → List ℕ
 output_bytes files diagnostic config =
-    spelled (spelling_of config) (output_stream files diagnostic config)
+    bytes_in_form (form_of config) (output_stream files diagnostic config)
 
 -- this output is the rich one of the Rust values for which the structs stand, and means their
 -- labels, as `IsOutput` says

@@ -1,10 +1,13 @@
 -- What the Rust values of a configuration, files and a diagnostic render.
-use Rattle.std.specs.Prelude.{◌≡◌, ◌++◌, ℕ, List}
+use Rattle.std.specs.Prelude.{◌≡◌, ℕ, List}
 use Rattle.codespan_base.specs.declared.diagnostic.Diagnostic.{Diagnostic}
 use Rattle.codespan_base.specs.declared.term.config.Config.{Config}
-use Rattle.codespan_base.specs.Streams.{Spelling, Stream, spelled}
+use Rattle.codespan_base.specs.Streams.{Stream}
 use Rattle.codespan_output.specs.RichLaws.{IsOutput}
 use Rattle.codespan_output.specs.Picture.{picture}
+use Rattle.codespan_styled.specs.Runs.{RunView, runs_of}
+use Rattle.codespan_native.specs.declared.convert.forms.Form.{Form}
+use Rattle.codespan_native.specs.Forms.{bytes_in_form}
 use Rattle.codespan_native.specs.SourceTexts.{NativeFileView, native_database}
 
 module _ (config : Config) (files : List NativeFileView) (d : Diagnostic ℕ) where
@@ -17,7 +20,12 @@ module _ (config : Config) (files : List NativeFileView) (d : Diagnostic ℕ) wh
   StreamIsOutput =
       IsOutput config.display_style config config (native_database files) d stream_of_output
 
-  -- the bytes are those in front, and then the output, its style marks spelled so
-  pub record IsSpelledOutput (spelling : Spelling) (front bytes : List ℕ) : Type 0 where
-    pub value : bytes ≡ front ++ spelled spelling stream_of_output
+  -- the bytes are the output in a form
+  pub record IsFormedOutput (form : Form) (bytes : List ℕ) : Type 0 where
+    pub value : bytes ≡ bytes_in_form form stream_of_output
+    pub is_output : StreamIsOutput
+
+  -- the runs are those of the output
+  pub record AreOutputRuns (runs : List RunView) : Type 0 where
+    pub runs_are : runs ≡ runs_of stream_of_output
     pub is_output : StreamIsOutput

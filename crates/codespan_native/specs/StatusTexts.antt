@@ -1,13 +1,15 @@
 -- The texts of statuses and arguments, which are ASCII.
 use Rattle.std.specs.Prelude.{ℕ, ◌==◌, if◌then◌else◌, List, ◌++◌, codes}
 use Rattle.codespan_native.specs.declared.error.Argument.TheVariants.{Abi, DisplayStyle, Layout}
-use Rattle.codespan_native.specs.declared.error.Argument.TheVariants.{Spelling, Characters}
+use Rattle.codespan_native.specs.declared.error.Argument.TheVariants.{Form, ColorMode, Characters}
 use Rattle.codespan_native.specs.declared.error.Argument.TheVariants.{SnippetStart, Character}
-use Rattle.codespan_native.specs.declared.error.Argument.TheVariants.{Color, FileName, FileSource}
+use Rattle.codespan_native.specs.declared.error.Argument.TheVariants.{Color, ConfigReserved}
+use Rattle.codespan_native.specs.declared.error.Argument.TheVariants.{FileName, FileSource}
 use Rattle.codespan_native.specs.declared.error.Argument.TheVariants.{FileLines, FileLocations}
-use Rattle.codespan_native.specs.declared.error.Argument.TheVariants.{Severity, Code, Message}
+use Rattle.codespan_native.specs.declared.error.Argument.TheVariants.{FileReserved, Severity, Code}
+use Rattle.codespan_native.specs.declared.error.Argument.TheVariants.{Message, DiagnosticReserved}
 use Rattle.codespan_native.specs.declared.error.Argument.TheVariants.{LabelStyle, LabelMessage}
-use Rattle.codespan_native.specs.declared.error.Argument.TheVariants.{Note}
+use Rattle.codespan_native.specs.declared.error.Argument.TheVariants.{LabelReserved, Note}
 use Rattle.codespan_native.specs.Statuses.{OK, TOO_SMALL, OUT_OF_MEMORY, FILE_MISSING, INVALID}
 use Rattle.codespan_native.specs.Validity.{argument_number}
 
@@ -27,13 +29,16 @@ argument_text a =
     if a == argument_number DisplayStyle then
     codes "the display style must be one of those of the header" else
     if a == argument_number Layout then codes "the layout must be one of those of the header" else
-    if a == argument_number Spelling then
-    codes "the spelling must be one of those of the header" else
+    if a == argument_number Form then codes "the form must be one of those of the header" else
+    if a == argument_number ColorMode then
+    codes "the color mode must be one of those of the header" else
     if a == argument_number Characters then
     codes "the choice of characters must be one of those of the header" else
     if a == argument_number SnippetStart then codes "the text before a locus must be UTF-8" else
     if a == argument_number Character then codes "a character must be a Unicode scalar value" else
     if a == argument_number Color then codes "a color must be one of those of the header" else
+    if a == argument_number ConfigReserved then
+    codes "the reserved words of the configuration must be 0" else
     if a == argument_number FileName then codes "the name of a file must be UTF-8" else
     if a == argument_number FileSource then codes "the source of a file must be UTF-8" else
     if a == argument_number FileLines then
@@ -41,13 +46,17 @@ argument_text a =
     ++ codes " it, at boundaries of characters" else
     if a == argument_number FileLocations then
     codes "the locations of a file must ascend strictly" else
+    if a == argument_number FileReserved then codes "the reserved words of a file must be 0" else
     if a == argument_number Severity then
     codes "the severity must be one of those of the header" else
     if a == argument_number Code then codes "the code must be UTF-8" else
     if a == argument_number Message then codes "the message must be UTF-8" else
+    if a == argument_number DiagnosticReserved then
+    codes "the reserved words of the diagnostic must be 0" else
     if a == argument_number LabelStyle then
     codes "the style of a label must be one of those of the header" else
     if a == argument_number LabelMessage then codes "the message of a label must be UTF-8" else
+    if a == argument_number LabelReserved then codes "the reserved words of a label must be 0" else
     if a == argument_number Note then codes "a note must be UTF-8" else
     codes "an argument is invalid"
 

@@ -10,16 +10,17 @@ use Rattle.codespan_base.specs.declared.term.config.style_mark.StyleMark.TheVari
 use Rattle.codespan_base.specs.declared.term.config.style_mark.StyleMark.TheVariants.{SourceBorder}
 use Rattle.codespan_base.specs.declared.term.config.style_mark.StyleMark.TheVariants.{Label, Reset}
 
--- the number of a style mark
+-- the number of a style mark, above those of ASCII: no style mark has the byte of a NUL, a tab, a
+-- newline or a carriage return
 abbrev pub style_mark_number : StyleMark → ℕ
-style_mark_number (Header severity) = severity_rank severity
-style_mark_number HeaderMessage = 5
-style_mark_number LineNumber = 6
-style_mark_number NoteBullet = 7
-style_mark_number SourceBorder = 8
-style_mark_number (Label severity Primary) = 9 + severity_rank severity
-style_mark_number (Label severity Secondary) = 14 + severity_rank severity
-style_mark_number Reset = 19
+style_mark_number (Header severity) = 128 + severity_rank severity
+style_mark_number HeaderMessage = 133
+style_mark_number LineNumber = 134
+style_mark_number NoteBullet = 135
+style_mark_number SourceBorder = 136
+style_mark_number (Label severity Primary) = 137 + severity_rank severity
+style_mark_number (Label severity Secondary) = 142 + severity_rank severity
+style_mark_number Reset = 147
 
 -- the bytes of the style mark of a number
 abbrev pub style_mark_bytes : ℕ → List ℕ

@@ -1,18 +1,21 @@
 -- Which arguments are valid, and which invalid one is the first.
 use Rattle.std.specs.Prelude.{◌≡◌, ◌<◌, ◌≤◌, ℕ, true, List, [], ◌∷◌, length}
-use Rattle.std.specs.Prelude.{Option, MatchOption}
+use Rattle.std.specs.Prelude.{All, Option, MatchOption}
 use Rattle.std.specs.List.{slice_index_or, HoldsAt, AllWithin}
 use Rattle.std.specs.Char.{InScalarRange}
 use Rattle.std.specs.Str.{IsUtf8}
 use Rattle.codespan_native.specs.declared.error.Argument.{Argument}
 use Rattle.codespan_native.specs.declared.error.Argument.TheVariants.{Abi, DisplayStyle, Layout}
-use Rattle.codespan_native.specs.declared.error.Argument.TheVariants.{Spelling, Characters}
+use Rattle.codespan_native.specs.declared.error.Argument.TheVariants.{Form, ColorMode, Characters}
 use Rattle.codespan_native.specs.declared.error.Argument.TheVariants.{SnippetStart, Character}
-use Rattle.codespan_native.specs.declared.error.Argument.TheVariants.{Color, FileName, FileSource}
+use Rattle.codespan_native.specs.declared.error.Argument.TheVariants.{Color, ConfigReserved}
+use Rattle.codespan_native.specs.declared.error.Argument.TheVariants.{FileName, FileSource}
 use Rattle.codespan_native.specs.declared.error.Argument.TheVariants.{FileLines, FileLocations}
-use Rattle.codespan_native.specs.declared.error.Argument.TheVariants.{Severity, Code, Message}
+use Rattle.codespan_native.specs.declared.error.Argument.TheVariants.{FileReserved, Severity, Code}
+use Rattle.codespan_native.specs.declared.error.Argument.TheVariants.{Message, DiagnosticReserved}
 use Rattle.codespan_native.specs.declared.error.Argument.TheVariants.{LabelStyle, LabelMessage}
-use Rattle.codespan_native.specs.declared.error.Argument.TheVariants.{LabelFile, Note}
+use Rattle.codespan_native.specs.declared.error.Argument.TheVariants.{LabelFile, LabelReserved}
+use Rattle.codespan_native.specs.declared.error.Argument.TheVariants.{Note}
 use Rattle.codespan_native.specs.declared.raw.Detail.{Detail}
 use Rattle.codespan_native.specs.declared.raw.RawChars.{RawChars}
 use Rattle.codespan_native.specs.declared.raw.RawColorSpec.{RawColorSpec}
@@ -57,6 +60,10 @@ abbrev pub AreValidLines : List ℕ → ℕ → List RawLine → Type 0
 AreValidLines text first_byte [] = Unit {0}
 AreValidLines text first_byte (l ∷ ls) = are_lines text first_byte (l ∷ ls) ≡ true
 
+-- the words are all 0
+abbrev pub AreZero : List ℕ → Type 0
+AreZero words = All (λ word. word ≡ 0) words
+
 -- ---- facts of a file, of a label and of a note
 
 -- the name of a file is UTF-8
@@ -75,6 +82,10 @@ HasValidLines f = AreValidLines f.source.now f.first_byte f.lines.now
 abbrev pub HasValidLocations : RawFile → Type 0
 HasValidLocations f = locations_ascend f.first_byte f.locations.now ≡ true
 
+-- the reserved words of a file are 0
+abbrev pub HasZeroReserved : RawFile → Type 0
+HasZeroReserved f = AreZero f.reserved
+
 -- the style of a label is primary or secondary
 abbrev pub HasValidStyle : RawLabel → Type 0
 HasValidStyle l = l.style ≤ 1
@@ -91,6 +102,10 @@ IsValidText t = IsUtf8 t.bytes.now
 abbrev pub HasValidFile : ℕ → RawLabel → Type 0
 HasValidFile count l = l.file < count
 
+-- the reserved words of a label are 0
+abbrev pub HasZeroWords : RawLabel → Type 0
+HasZeroWords l = AreZero l.reserved
+
 -- ---- arguments
 
 -- the number of an argument
@@ -98,22 +113,27 @@ abbrev pub argument_number : Argument → ℕ
 argument_number Abi = 1
 argument_number DisplayStyle = 2
 argument_number Layout = 3
-argument_number Spelling = 4
-argument_number Characters = 5
-argument_number SnippetStart = 6
-argument_number Character = 7
-argument_number Color = 8
-argument_number FileName = 9
-argument_number FileSource = 10
-argument_number FileLines = 11
-argument_number FileLocations = 12
-argument_number Severity = 13
-argument_number Code = 14
-argument_number Message = 15
-argument_number LabelStyle = 16
-argument_number LabelMessage = 17
-argument_number LabelFile = 18
-argument_number Note = 19
+argument_number Form = 4
+argument_number ColorMode = 5
+argument_number Characters = 6
+argument_number SnippetStart = 7
+argument_number Character = 8
+argument_number Color = 9
+argument_number ConfigReserved = 10
+argument_number FileName = 11
+argument_number FileSource = 12
+argument_number FileLines = 13
+argument_number FileLocations = 14
+argument_number FileReserved = 15
+argument_number Severity = 16
+argument_number Code = 17
+argument_number Message = 18
+argument_number DiagnosticReserved = 19
+argument_number LabelStyle = 20
+argument_number LabelMessage = 21
+argument_number LabelFile = 22
+argument_number LabelReserved = 23
+argument_number Note = 24
 
 -- the fact holds of the value at this index, where there is one
 abbrev pub HoldsIfAt : {X : Type 0} → (X → Type 0) → List X → ℕ → Type 0
@@ -142,21 +162,26 @@ module _ (files : List RawFile) (d : RawDiagnostic) (c : RawConfig) where
   IsValidAt Abi i = c.abi ≡ ABI
   IsValidAt DisplayStyle i = c.display_style ≤ 2
   IsValidAt Layout i = c.layout ≤ 1
-  IsValidAt Spelling i = c.spelling ≤ 3
+  IsValidAt Form i = c.form ≤ 4
+  IsValidAt ColorMode i = c.color_mode ≤ 2
   IsValidAt Characters i = c.characters ≤ 2
   IsValidAt SnippetStart i = c.characters ≡ 2 → IsUtf8 c.chars.snippet_start.now
   IsValidAt Character i = c.characters ≡ 2 → HoldsIfAt InScalarRange (code_points_of c.chars) i
-  IsValidAt Color i = c.spelling ≡ 2 → HoldsIfAt IsValidColorSpec (color_specs_of c.styles) i
+  IsValidAt Color i = c.color_mode ≡ 2 → HoldsIfAt IsValidColorSpec (color_specs_of c.styles) i
+  IsValidAt ConfigReserved i = AreZero c.reserved
   IsValidAt FileName i = HoldsIfAt HasValidName files i
   IsValidAt FileSource i = HoldsIfAt HasValidSource files i
   IsValidAt FileLines i = HoldsIfAt HasValidLines files i
   IsValidAt FileLocations i = HoldsIfAt HasValidLocations files i
+  IsValidAt FileReserved i = HoldsIfAt HasZeroReserved files i
   IsValidAt Severity i = d.severity ≤ 4
   IsValidAt Code i = IsUtf8 d.code.now
   IsValidAt Message i = IsUtf8 d.message.now
+  IsValidAt DiagnosticReserved i = AreZero d.reserved
   IsValidAt LabelStyle i = HoldsIfAt HasValidStyle d.labels.now i
   IsValidAt LabelMessage i = HoldsIfAt HasValidMessage d.labels.now i
   IsValidAt LabelFile i = HoldsIfAt (HasValidFile (length files)) d.labels.now i
+  IsValidAt LabelReserved i = HoldsIfAt HasZeroWords d.labels.now i
   IsValidAt Note i = HoldsIfAt IsValidText d.notes.now i
 
   -- every argument is valid

@@ -4,9 +4,12 @@ mod chars;
 mod config;
 mod diagnostic;
 mod files;
+mod forms;
 mod styles;
 mod text;
 
-pub use config::{Settings, SpellingKind, convert_config};
+pub use config::{Settings, convert_config};
 pub use diagnostic::convert_diagnostic;
 pub use files::convert_files;
+pub use forms::Form;
+pub use styles::convert_styles;

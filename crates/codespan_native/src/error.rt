@@ -27,40 +27,50 @@ pub enum Argument {
     DisplayStyle = 2,
     /// The layout. Invalid above 1.
     Layout = 3,
-    /// The spelling of style marks. Invalid above 3.
-    Spelling = 4,
+    /// The form of the output. Invalid above 4.
+    Form = 4,
+    /// The color mode. Invalid above 2.
+    ColorMode = 5,
     /// The choice of characters. Invalid above 2.
-    Characters = 5,
+    Characters = 6,
     /// The text before a locus, where the caller's characters are chosen. Invalid unless UTF-8.
-    SnippetStart = 6,
+    SnippetStart = 7,
     /// One of the caller's characters, where they are chosen. Invalid unless it is a Unicode scalar
     /// value.
-    Character = 7,
+    Character = 8,
     /// One of the caller's styles, where they are chosen. Invalid where a color of it is above 8.
-    Color = 8,
+    Color = 9,
+    /// The reserved words of the configuration. Invalid unless all are 0.
+    ConfigReserved = 10,
     /// A file's name. Invalid unless UTF-8.
-    FileName = 9,
+    FileName = 11,
     /// A file's source. Invalid unless UTF-8.
-    FileSource = 10,
+    FileSource = 12,
     /// A file's lines. Invalid unless there are none or they start with its source, ascend without
     /// overlap and end inside it, at character boundaries.
-    FileLines = 11,
+    FileLines = 13,
     /// A file's locations. Invalid unless their bytes ascend strictly.
-    FileLocations = 12,
+    FileLocations = 14,
+    /// A file's reserved words. Invalid unless all are 0.
+    FileReserved = 15,
     /// The severity. Invalid above 4.
-    Severity = 13,
+    Severity = 16,
     /// The code. Invalid unless UTF-8.
-    Code = 14,
+    Code = 17,
     /// The message. Invalid unless UTF-8.
-    Message = 15,
+    Message = 18,
+    /// The reserved words of the diagnostic. Invalid unless all are 0.
+    DiagnosticReserved = 19,
     /// A label's style. Invalid above 1.
-    LabelStyle = 16,
+    LabelStyle = 20,
     /// A label's message. Invalid unless UTF-8.
-    LabelMessage = 17,
+    LabelMessage = 21,
     /// A label's file. Invalid unless it is the index of a file, from 0.
-    LabelFile = 18,
+    LabelFile = 22,
+    /// A label's reserved words. Invalid unless all are 0.
+    LabelReserved = 23,
     /// A note. Invalid unless UTF-8.
-    Note = 19,
+    Note = 24,
 }
 
 impl Argument {

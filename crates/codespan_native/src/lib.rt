@@ -9,7 +9,7 @@
 //! newlines, or into lines that the caller states, and the caller can state the locations of bytes.
 //! [`native_file`] has a file, [`native_files`] the database, and [`stated_lines`] validates what a
 //! caller states. [`status`] has the statuses, and [`buffer`] copies the output to the caller's
-//! buffer.
+//! buffer. [`style_sheet`] writes the style sheet of HTML elements.
 #![tactic(auto)]
 
 mod buffer;
@@ -23,4 +23,5 @@ pub mod render;
 mod stated_lines;
 pub mod status;
 pub mod style_mark_writer;
+pub mod style_sheet;
 mod validate;

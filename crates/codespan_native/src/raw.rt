@@ -4,7 +4,7 @@
 //! [`crate::validate`] finds the invalid ones.
 
 /// The ABI version, which fixes the layouts of these structs.
-pub const ABI: u32 = 1;
+pub const ABI: u32 = 2;
 
 /// The greatest tab width, in cells: a greater one is taken as this one.
 pub const TAB_WIDTH_MAX: usize = 1024;
@@ -57,6 +57,8 @@ pub struct RawFile<'a> {
     pub lines: &'a [RawLine],
     /// The locations that are shown in place of computed ones.
     pub locations: &'a [RawLocation],
+    /// 0, for fields of a later ABI version.
+    pub reserved: [usize; 2],
 }
 
 /// A label.
@@ -73,6 +75,8 @@ pub struct RawLabel<'a> {
     pub end: usize,
     /// Its message, in UTF-8.
     pub message: &'a [u8],
+    /// 0, for fields of a later ABI version.
+    pub reserved: [usize; 2],
 }
 
 /// A diagnostic.
@@ -89,6 +93,8 @@ pub struct RawDiagnostic<'a> {
     pub labels: &'a [RawLabel<'a>],
     /// Its notes.
     pub notes: &'a [RawText<'a>],
+    /// 0, for fields of a later ABI version.
+    pub reserved: [usize; 4],
 }
 
 /// The characters of the output, each by its code point.
@@ -189,9 +195,11 @@ pub struct RawConfig<'a> {
     pub display_style: u32,
     /// 0: classic, 1: unbroken.
     pub layout: u32,
-    /// How style marks are spelled. 0: as no bytes, 1: as escape sequences, in the default styles,
-    /// 2: as escape sequences, in `styles`, 3: in band, each as the byte 255 and its number.
-    pub spelling: u32,
+    /// 0: safe text for a terminal, 1: text, 2: text with style marks in band, 3: an HTML element,
+    /// 4: an SVG document.
+    pub form: u32,
+    /// 0: no colors, 1: the default styles, 2: `styles`.
+    pub color_mode: u32,
     /// 0: box drawing, 1: ASCII, 2: those of `chars`.
     pub characters: u32,
     /// The number of cells between tab stops; above [`TAB_WIDTH_MAX`] it is taken as that.
@@ -206,8 +214,10 @@ pub struct RawConfig<'a> {
     pub after_label_lines: usize,
     /// The caller's characters, read only where `characters` is 2.
     pub chars: RawChars<'a>,
-    /// The caller's styles, read only where `spelling` is 2.
+    /// The caller's styles, read only where `color_mode` is 2.
     pub styles: RawStyles,
+    /// 0, for fields of a later ABI version.
+    pub reserved: [usize; 8],
 }
 
 /// The first invalid argument, or none.

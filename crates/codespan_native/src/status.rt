@@ -32,27 +32,32 @@ pub const NO_ARGUMENT: u32 = 0;
 const ANY_ARGUMENT_TEXT: &str = "an argument is invalid";
 
 /// What each argument must be, at the index that is its number.
-static ARGUMENT_TEXTS: [&str; 20] = [
+static ARGUMENT_TEXTS: [&str; 25] = [
     ANY_ARGUMENT_TEXT,
     "the ABI version must be that of the library",
     "the display style must be one of those of the header",
     "the layout must be one of those of the header",
-    "the spelling must be one of those of the header",
+    "the form must be one of those of the header",
+    "the color mode must be one of those of the header",
     "the choice of characters must be one of those of the header",
     "the text before a locus must be UTF-8",
     "a character must be a Unicode scalar value",
     "a color must be one of those of the header",
+    "the reserved words of the configuration must be 0",
     "the name of a file must be UTF-8",
     "the source of a file must be UTF-8",
     "the lines of a file must start with its source, ascend without overlap and end inside it, at \
      boundaries of characters",
     "the locations of a file must ascend strictly",
+    "the reserved words of a file must be 0",
     "the severity must be one of those of the header",
     "the code must be UTF-8",
     "the message must be UTF-8",
+    "the reserved words of the diagnostic must be 0",
     "the style of a label must be one of those of the header",
     "the message of a label must be UTF-8",
     ANY_ARGUMENT_TEXT,
+    "the reserved words of a label must be 0",
     "a note must be UTF-8",
 ];
 
@@ -65,20 +70,25 @@ pub fn status_for(argument: Argument) -> u32
         Argument::Abi
         | Argument::DisplayStyle
         | Argument::Layout
-        | Argument::Spelling
+        | Argument::Form
+        | Argument::ColorMode
         | Argument::Characters
         | Argument::SnippetStart
         | Argument::Character
         | Argument::Color
+        | Argument::ConfigReserved
         | Argument::FileName
         | Argument::FileSource
         | Argument::FileLines
         | Argument::FileLocations
+        | Argument::FileReserved
         | Argument::Severity
         | Argument::Code
         | Argument::Message
+        | Argument::DiagnosticReserved
         | Argument::LabelStyle
         | Argument::LabelMessage
+        | Argument::LabelReserved
         | Argument::Note => INVALID,
     }
 }

@@ -67,14 +67,14 @@ fn number(mark: StyleMark) -> u8
     ensures { result ≡ style_mark_number mark }
 {
     match mark {
-        StyleMark::Header(severity) => severity_rank(severity),
-        StyleMark::HeaderMessage => 5,
-        StyleMark::LineNumber => 6,
-        StyleMark::NoteBullet => 7,
-        StyleMark::SourceBorder => 8,
-        StyleMark::Label(severity, LabelStyle::Primary) => 9 + severity_rank(severity),
-        StyleMark::Label(severity, LabelStyle::Secondary) => 14 + severity_rank(severity),
-        StyleMark::Reset => 19,
+        StyleMark::Header(severity) => 128 + severity_rank(severity),
+        StyleMark::HeaderMessage => 133,
+        StyleMark::LineNumber => 134,
+        StyleMark::NoteBullet => 135,
+        StyleMark::SourceBorder => 136,
+        StyleMark::Label(severity, LabelStyle::Primary) => 137 + severity_rank(severity),
+        StyleMark::Label(severity, LabelStyle::Secondary) => 142 + severity_rank(severity),
+        StyleMark::Reset => 147,
     }
 }
 

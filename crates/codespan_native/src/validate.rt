@@ -11,12 +11,15 @@ mod values;
 
 use crate::error::Argument;
 use crate::raw::{RawConfig, RawDiagnostic, RawFile};
+pub use crate::validate::config::first_invalid_color;
 use crate::validate::config::{character_index, color_index, is_abi_valid, is_snippet_start_valid};
 use crate::validate::diagnostic::{
-    label_file_index, label_message_index, label_style_index, note_index,
+    label_file_index, label_message_index, label_reserved_index, label_style_index, note_index,
 };
-use crate::validate::files::{lines_index, locations_index, name_index, source_index};
-use crate::validate::values::is_utf8;
+use crate::validate::files::{
+    file_reserved_index, lines_index, locations_index, name_index, source_index,
+};
+use crate::validate::values::{are_zero, is_utf8};
 
 /// An invalid argument.
 #[derive(Drop)]
@@ -29,25 +32,30 @@ pub struct InvalidArgument {
 }
 
 /// The arguments, in the order of their numbers.
-const ARGUMENTS: [Argument; 19] = [
+const ARGUMENTS: [Argument; 24] = [
     Argument::Abi,
     Argument::DisplayStyle,
     Argument::Layout,
-    Argument::Spelling,
+    Argument::Form,
+    Argument::ColorMode,
     Argument::Characters,
     Argument::SnippetStart,
     Argument::Character,
     Argument::Color,
+    Argument::ConfigReserved,
     Argument::FileName,
     Argument::FileSource,
     Argument::FileLines,
     Argument::FileLocations,
+    Argument::FileReserved,
     Argument::Severity,
     Argument::Code,
     Argument::Message,
+    Argument::DiagnosticReserved,
     Argument::LabelStyle,
     Argument::LabelMessage,
     Argument::LabelFile,
+    Argument::LabelReserved,
     Argument::Note,
 ];
 
@@ -83,21 +91,26 @@ fn invalid_index(
         Argument::Abi => index_unless(is_abi_valid(config)),
         Argument::DisplayStyle => index_unless(config.display_style <= 2),
         Argument::Layout => index_unless(config.layout <= 1),
-        Argument::Spelling => index_unless(config.spelling <= 3),
+        Argument::Form => index_unless(config.form <= 4),
+        Argument::ColorMode => index_unless(config.color_mode <= 2),
         Argument::Characters => index_unless(config.characters <= 2),
         Argument::SnippetStart => index_unless(is_snippet_start_valid(config)),
         Argument::Character => character_index(config),
         Argument::Color => color_index(config),
+        Argument::ConfigReserved => index_unless(are_zero(&config.reserved)),
         Argument::FileName => name_index(files),
         Argument::FileSource => source_index(files),
         Argument::FileLines => lines_index(files),
         Argument::FileLocations => locations_index(files),
+        Argument::FileReserved => file_reserved_index(files),
         Argument::Severity => index_unless(diagnostic.severity <= 4),
         Argument::Code => index_unless(is_utf8(diagnostic.code)),
         Argument::Message => index_unless(is_utf8(diagnostic.message)),
+        Argument::DiagnosticReserved => index_unless(are_zero(&diagnostic.reserved)),
         Argument::LabelStyle => label_style_index(diagnostic.labels),
         Argument::LabelMessage => label_message_index(diagnostic.labels),
         Argument::LabelFile => label_file_index(files, diagnostic.labels),
+        Argument::LabelReserved => label_reserved_index(diagnostic.labels),
         Argument::Note => note_index(diagnostic.notes),
     }
 }

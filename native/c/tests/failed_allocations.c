@@ -121,10 +121,12 @@ static size_t fail_all(codespan_config *config) {
 int main(void) {
     size_t failed = 0;
     for (uint32_t style = CODESPAN_RICH; style <= CODESPAN_SHORT; style++)
-        for (uint32_t spelling = CODESPAN_PLAIN; spelling <= CODESPAN_STYLE_MARKS; spelling++) {
+        for (uint32_t form = CODESPAN_TERMINAL; form <= CODESPAN_SVG; form++) {
             codespan_config config = codespan_default_config();
             config.display_style = style;
-            config.spelling = spelling;
+            config.form = form;
+            failed += fail_all(&config);
+            config.color_mode = CODESPAN_DEFAULT_STYLES;
             failed += fail_all(&config);
         }
     printf("failed allocations: %zu calls ran out of memory, and reported it\n", failed);

@@ -76,9 +76,30 @@ void test_colors() {
     config.colors = codespan::Colors::Default;
     const std::string colored = text_of(unknown_name(), config);
     check(colored.find("\x1b[0m\x1b[1m\x1b[38;5;9merror[E0425]") == 0, "default colors");
-    config.colors = codespan::Colors::Custom;
+    config.colors = codespan::Colors::Own;
     config.styles.header_error = {CODESPAN_GREEN, CODESPAN_NO_COLOR, 0, 0};
     check(text_of(unknown_name(), config).find("\x1b[0m\x1b[32merror[E0425]") == 0, "own styles");
+}
+
+/* A message that is not safe to print, in each form. */
+void test_forms() {
+    const codespan::Diagnostic diagnostic{codespan::Severity::Note, "a\x1b[2J<b"};
+    check(text_of(diagnostic) == "note: a[2J<b\n\n", "safe text");
+    codespan::Config config;
+    config.form = codespan::Form::Text;
+    check(text_of(diagnostic, config) == "note: a\x1b[2J<b\n\n", "text");
+    config.form = codespan::Form::StyleMarks;
+    check(text_of(diagnostic, config) == "\xff\x81note\xff\x85: a\x1b[2J<b\xff\x93\n\n", "marks");
+#ifdef __cpp_exceptions
+    check(codespan::to_html({}, diagnostic) ==
+              "<pre class=\"diagnostic\">\n<span class=\"header-note\">note</span>"
+              "<span class=\"header-message\">: a[2J&lt;b</span>\n\n</pre>",
+          "HTML");
+    const std::string svg = codespan::to_svg({}, diagnostic);
+    check(codespan::html_styles().find(".header-error { color: #ff0000;") != std::string::npos,
+          "CSS");
+    check(svg.find("<svg ") == 0 && svg.find(">a[2J&lt;b</text>") != svg.npos, "SVG");
+#endif
 }
 
 void test_errors() {
@@ -117,6 +138,7 @@ int main(int argc, char **argv) {
     test_texts();
     test_long_output();
     test_colors();
+    test_forms();
     test_errors();
     if (failures == 0)
         std::puts("test_codespan: ok");

@@ -5,23 +5,31 @@
     source = "retries = many\\n"
     label = codespan.Label(10, 14, "expected a number")
     diagnostic = codespan.Diagnostic("invalid value for `retries`", code="E0001", labels=[label])
-    print(codespan.emit([codespan.File("settings.conf", source)], diagnostic))
+    codespan.print([codespan.File("settings.conf", source)], diagnostic)
+
+`print` writes safe text to a stream, in colors where it is a terminal; `emit` returns a text in
+each form.
 
 Texts are `str`, or `bytes` in UTF-8. Indices of sources count **bytes of UTF-8**, from 0, and ends
-are exclusive: `byte_index` returns the index of a character. Numbers are from 0 to 2**64 - 1.
+are exclusive: `Label.of_characters` takes characters. Numbers are from 0 to 2**64 - 1.
+`File.read` reads a file, also one that is not UTF-8.
 """
 from __future__ import annotations
 
-from dataclasses import dataclass, field
+import os
+import sys
+from dataclasses import dataclass, field, replace
 from enum import IntEnum
-from typing import Sequence, Union
+from typing import Optional, Sequence, TextIO, Union
 
 from . import _native
+from ._argument import Argument, InvalidArgument
 
 __all__ = [
-    'Argument', 'Characters', 'Chars', 'Color', 'ColorSpec', 'Config', 'Diagnostic',
-    'DisplayStyle', 'File', 'InvalidArgument', 'Label', 'LabelStyle', 'Layout', 'Line', 'Location',
-    'Severity', 'Spelling', 'Styles', 'byte_index', 'emit',
+    'Argument', 'Characters', 'Chars', 'Color', 'ColorMode', 'ColorSpec', 'Config', 'Diagnostic',
+    'DisplayStyle', 'File', 'Form', 'InvalidArgument', 'Label', 'LabelStyle', 'Layout', 'Line',
+    'Location', 'Severity', 'Styles', 'byte_index', 'emit', 'has_colors', 'html_styles', 'print',
+    'to_html', 'to_svg', 'utf8',
 ]
 
 __version__ = '0.1.0'
@@ -66,12 +74,23 @@ class Characters(IntEnum):
     CUSTOM = 2  #: those of `Config.chars`
 
 
-class Spelling(IntEnum):
-    """How style marks, the changes of style between texts, are spelled."""
-    PLAIN = 0  #: not at all
-    ANSI = 1  #: by escape sequences, in the default styles
-    ANSI_STYLES = 2  #: by escape sequences, in those of `Config.styles`
-    STYLE_MARKS = 3  #: by the character U+DCFF and the one of the style mark's number in codespan.h
+class Form(IntEnum):
+    """The form of an output.
+
+    Safe text has what a terminal shows: no control character but tab and newline, no directional
+    control, no escape sequence but those of colors. HTML and SVG show the same characters."""
+    TERMINAL = 0  #: safe text, for a terminal or a log
+    TEXT = 1  #: text: names, sources and messages as they are passed
+    STYLE_MARKS = 2  #: that text, and each style mark as U+DCFF and U+DC00 + its number in codespan.h
+    HTML = 3  #: an HTML element, `pre`, with a class for each style
+    SVG = 4  #: an SVG document
+
+
+class ColorMode(IntEnum):
+    """The colors of an output."""
+    OFF = 0
+    DEFAULT_STYLES = 1  #: the default styles
+    OWN_STYLES = 2  #: those of `Config.styles`
 
 
 class Color(IntEnum):
@@ -113,6 +132,14 @@ class File:
     lines: Sequence[Line] = ()  #: in ascending order; if empty, lines start after newlines
     locations: Sequence[Location] = ()  #: locations that are shown in place of computed ones
 
+    @classmethod
+    def read(cls, path: Union[str, os.PathLike[str]]) -> File:
+        """Reads a file, whose name is its path. Both are `bytes`, with line breaks as they are.
+        Bytes that are not UTF-8 are replaced, as `utf8` says. Raises `OSError` where it cannot be
+        read."""
+        with open(path, 'rb') as stream:
+            return cls(utf8(os.fsencode(path)), utf8(stream.read()))
+
 
 @dataclass(frozen=True)
 class Label:
@@ -123,6 +150,13 @@ class Label:
     message: Text = ''  #: empty: none
     style: LabelStyle = LabelStyle.PRIMARY
     file: int = 0  #: index in the files that are passed to `emit`
+
+    @classmethod
+    def of_characters(cls, source: Text, start: int, end: int, message: Text = '',
+                      style: LabelStyle = LabelStyle.PRIMARY, file: int = 0) -> Label:
+        """Returns the label from one character of a source up to another. Both are indices as
+        those of a slice of its text, and are taken as `byte_index` takes them."""
+        return cls(byte_index(source, start), byte_index(source, end), message, style, file)
 
 
 @dataclass(frozen=True)
@@ -194,7 +228,8 @@ class Config:
     """A configuration."""
     display_style: DisplayStyle = DisplayStyle.RICH
     layout: Layout = Layout.CLASSIC
-    spelling: Spelling = Spelling.PLAIN
+    form: Form = Form.TERMINAL
+    color_mode: ColorMode = ColorMode.OFF  #: `print` decides itself
     characters: Characters = Characters.BOX
     tab_width: int = 4  #: cells between tab stops; above 1024 it is taken as 1024
     start_context_lines: int = 3  #: lines shown after the first line of a multi-line label
@@ -202,58 +237,27 @@ class Config:
     before_label_lines: int = 0  #: lines shown before a label
     after_label_lines: int = 0  #: lines shown after a label
     chars: Chars = field(default_factory=Chars)  #: read only for `Characters.CUSTOM`
-    styles: Styles = field(default_factory=Styles)  #: read only for `Spelling.ANSI_STYLES`
+    styles: Styles = field(default_factory=Styles)  #: read only for `ColorMode.OWN_STYLES`
 
 
-class Argument(IntEnum):
-    """An argument of `emit` that can be invalid. They are checked in this order."""
-    NONE = 0
-    ABI = 1
-    DISPLAY_STYLE = 2
-    LAYOUT = 3
-    SPELLING = 4
-    CHARACTERS = 5
-    SNIPPET_START = 6
-    CHARACTER = 7  #: index: the field of `Chars`, from 0 for `source_border_left`
-    COLOR = 8  #: index: the field of `Styles`, from 0 for `header_bug`
-    FILE_NAME = 9  #: index: the file
-    FILE_SOURCE = 10  #: index: the file
-    FILE_LINES = 11  #: index: the file
-    FILE_LOCATIONS = 12  #: index: the file
-    SEVERITY = 13
-    CODE = 14
-    MESSAGE = 15
-    LABEL_STYLE = 16  #: index: the label
-    LABEL_MESSAGE = 17  #: index: the label
-    LABEL_FILE = 18  #: not one of the files; index: the label
-    NOTE = 19  #: index: the note
-
-
-class InvalidArgument(ValueError):
-    """An argument is invalid, or the file of a label is not one of the files.
-
-    `argument` is the first invalid one, and `index` its index among several, from 0; it is 0 where
-    there is only one."""
-
-    def __init__(self, message: str, argument: Argument, index: int) -> None:
-        super().__init__(message, argument, index)
-        self.argument = argument
-        self.index = index
-
-    def __str__(self) -> str:
-        return str(self.args[0])
-
-
-def byte_index(source: str, character: int) -> int:
+def byte_index(source: Text, character: int) -> int:
     """Returns the byte index of a character of a source, as a label needs it.
 
-    `character` counts code points from 0. For one past the end it returns the length in bytes; a
-    negative one counts from the end, as in a slice."""
-    return len(source[:character].encode())
+    `character` counts code points from 0, also where the source is `bytes`. For one past the end it
+    returns the length in bytes; a negative one counts from the end, as in a slice. Raises
+    `ValueError` where `bytes` are not UTF-8; those of `File.read` are."""
+    text = source.decode() if isinstance(source, bytes) else source
+    return len(text[:character].encode())
+
+
+def utf8(source: bytes) -> bytes:
+    """Returns a source in UTF-8: with a `?` for each byte that is not part of UTF-8. So all byte
+    indices stay, and the labels of a tool that counts bytes."""
+    return source.decode(errors='surrogateescape').encode(errors='replace')
 
 
 def emit(files: Sequence[File], diagnostic: Diagnostic, config: Config = Config()) -> str:
-    """Returns the rendered diagnostic over these files.
+    """Returns the rendered diagnostic over these files, in the form of the configuration.
 
     Raises `InvalidArgument` where an argument is invalid, `ValueError` where a number is negative
     or too large or a `str` has a surrogate, `TypeError` where a field of `Chars` is not one
@@ -266,3 +270,49 @@ def emit(files: Sequence[File], diagnostic: Diagnostic, config: Config = Config(
     message = _native.status_text(outcome.status, outcome.argument)
     raise InvalidArgument('%s (index %d)' % (message, outcome.argument_index),
                           Argument(outcome.argument), outcome.argument_index)
+
+
+def to_html(files: Sequence[File], diagnostic: Diagnostic, config: Config = Config()) -> str:
+    """Returns the diagnostic as an HTML element, `pre`, with a class for each style, for a page in
+    UTF-8 that has the style sheet of `html_styles`. Raises as `emit`."""
+    return emit(files, diagnostic, replace(config, form=Form.HTML))
+
+
+def to_svg(files: Sequence[File], diagnostic: Diagnostic, config: Config = Config()) -> str:
+    """Returns the diagnostic as an SVG document, in the styles of `config` where it has own ones.
+    Raises as `emit`."""
+    return emit(files, diagnostic, replace(config, form=Form.SVG))
+
+
+def html_styles(styles: Styles = Styles()) -> str:
+    """Returns the CSS style sheet of the elements of `to_html`, which shows them in these styles,
+    meant for a dark page. The background is the page's. Raises `InvalidArgument` where a color is
+    none of `Color`, and `MemoryError` where an allocation fails."""
+    status, css = _native.html_styles(styles)
+    if status == _native.OK:
+        return css.decode()
+    if status == _native.OUT_OF_MEMORY:
+        raise MemoryError
+    raise InvalidArgument(_native.status_text(status, Argument.COLOR), Argument.COLOR, 0)
+
+
+def has_colors(stream: TextIO) -> bool:
+    """Returns whether output to a stream is to be in colors: where it is a terminal, `TERM` is not
+    `dumb`, and `NO_COLOR` is unset or empty; and where `CLICOLOR_FORCE` is set, and is neither
+    empty nor 0."""
+    if os.environ.get('CLICOLOR_FORCE', '') not in ('', '0'):
+        return True
+    return not os.environ.get('NO_COLOR') and os.environ.get('TERM') != 'dumb' and stream.isatty()
+
+
+def print(files: Sequence[File], diagnostic: Diagnostic, config: Config = Config(),
+          file: Optional[TextIO] = None) -> None:
+    """Writes the diagnostic to a stream, `sys.stderr` unless `file` is another one: as safe text,
+    in colors where `has_colors` says so, whatever `config.form` and `config.color_mode` are; in the
+    styles of `config` where it has own ones. Raises as `emit`, and then nothing is written; and as
+    `file.write`, such as `UnicodeEncodeError` where its encoding lacks a character."""
+    stream = sys.stderr if file is None else file
+    mode = config.color_mode or ColorMode.DEFAULT_STYLES
+    if not has_colors(stream):
+        mode = ColorMode.OFF
+    stream.write(emit(files, diagnostic, replace(config, form=Form.TERMINAL, color_mode=mode)))

@@ -14,7 +14,7 @@ if TYPE_CHECKING:
 
 Struct = TypeVar('Struct', bound=c.Structure)
 
-ABI = 1
+ABI = 2
 OK = 0
 TOO_SMALL = 1
 OUT_OF_MEMORY = 2
@@ -39,18 +39,19 @@ class File(c.Structure):
     _fields_ = [('name', Text), ('source', Text), ('first_byte', c.c_size_t),
                 ('first_line', c.c_size_t), ('lines', c.POINTER(Line)),
                 ('lines_length', c.c_size_t), ('locations', c.POINTER(Location)),
-                ('locations_length', c.c_size_t)]
+                ('locations_length', c.c_size_t), ('reserved', c.c_size_t * 2)]
 
 
 class Label(c.Structure):
     _fields_ = [('style', c.c_uint32), ('file', c.c_size_t), ('start', c.c_size_t),
-                ('end', c.c_size_t), ('message', Text)]
+                ('end', c.c_size_t), ('message', Text), ('reserved', c.c_size_t * 2)]
 
 
 class Diagnostic(c.Structure):
     _fields_ = [('severity', c.c_uint32), ('code', Text), ('message', Text),
                 ('labels', c.POINTER(Label)), ('labels_length', c.c_size_t),
-                ('notes', c.POINTER(Text)), ('notes_length', c.c_size_t)]
+                ('notes', c.POINTER(Text)), ('notes_length', c.c_size_t),
+                ('reserved', c.c_size_t * 4)]
 
 
 CHARACTERS = [
@@ -81,14 +82,15 @@ class Styles(c.Structure):
     _fields_ = [(name, ColorSpec) for name in STYLES]
 
 
-CHOICES = ['display_style', 'layout', 'spelling', 'characters']
+CHOICES = ['display_style', 'layout', 'form', 'color_mode', 'characters']
 COUNTS = ['tab_width', 'start_context_lines', 'end_context_lines', 'before_label_lines',
           'after_label_lines']
 
 
 class Config(c.Structure):
     _fields_ = ([('abi', c.c_uint32)] + [(name, c.c_uint32) for name in CHOICES] +
-                [(name, c.c_size_t) for name in COUNTS] + [('chars', Chars), ('styles', Styles)])
+                [(name, c.c_size_t) for name in COUNTS] +
+                [('chars', Chars), ('styles', Styles), ('reserved', c.c_size_t * 8)])
 
 
 class Detail(c.Structure):
@@ -108,7 +110,10 @@ def load() -> c.CDLL:
     """Loads the library: what CODESPAN_LIBRARY names, the one beside this file, or the system's."""
     beside = Path(__file__).resolve().parent / 'libcodespan.so'
     fallback = str(beside) if beside.is_file() else 'libcodespan.so.%d' % ABI
-    library = c.CDLL(os.environ.get('CODESPAN_LIBRARY') or fallback)
+    try:
+        library = c.CDLL(os.environ.get('CODESPAN_LIBRARY') or fallback)
+    except OSError as error:
+        raise OSError('%s: CODESPAN_LIBRARY has to name libcodespan.so' % error) from None
     size = c.POINTER(c.c_size_t)
     library.codespan_abi_version.restype = c.c_uint32
     library.codespan_abi_version.argtypes = []
@@ -120,6 +125,8 @@ def load() -> c.CDLL:
                                       c.POINTER(Detail)]
     library.codespan_status_text.restype = c.c_uint32
     library.codespan_status_text.argtypes = [c.c_uint32, c.c_uint32, c.c_char_p, c.c_size_t, size]
+    library.codespan_html_styles.restype = c.c_uint32
+    library.codespan_html_styles.argtypes = [c.POINTER(Styles), c.c_char_p, c.c_size_t, size]
     if library.codespan_abi_version() != ABI:
         raise ImportError('libcodespan.so has another ABI than this module')
     return library
@@ -191,13 +198,16 @@ def color_spec_of(spec: api.ColorSpec) -> ColorSpec:
     return ColorSpec(choice(spec.fg), choice(spec.bg), bool(spec.bold), bool(spec.intense))
 
 
+def styles_of(styles: api.Styles) -> Styles:
+    return Styles(*(color_spec_of(getattr(styles, name)) for name in STYLES))
+
+
 @lru_cache
 def config_of(config: api.Config) -> Config:
     """Returns the struct of a configuration. Nothing changes one, so calls share it."""
-    styles = Styles(*(color_spec_of(getattr(config.styles, name)) for name in STYLES))
     return Config(ABI, *(choice(getattr(config, name)) for name in CHOICES),
                   *(number(getattr(config, name)) for name in COUNTS), chars_of(config.chars),
-                  styles)
+                  styles_of(config.styles))
 
 
 def emit(files: Sequence[api.File], diagnostic: api.Diagnostic, config: api.Config) -> Outcome:
@@ -214,6 +224,19 @@ def emit(files: Sequence[api.File], diagnostic: api.Diagnostic, config: api.Conf
         if status != TOO_SMALL:
             output = c.string_at(out, written.value)
             return Outcome(status, output, detail.argument, detail.index)
+        capacity = written.value
+
+
+def html_styles(styles: api.Styles) -> Tuple[int, bytes]:
+    """Calls codespan_html_styles, as `emit` calls codespan_emit. Returns the status and the style
+    sheet."""
+    capacity = 4096
+    while True:
+        out, written = c.create_string_buffer(capacity), c.c_size_t()
+        status = LIBRARY.codespan_html_styles(c.byref(styles_of(styles)), out, capacity,
+                                              c.byref(written))
+        if status != TOO_SMALL:
+            return status, c.string_at(out, written.value)
         capacity = written.value
 
 

@@ -1,20 +1,24 @@
 """Tests of the module, over the library that it loads."""
 import ctypes
 import dataclasses
+import io
+import os
 import pickle
 import random
 import re
 import subprocess
 import unittest
+import xml.etree.ElementTree as ElementTree
 from concurrent.futures import ThreadPoolExecutor
 from enum import IntEnum
 from pathlib import Path
+from unittest import mock
 
 import codespan
 from codespan import _native
-from codespan import (Argument, Characters, Chars, ColorSpec, Config, Diagnostic, DisplayStyle,
-                      File, InvalidArgument, Label, LabelStyle, Line, Location, Severity, Spelling,
-                      Styles)
+from codespan import (Argument, Characters, Chars, ColorMode, ColorSpec, Config, Diagnostic,
+                      DisplayStyle, File, Form, InvalidArgument, Label, LabelStyle, Line, Location,
+                      Severity, Styles)
 
 HEADER = Path(__file__).resolve().parents[2] / 'include' / 'codespan.h'
 SETTINGS = File('settings.conf', 'retries = many\n')
@@ -47,22 +51,65 @@ class Output(unittest.TestCase):
             '  ', CYAN, '=', RESET, ' the default is 3\n\n',
         ])
         diagnostic = odd_value(notes=['the default is 3'])
-        for spelling in (Spelling.ANSI, Spelling.ANSI_STYLES):
-            output = codespan.emit([SETTINGS], diagnostic, Config(spelling=spelling))
-            self.assertEqual(output, expected)
+        for mode in (ColorMode.DEFAULT_STYLES, ColorMode.OWN_STYLES):
+            for form in (Form.TERMINAL, Form.TEXT):
+                config = Config(form=form, color_mode=mode)
+                self.assertEqual(codespan.emit([SETTINGS], diagnostic, config), expected)
 
     def test_custom_styles(self):
         number = ColorSpec(codespan.Color.BLUE, codespan.Color.WHITE, bold=True, intense=True)
         styles = Styles(line_number=number)
-        config = Config(spelling=Spelling.ANSI_STYLES, styles=styles)
+        config = Config(color_mode=ColorMode.OWN_STYLES, styles=styles)
         output = codespan.emit([SETTINGS], odd_value(), config)
         self.assertIn('\33[0m\33[1m\33[38;5;12m\33[48;5;15m1\33[0m ', output)
 
     def test_style_marks(self):
-        output = codespan.emit([SETTINGS], odd_value(), Config(spelling=Spelling.STYLE_MARKS))
-        self.assertIn('\udcff\x02warning[W0001]\udcff\x05: odd value\udcff\x13\n', output)
+        output = codespan.emit([SETTINGS], odd_value(), Config(form=Form.STYLE_MARKS))
+        self.assertIn('\udcff\udc82warning[W0001]\udcff\udc85: odd value\udcff\udc93\n', output)
         plain = re.sub('\udcff.', '', output, flags=re.DOTALL)
         self.assertEqual(plain, codespan.emit([SETTINGS], odd_value()))
+
+    def test_forms(self):
+        """A hostile message in each form; the expected outputs are written by hand."""
+        diagnostic = Diagnostic('a\33[2J<\u202eb', Severity.NOTE)
+        self.assertEqual(codespan.emit([], diagnostic), 'note: a[2J<b\n\n')
+        self.assertEqual(codespan.emit([], diagnostic, Config(form=Form.TEXT)),
+                         'note: a\33[2J<\u202eb\n\n')
+        self.assertEqual(codespan.to_html([], diagnostic),
+                         '<pre class="diagnostic">\n<span class="header-note">note</span>'
+                         '<span class="header-message">: a[2J&lt;b</span>\n\n</pre>')
+        svg = codespan.to_svg([], diagnostic)
+        self.assertIn('>a[2J&lt;b</text>\n\n</svg>\n', svg)
+        document = ElementTree.fromstring(svg)
+        self.assertEqual(''.join(document.itertext()), '\n\nnote: a[2J<b\n\n')
+
+    def test_html_styles(self):
+        css = codespan.html_styles()
+        self.assertIn('.diagnostic .header-error { color: #ff0000; font-weight: bold; }\n', css)
+        styles = Styles(header_error=ColorSpec(codespan.Color.BLUE))
+        self.assertIn('.header-error { color: #0000ee; }\n', codespan.html_styles(styles))
+        with self.assertRaises(InvalidArgument):
+            codespan.html_styles(Styles(line_number=ColorSpec(9)))
+
+    def test_print(self):
+        """What is printed is safe, and in colors as the environment says."""
+        diagnostic = Diagnostic('a\33[2J', Severity.WARNING)
+        colored = HEADER_YELLOW + 'warning' + HEADER_PLAIN + ': a[2J' + RESET + '\n\n'
+        for environment, expected in [({}, 'warning: a[2J\n\n'), ({'CLICOLOR_FORCE': '1'}, colored),
+                                      ({'CLICOLOR_FORCE': '0'}, 'warning: a[2J\n\n')]:
+            stream = io.StringIO()
+            with mock.patch.dict(os.environ, environment, clear=True):
+                codespan.print([], diagnostic, Config(form=Form.TEXT), file=stream)
+            self.assertEqual(stream.getvalue(), expected)
+
+    def test_colors_of_a_terminal(self):
+        terminal = io.StringIO()
+        terminal.isatty = lambda: True
+        for environment, expected in [({}, True), ({'NO_COLOR': ''}, True), ({'NO_COLOR': '1'}, False),
+                                      ({'TERM': 'dumb'}, False),
+                                      ({'NO_COLOR': '1', 'CLICOLOR_FORCE': '1'}, True)]:
+            with mock.patch.dict(os.environ, environment, clear=True):
+                self.assertEqual(codespan.has_colors(terminal), expected)
 
     def test_wide_characters(self):
         source = '路 = 🗻é;\n'
@@ -253,7 +300,8 @@ STRUCTS = {
 # the name of a constant of an enumeration in the header, after CODESPAN_
 ENUMERATIONS = {
     codespan.Severity: '%s', codespan.LabelStyle: '%s', codespan.DisplayStyle: '%s',
-    codespan.Layout: '%s', codespan.Characters: '%s_CHARS', codespan.Spelling: '%s',
+    codespan.Layout: '%s', codespan.Characters: '%s_CHARS', codespan.Form: '%s',
+    codespan.ColorMode: '%s',
     codespan.Color: '%s', codespan.Argument: 'ARGUMENT_%s',
 }
 
@@ -268,7 +316,9 @@ def struct_assertions(name, struct):
 def enumeration_assertions(enumeration: type[IntEnum], form):
     """Yields assertions in C that constants are the header's."""
     for item in enumeration:
-        name = 'NO_COLOR' if item is codespan.Color.NONE else form % item.name
+        special = {'Color.NONE': 'NO_COLOR', 'ColorMode.OFF': 'COLORS_OFF'}
+        key = '%s.%s' % (enumeration.__name__, item.name)
+        name = special.get(key, form % item.name)
         yield 'CODESPAN_%s == %d' % (name, item)
 
 

@@ -183,10 +183,15 @@ pub trait Files<'a> {
 #[must_use]
 pub fn column_index(source: &str, line_range: Range<usize>, byte_index: usize) -> usize {
     let end = byte_index.min(line_range.end).min(source.len());
+    if line_range.start >= end {
+        return 0;
+    }
+    // A character ends where the next one starts, or with the source.
+    let last = end.min(source.len() - 1);
+    let next = &source.as_bytes()[line_range.start + 1..=last];
+    let starts = |&&byte: &&u8| byte & 0xc0 != 0x80;
 
-    (line_range.start..end)
-        .filter(|&byte| source.is_char_boundary(byte + 1))
-        .count()
+    next.iter().filter(starts).count() + usize::from(end == source.len())
 }
 
 /// Returns the byte index of the start of each line: 0, and the byte after each newline.

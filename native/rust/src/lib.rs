@@ -33,6 +33,9 @@
 //! # Ok::<(), codespan_reporting::files::Error>(())
 //! ```
 //!
+//! What a hostile source could do to a terminal, [`extra::safe`] leaves out; [`extra::to_html`] and
+//! [`extra::to_svg`] make documents.
+//!
 //! # Building
 //!
 //! The library is linked from an archive: the file whose absolute path is the environment variable
@@ -52,6 +55,7 @@
 extern crate alloc;
 
 pub mod diagnostic;
+pub mod extra;
 pub mod files;
 mod native;
 pub mod term;

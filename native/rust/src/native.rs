@@ -1,5 +1,6 @@
 //! The archive that renders: what is passed to it, and what it returns.
 
+mod characters;
 mod ffi;
 mod layout;
 mod style_marks;
@@ -9,22 +10,49 @@ use alloc::string::String;
 use alloc::vec::Vec;
 
 use crate::diagnostic::{LabelStyle, Severity};
-use crate::term::{Chars, Config, DisplayStyle};
+use crate::term::{Config, DisplayStyle};
 
 use ffi::EmitError;
+pub(crate) use ffi::Output;
 pub(crate) use layout::{File, Label, Line, Location, Slice};
 pub(crate) use style_marks::{replay, write_text};
 
-/// The panic message for a file database whose lines the archive does not accept.
-pub(crate) const OVERLAP: &str = "the lines of a file overlap, or do not ascend";
-
-/// How changes of style are spelled in an output.
+/// The form of an output, and how changes of style are spelled in it.
 #[derive(Clone, Copy)]
 pub(crate) enum Spelling {
-    /// Not at all: the output is text.
-    Plain = 0,
-    /// By style marks, which [`replay`] understands: `CODESPAN_STYLE_MARKS`.
-    StyleMarks = 3,
+    /// Safe text without colors: `CODESPAN_TERMINAL`.
+    Safe,
+    /// Safe text in the default styles.
+    SafeInColor,
+    /// Text without colors: `CODESPAN_TEXT`.
+    Plain,
+    /// That text with style marks, which [`replay`] understands: `CODESPAN_STYLE_MARKS`.
+    StyleMarks,
+    /// An HTML element: `CODESPAN_HTML`.
+    Html,
+    /// An SVG document: `CODESPAN_SVG`.
+    Svg,
+}
+
+impl Spelling {
+    /// Returns the number of the form.
+    fn form(self) -> u32 {
+        match self {
+            Spelling::Safe | Spelling::SafeInColor => 0,
+            Spelling::Plain => 1,
+            Spelling::StyleMarks => layout::STYLE_MARKS,
+            Spelling::Html => 3,
+            Spelling::Svg => 4,
+        }
+    }
+
+    /// Returns the number of the color mode.
+    fn color_mode(self) -> u32 {
+        match self {
+            Spelling::SafeInColor => layout::DEFAULT_STYLES,
+            _ => layout::COLORS_OFF,
+        }
+    }
 }
 
 /// What an output is rendered from.
@@ -44,15 +72,18 @@ pub(crate) struct Request<'a> {
     /// The files that the labels name by their indices, from 0.
     pub(crate) files: &'a [File<'a>],
     pub(crate) labels: &'a [Label<'a>],
+    /// The length in bytes that the output is expected not to exceed, besides the message and the
+    /// notes. A longer one takes two calls of the archive.
+    pub(crate) expected_length: usize,
 }
 
 impl Request<'_> {
-    /// Returns the output.
+    /// Passes the output to `read`, and returns what that returns.
     ///
     /// # Panics
     ///
-    /// Where the lines of a file overlap or do not ascend, or the archive has another ABI.
-    pub(crate) fn render(&self) -> Vec<u8> {
+    /// Where the archive has another ABI.
+    pub(crate) fn render<R>(&self, read: impl FnOnce(Output<'_>) -> R) -> R {
         let notes: Vec<_> = self.notes.iter().map(|note| note.as_str().into()).collect();
         let diagnostic = layout::Diagnostic {
             severity: severity_number(self.severity),
@@ -60,13 +91,16 @@ impl Request<'_> {
             message: self.message.into(),
             labels: Slice::new(self.labels),
             notes: Slice::new(&notes),
+            reserved: [0; 4],
         };
-        match ffi::emit(self.files, &diagnostic, &self.config()) {
-            Ok(output) => output,
+        let notes = self.notes.iter().map(|note| 2 * note.len());
+        let length = self.expected_length + self.message.len() + notes.sum::<usize>();
+        match ffi::emit(self.files, &diagnostic, &self.config(), length, read) {
+            Ok(result) => result,
             // The archive does not report the layout of the allocation that failed.
             Err(EmitError::OutOfMemory) => handle_alloc_error(Layout::new::<u8>()),
             Err(EmitError::Invalid(detail)) if detail.argument == layout::FILE_LINES => {
-                panic!("{OVERLAP}: {detail:?}")
+                unreachable!("the lines of an excerpt overlap, or do not ascend: {detail:?}")
             }
             Err(EmitError::Invalid(detail)) => panic!(
                 "the archive does not take these structs; is its ABI {}? {detail:?}",
@@ -80,15 +114,17 @@ impl Request<'_> {
             abi: layout::ABI,
             display_style: display_style_number(self.display_style),
             layout: layout::CLASSIC,
-            spelling: self.spelling as u32,
-            characters: layout::CUSTOM_CHARS,
+            form: self.spelling.form(),
+            color_mode: self.spelling.color_mode(),
+            characters: characters::number(&self.characters.chars),
             tab_width: self.characters.tab_width,
             start_context_lines: self.context.start_context_lines,
             end_context_lines: self.context.end_context_lines,
             before_label_lines: self.context.before_label_lines,
             after_label_lines: self.context.after_label_lines,
-            chars: chars(&self.characters.chars),
+            chars: characters::native(&self.characters.chars),
             styles: layout::Styles::default(),
+            reserved: [0; 8],
         }
     }
 }
@@ -118,26 +154,5 @@ pub(crate) fn label_style_number(style: LabelStyle) -> u32 {
     match style {
         LabelStyle::Primary => 0,
         LabelStyle::Secondary => 1,
-    }
-}
-
-fn chars(chars: &Chars) -> layout::Chars<'_> {
-    layout::Chars {
-        snippet_start: chars.snippet_start.as_str().into(),
-        source_border_left: chars.source_border_left.into(),
-        source_border_left_break: chars.source_border_left_break.into(),
-        note_bullet: chars.note_bullet.into(),
-        single_primary_caret: chars.single_primary_caret.into(),
-        single_secondary_caret: chars.single_secondary_caret.into(),
-        multi_primary_caret_start: chars.multi_primary_caret_start.into(),
-        multi_primary_caret_end: chars.multi_primary_caret_end.into(),
-        multi_secondary_caret_start: chars.multi_secondary_caret_start.into(),
-        multi_secondary_caret_end: chars.multi_secondary_caret_end.into(),
-        multi_top_left: chars.multi_top_left.into(),
-        multi_top: chars.multi_top.into(),
-        multi_bottom_left: chars.multi_bottom_left.into(),
-        multi_bottom: chars.multi_bottom.into(),
-        multi_left: chars.multi_left.into(),
-        pointer_left: chars.pointer_left.into(),
     }
 }

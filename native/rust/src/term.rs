@@ -27,26 +27,19 @@ pub use styles::{Styles, StylesWriter};
 pub use termcolor;
 pub use views::{RichDiagnostic, ShortDiagnostic};
 
-use views::Output;
+use views::Read;
 
 /// Returns the output of a diagnostic, without colors.
 ///
 /// # Errors
 ///
 /// The error of the first lookup that fails.
-///
-/// # Panics
-///
-/// Where the lines of a file overlap or do not ascend, or `line_index` returns a line that starts
-/// after the byte. The other functions panic there too.
 pub fn emit_into_string<'files, F: Files<'files> + ?Sized>(
     config: &Config,
     files: &'files F,
     diagnostic: &Diagnostic<F::FileId>,
 ) -> Result<String, Error> {
-    let output = output(config, files, diagnostic, Spelling::Plain);
-    output.result?;
-    Ok(String::from_utf8(output.bytes).expect("the output is UTF-8"))
+    text_output(config, files, diagnostic, Spelling::Plain)
 }
 
 /// Appends the output of a diagnostic, without colors, to a string.
@@ -60,8 +53,15 @@ pub fn emit_to_string<'files, F: Files<'files> + ?Sized>(
     files: &'files F,
     diagnostic: &Diagnostic<F::FileId>,
 ) -> Result<(), Error> {
-    writer.push_str(&emit_into_string(config, files, diagnostic)?);
-    Ok(())
+    let length = writer.len();
+    let result = emit_output(config, files, diagnostic, Spelling::Plain, &mut |output| {
+        writer.push_str(output.text());
+        Ok(())
+    });
+    if result.is_err() {
+        writer.truncate(length);
+    }
+    result
 }
 
 /// Writes the output of a diagnostic, without colors.
@@ -111,9 +111,13 @@ pub fn emit_to_write_style<'files, F: Files<'files> + ?Sized, W: WriteStyle + ?S
     files: &'files F,
     diagnostic: &Diagnostic<F::FileId>,
 ) -> Result<(), Error> {
-    let output = output(config, files, diagnostic, Spelling::StyleMarks);
-    replay(&output.bytes, writer)?;
-    output.result
+    emit_output(
+        config,
+        files,
+        diagnostic,
+        Spelling::StyleMarks,
+        &mut |output| replay(output.bytes(), writer),
+    )
 }
 
 /// Writes the output of a diagnostic, without colors.
@@ -140,24 +144,40 @@ fn emit_plain<'files, F: Files<'files> + ?Sized, W: GeneralWrite + ?Sized>(
     files: &'files F,
     diagnostic: &Diagnostic<F::FileId>,
 ) -> Result<(), Error> {
-    let output = output(config, files, diagnostic, Spelling::Plain);
-    write_text(writer, &output.bytes)?;
-    output.result
+    emit_output(config, files, diagnostic, Spelling::Plain, &mut |output| {
+        write_text(writer, output.text())
+    })
 }
 
-/// Renders a diagnostic in the style of a configuration.
-fn output<'files, F: Files<'files> + ?Sized>(
+/// Returns the output of a diagnostic in a form that is UTF-8.
+pub(crate) fn text_output<'files, F: Files<'files> + ?Sized>(
     config: &Config,
     files: &'files F,
     diagnostic: &Diagnostic<F::FileId>,
     spelling: Spelling,
-) -> Output {
+) -> Result<String, Error> {
+    let mut text = String::new();
+    emit_output(config, files, diagnostic, spelling, &mut |output| {
+        text = output.text().into();
+        Ok(())
+    })?;
+    Ok(text)
+}
+
+/// Renders a diagnostic in the style of a configuration, and passes the output to `read`.
+fn emit_output<'files, F: Files<'files> + ?Sized>(
+    config: &Config,
+    files: &'files F,
+    diagnostic: &Diagnostic<F::FileId>,
+    spelling: Spelling,
+    read: Read<'_>,
+) -> Result<(), Error> {
     let show_notes = match config.display_style {
         DisplayStyle::Rich => {
-            return RichDiagnostic::new(diagnostic, config).output(files, config, spelling)
+            return RichDiagnostic::new(diagnostic, config).output(files, config, spelling, read)
         }
         DisplayStyle::Medium => true,
         DisplayStyle::Short => false,
     };
-    ShortDiagnostic::new(diagnostic, show_notes).output(files, config, spelling)
+    ShortDiagnostic::new(diagnostic, show_notes).output(files, config, spelling, read)
 }

@@ -170,6 +170,20 @@ fn a_tab_is_at_most_1024_cells_wide() {
     assert!(output == rows, "{} bytes", output.len());
 }
 
+#[test]
+fn an_output_may_be_longer_than_expected() {
+    let file = SimpleFile::new("f", "\t".repeat(20) + "x");
+    let diagnostic = Diagnostic::error().with_label(Label::primary((), 20..21));
+    let config = Config {
+        tab_width: 1000,
+        ..Config::default()
+    };
+    let output = emit_into_string(&config, &file, &diagnostic).unwrap();
+    let spaces = " ".repeat(20_000);
+    let rows = format!("error: \n  ┌─ f:1:21\n  │\n1 │ {spaces}x\n  │ {spaces}^\n\n");
+    assert!(output == rows, "{} bytes", output.len());
+}
+
 /// Characters of which no two are the same.
 fn distinct() -> Chars {
     Chars {

@@ -1,61 +1,18 @@
 //! Custom file databases: lines that end before their line breaks, locations that are not
-//! computed, and lines that are not lines of the source.
+//! computed, lines that are no lines of the source, and many labels.
 
 mod common;
+#[path = "common/lines.rs"]
+mod given_lines;
 
 use std::ops::Range;
 
 use codespan_reporting::diagnostic::{Diagnostic, Label};
-use codespan_reporting::files::{Error, Files, Location, SimpleFile};
+use codespan_reporting::files::{Error, Files, Location, SimpleFile, SimpleFiles};
 use codespan_reporting::term::{emit_into_string, Config};
 
 use common::ten_lines;
-
-/// A file whose lines have the given ranges.
-struct Lines {
-    text: &'static str,
-    lines: Vec<Range<usize>>,
-}
-
-impl Lines {
-    fn new(text: &'static str, lines: Vec<Range<usize>>) -> Lines {
-        Lines { text, lines }
-    }
-
-    fn last_line(&self) -> usize {
-        self.lines.len() - 1
-    }
-}
-
-impl<'a> Files<'a> for Lines {
-    type FileId = ();
-    type Name = &'static str;
-    type Source = &'a str;
-
-    fn name(&'a self, (): ()) -> Result<&'static str, Error> {
-        Ok("f")
-    }
-
-    fn source(&'a self, (): ()) -> Result<&'a str, Error> {
-        Ok(self.text)
-    }
-
-    fn line_index(&'a self, (): (), byte: usize) -> Result<usize, Error> {
-        Ok(self
-            .lines
-            .iter()
-            .rposition(|line| line.start <= byte)
-            .unwrap_or(0))
-    }
-
-    fn line_range(&'a self, (): (), given: usize) -> Result<Range<usize>, Error> {
-        let max = self.last_line();
-        self.lines
-            .get(given)
-            .cloned()
-            .ok_or(Error::LineTooLarge { given, max })
-    }
-}
+use given_lines::Lines;
 
 /// Returns a file whose lines end before their separator, which is two bytes long.
 fn separated() -> Lines {
@@ -216,6 +173,8 @@ fn a_line_that_is_no_part_of_the_source_is_an_error() {
     let past_end = Lines::new("ab", vec![0..9]);
     let off_boundary = Lines::new("é", vec![0..1]);
     let inside_a_block = Lines::new("aéb", vec![0..2, 2..4]);
+    #[allow(clippy::reversed_empty_ranges)]
+    let reversed = Lines::new("abc", vec![0..2, 2..1]);
     let diagnostic = Diagnostic::error().with_label(Label::primary((), 0..1));
     let over_two_lines = Diagnostic::error().with_label(Label::primary((), 0..3));
     let config = Config::default();
@@ -231,51 +190,28 @@ fn a_line_that_is_no_part_of_the_source_is_an_error() {
         emit_into_string(&config, &inside_a_block, &over_two_lines),
         Err(Error::InvalidCharBoundary { given: 2 })
     ));
-}
-
-/// A file whose `line_index` returns the last line for the end of the text, and the first line for
-/// any other byte.
-struct Misplaced(Lines);
-
-impl<'a> Files<'a> for Misplaced {
-    type FileId = ();
-    type Name = &'static str;
-    type Source = &'a str;
-
-    fn name(&'a self, (): ()) -> Result<&'static str, Error> {
-        self.0.name(())
-    }
-
-    fn source(&'a self, (): ()) -> Result<&'a str, Error> {
-        self.0.source(())
-    }
-
-    fn line_index(&'a self, (): (), byte: usize) -> Result<usize, Error> {
-        let Misplaced(file) = self;
-        let is_last = byte == file.text.len();
-        Ok(if is_last { file.last_line() } else { 0 })
-    }
-
-    fn line_range(&'a self, (): (), line: usize) -> Result<Range<usize>, Error> {
-        self.0.line_range((), line)
-    }
+    assert!(matches!(
+        emit_into_string(&config, &reversed, &over_two_lines),
+        Err(Error::IndexTooLarge { given: 2, max: 1 })
+    ));
 }
 
 #[test]
-fn a_byte_far_past_its_line_adds_no_output() {
-    let files = Misplaced(Lines::new("a b c d", vec![0..1, 2..3, 4..5, 6..7]));
-    let diagnostic = Diagnostic::error()
-        .with_label(Label::primary((), 0..usize::MAX))
-        .with_label(Label::primary((), 7..7).with_message("here"));
+fn many_labels_in_turn_in_two_files() {
+    const COUNT: usize = 2_000;
+    let mut files = SimpleFiles::new();
+    for name in ["f", "g"] {
+        files.add(name, "abc\n\n\n\n".repeat(COUNT));
+    }
+    let starts = (0..COUNT).rev().map(|index| 7 * index);
+    let labels = starts.flat_map(|start| [0, 1].map(|id| Label::primary(id, start..start + 3)));
+    let diagnostic = Diagnostic::error().with_labels_iter(labels);
     let output = emit_into_string(&Config::default(), &files, &diagnostic).unwrap();
-    assert!(output.contains(" d\n"), "{output}");
-    assert!(output.len() < 1_000, "{output}");
-}
 
-#[test]
-#[should_panic(expected = "the lines of a file overlap")]
-fn lines_that_overlap_panic() {
-    let files = Lines::new("abcdef", vec![0..4, 2..6]);
-    let diagnostic = Diagnostic::error().with_label(Label::primary((), 0..5));
-    let _ = emit_into_string(&Config::default(), &files, &diagnostic);
+    let line = |index| format!("{:4} │ abc\n     │ ^^^\n", 4 * index + 1);
+    let lines: Vec<_> = (0..COUNT).map(line).collect();
+    let lines = lines.join("     ·\n");
+    let snippet = |name| format!("     ┌─ {name}:1:1\n     │\n{lines}");
+    let shown = format!("error: \n{}     │\n{}\n", snippet("f"), snippet("g"));
+    assert!(output == shown, "{} bytes", output.len());
 }

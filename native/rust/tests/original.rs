@@ -1,5 +1,6 @@
-//! The groups of diagnostics of the original crate's test, in each of its configurations: each
-//! output is the one that the original rendered, byte by byte.
+//! The groups of diagnostics of the original crate's test, in each of its configurations, and of
+//! databases whose lines overlap, descend or are outside the text: each output is the one that the
+//! original rendered, byte by byte.
 //!
 //! The stored outputs, `tests/original/outputs`, are not this crate's: `./test outputs` has the
 //! original write them. None of them shows a difference between the crates.
@@ -17,7 +18,7 @@ fn outputs_are_those_of_the_original() {
         assert_eq!(output, stored[name.as_str()], "{name}");
     }
     let in_color = if cfg!(feature = "termcolor") { 30 } else { 0 };
-    assert_eq!((outputs.len(), stored.len()), (62 + in_color, 92));
+    assert_eq!((outputs.len(), stored.len()), (67 + in_color, 97));
 }
 
 /// Returns the stored outputs by their names.

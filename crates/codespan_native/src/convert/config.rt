@@ -3,33 +3,21 @@
 ghost use Rattle.std.specs.Prelude.{◌≡◌};
 ghost use Rattle.codespan_base.specs.ConfigEquality.{IsEqualConfig};
 ghost use Rattle.codespan_native.specs.Converted.{converted_config, display_style_of, layout_of};
-ghost use Rattle.codespan_native.specs.Converted.{spelling_of};
-ghost use Rattle.codespan_native.specs.Spellings.{spelling_by_kind};
+ghost use Rattle.codespan_native.specs.Converted.{form_of};
 ghost use Rattle.codespan_native.specs.ValidParts.{AreValidChars};
 
 use crate::convert::chars::convert_chars;
-use crate::convert::styles::convert_styles;
+use crate::convert::forms::{Form, form_of};
 use crate::raw::{RawConfig, TAB_WIDTH_MAX};
-use codespan_base::term::{Config, DisplayStyle, Layout, Styles};
-
-/// How style marks are spelled.
-#[derive(Clone, Copy)]
-pub enum SpellingKind {
-    /// As no bytes.
-    Plain,
-    /// As the escape sequences of [`Ansi`](codespan_base::term::Ansi), in these styles.
-    Ansi(Styles),
-    /// In band, as the byte 255 and the number of the style mark.
-    StyleMarks,
-}
+use codespan_base::term::{Config, DisplayStyle, Layout};
 
 /// How a diagnostic is rendered.
 #[derive(Drop)]
 pub struct Settings<'a> {
     /// The configuration.
     pub config: Config<'a>,
-    /// How style marks are spelled.
-    pub spelling: SpellingKind,
+    /// What the output is written as.
+    pub form: Form,
 }
 
 /// Returns the settings of a configuration of C.
@@ -41,11 +29,11 @@ pub struct Settings<'a> {
 pub fn convert_config<'a>(raw: &RawConfig<'a>) -> Settings<'a>
     requires { AreValidChars raw.now }
     ensures config { IsEqualConfig (converted_config raw.now) result.config }
-    ensures spelling { spelling_by_kind result.spelling ≡ spelling_of raw.now }
+    ensures form { result.form ≡ form_of raw.now }
 {
     Settings {
         config: converted_config(raw),
-        spelling: spelling_of(raw),
+        form: form_of(raw),
     }
 }
 
@@ -84,17 +72,5 @@ fn layout_of(number: u32) -> Layout
     match number {
         0 => Layout::Classic,
         _ => Layout::Unbroken,
-    }
-}
-
-/// Returns how a configuration spells style marks. A number above 3 counts as 3.
-fn spelling_of(raw: &RawConfig<'_>) -> SpellingKind
-    ensures { spelling_by_kind result ≡ spelling_of raw.now }
-{
-    match raw.spelling {
-        0 => SpellingKind::Plain,
-        1 => SpellingKind::Ansi(Styles::default()),
-        2 => SpellingKind::Ansi(convert_styles(&raw.styles)),
-        _ => SpellingKind::StyleMarks,
     }
 }

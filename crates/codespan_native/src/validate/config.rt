@@ -14,7 +14,7 @@ use crate::validate::values::{is_scalar_value, is_utf8, is_valid_color_spec};
 /// The number that chooses the caller's characters.
 const CUSTOM_CHARACTERS: u32 = 2;
 
-/// The number of the spelling as escape sequences, in the caller's styles.
+/// The number of the color mode of the caller's styles.
 const CUSTOM_STYLES: u32 = 2;
 
 /// Returns whether the layouts of the structs are those of this library.
@@ -48,13 +48,20 @@ pub fn character_index(config: &RawConfig<'_>) -> Option<usize>
 /// Returns the index of the first of the caller's styles with a color that is invalid, where they
 /// are chosen.
 pub fn color_index(config: &RawConfig<'_>) -> Option<usize>
-    ensures { FindsFirstInvalid (λ i. config.now.spelling ≡ 2
+    ensures { FindsFirstInvalid (λ i. config.now.color_mode ≡ 2
         → HoldsIfAt IsValidColorSpec (color_specs_of config.now.styles) i) result }
 {
-    if config.spelling != CUSTOM_STYLES {
+    if config.color_mode != CUSTOM_STYLES {
         return None;
     }
-    color_spec_index(&color_specs_of(&config.styles))
+    first_invalid_color(&config.styles)
+}
+
+/// Returns the index of the first style with a color that is invalid.
+pub fn first_invalid_color(styles: &RawStyles) -> Option<usize>
+    ensures { FindsFirstInvalid (HoldsIfAt IsValidColorSpec (color_specs_of styles.now)) result }
+{
+    color_spec_index(&color_specs_of(styles))
 }
 
 /// Returns the index of the first code point that is not a Unicode scalar value.

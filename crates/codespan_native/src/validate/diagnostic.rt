@@ -2,10 +2,11 @@
 
 ghost use Rattle.std.specs.Prelude.{◌≤◌, length};
 ghost use Rattle.codespan_native.specs.Validity.{FindsFirstWithout, HasValidStyle};
-ghost use Rattle.codespan_native.specs.Validity.{HasValidMessage, HasValidFile, IsValidText};
+ghost use Rattle.codespan_native.specs.Validity.{HasValidMessage, HasValidFile, HasZeroWords};
+ghost use Rattle.codespan_native.specs.Validity.{IsValidText};
 
 use crate::raw::{RawFile, RawLabel, RawText};
-use crate::validate::values::is_utf8;
+use crate::validate::values::{are_zero, is_utf8};
 
 /// Returns the index of the first label whose style is invalid.
 pub fn label_style_index(labels: &[RawLabel<'_>]) -> Option<usize>
@@ -19,6 +20,13 @@ pub fn label_message_index(labels: &[RawLabel<'_>]) -> Option<usize>
     ensures { FindsFirstWithout HasValidMessage labels.now result }
 {
     labels.iter().position(|label| !is_utf8(label.message))
+}
+
+/// Returns the index of the first label with a reserved word that is not 0.
+pub fn label_reserved_index(labels: &[RawLabel<'_>]) -> Option<usize>
+    ensures { FindsFirstWithout HasZeroWords labels.now result }
+{
+    labels.iter().position(|label| !are_zero(&label.reserved))
 }
 
 /// Returns the index of the first note that is not UTF-8.

@@ -3,10 +3,11 @@
 ghost use Rattle.std.specs.Prelude.{IsTrue, ◌↔◌};
 ghost use Rattle.codespan_native.specs.Validity.{FindsFirstWithout, HasValidName, HasValidSource};
 ghost use Rattle.codespan_native.specs.Validity.{HasValidLines, HasValidLocations};
+ghost use Rattle.codespan_native.specs.Validity.{HasZeroReserved};
 
 use crate::raw::RawFile;
 use crate::stated_lines::{are_lines, locations_ascend};
-use crate::validate::values::is_utf8;
+use crate::validate::values::{are_zero, is_utf8};
 
 /// Returns the index of the first file whose name is not UTF-8.
 pub fn name_index(files: &[RawFile<'_>]) -> Option<usize>
@@ -36,6 +37,13 @@ pub fn locations_index(files: &[RawFile<'_>]) -> Option<usize>
     files
         .iter()
         .position(|file| !locations_ascend(file.first_byte, file.locations))
+}
+
+/// Returns the index of the first file with a reserved word that is not 0.
+pub fn file_reserved_index(files: &[RawFile<'_>]) -> Option<usize>
+    ensures { FindsFirstWithout HasZeroReserved files.now result }
+{
+    files.iter().position(|file| !are_zero(&file.reserved))
 }
 
 /// Returns whether a file states no lines, or lines of its source.

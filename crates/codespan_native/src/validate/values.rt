@@ -3,7 +3,7 @@
 ghost use Rattle.std.specs.Prelude.{◌≡◌, ◌-◌, IsTrue, ◌↔◌};
 ghost use Rattle.std.specs.Char.{InScalarRange};
 ghost use Rattle.std.specs.Str.{IsUtf8};
-ghost use Rattle.codespan_native.specs.Validity.{IsValidColorSpec};
+ghost use Rattle.codespan_native.specs.Validity.{AreZero, IsValidColorSpec};
 
 use crate::raw::RawColorSpec;
 
@@ -26,4 +26,11 @@ pub fn is_valid_color_spec(spec: &RawColorSpec) -> bool
     ensures { IsTrue result ↔ IsValidColorSpec spec.now }
 {
     spec.fg <= 8 && spec.bg <= 8
+}
+
+/// Returns whether all words are 0.
+pub fn are_zero(words: &[usize]) -> bool
+    ensures { IsTrue result ↔ AreZero words.now }
+{
+    words.iter().all(|word| *word == 0)
 }

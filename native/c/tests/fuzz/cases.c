@@ -9,6 +9,20 @@ enum {
     TEXT_MAX = 1024
 };
 
+/* The forms and the color modes of the calls of a case. */
+static const uint32_t FORM_NUMBERS[FORMS][2] = {
+    [MARKED] = {CODESPAN_STYLE_MARKS, 0},
+    [TEXT] = {CODESPAN_TEXT, 0},
+    [TEXT_IN_COLORS] = {CODESPAN_TEXT, 1},
+    [TEXT_IN_STYLES] = {CODESPAN_TEXT, 2},
+    [SAFE] = {CODESPAN_TERMINAL, 0},
+    [SAFE_IN_COLORS] = {CODESPAN_TERMINAL, 1},
+    [SAFE_IN_STYLES] = {CODESPAN_TERMINAL, 2},
+    [HTML] = {CODESPAN_HTML, 0},
+    [SVG] = {CODESPAN_SVG, 0},
+    [SVG_IN_STYLES] = {CODESPAN_SVG, 2},
+};
+
 /* What makes a case. Where `may_be_invalid`, most cases have invalid arguments. */
 struct maker {
     struct random random;
@@ -19,7 +33,11 @@ struct maker {
 #define PUT(maker, array, count)                                                                   \
     put((maker)->pages, &(maker)->random, array, (count) * sizeof(array)[0], _Alignof(size_t))
 
-/* Returns whether what is made now may be invalid: true in one of 8 calls, if anything may be. */
+/* The same, or NULL for no values. */
+#define PUT_OR_NULL(maker, array, count)                                                           \
+    ((count) == 0 && one_in(&(maker)->random, 2) ? NULL : PUT(maker, array, count))
+
+/* Returns whether what is made now may be invalid, as one of 8 things is where any may be. */
 static bool may_be_invalid_now(struct maker *maker) {
     return maker->may_be_invalid && one_in(&maker->random, 8);
 }
@@ -29,6 +47,12 @@ static uint32_t choice(struct maker *maker, uint32_t count) {
     if (may_be_invalid_now(maker))
         return (uint32_t)wide_number(&maker->random, count);
     return (uint32_t)below(&maker->random, count);
+}
+
+/* Sets one of the reserved words, where that may be invalid. */
+static void set_reserved(struct maker *maker, size_t *words, size_t count) {
+    if (may_be_invalid_now(maker) && one_in(&maker->random, 4))
+        words[below(&maker->random, count)] = wide_number(&maker->random, 2);
 }
 
 /* ---- texts ---- */
@@ -55,12 +79,15 @@ static const struct piece PIECES[] = {
     PIECE("e\314\201"),
     PIECE("\033[31m"),
     PIECE("\0"),
+    PIECE("<a href='&amp;\">"),
+    PIECE("\342\200\256\330\247"),
+    PIECE("\342\200\215\302\255\357\277\276"),
     PIECE("\377"),
     PIECE("\303"),
     PIECE("\355\240\200"),
     PIECE("\364\220\200\200"),
 };
-enum { NEWLINES = 2, VALID_PIECES = 12, ALL_PIECES = sizeof PIECES / sizeof PIECES[0] };
+enum { NEWLINES = 2, VALID_PIECES = 15, ALL_PIECES = sizeof PIECES / sizeof PIECES[0] };
 
 /* Returns a text of at most this many pieces, of which one in `newlines` is a newline. */
 static codespan_text make_text(struct maker *maker, size_t pieces_max, size_t newlines) {
@@ -73,7 +100,8 @@ static codespan_text make_text(struct maker *maker, size_t pieces_max, size_t ne
         memcpy(bytes + text.length, PIECES[kind].bytes, PIECES[kind].length);
         text.length += PIECES[kind].length;
     }
-    text.bytes = put(maker->pages, &maker->random, bytes, text.length, 1);
+    bool is_null = text.length == 0 && one_in(&maker->random, 2);
+    text.bytes = is_null ? NULL : put(maker->pages, &maker->random, bytes, text.length, 1);
     return text;
 }
 
@@ -108,7 +136,7 @@ static void set_lines(struct maker *maker, codespan_file *file) {
         if (start == line.start - file->first_byte)
             break;
     }
-    file->lines = PUT(maker, lines, count);
+    file->lines = PUT_OR_NULL(maker, lines, count);
     file->lines_length = count;
 }
 
@@ -123,7 +151,7 @@ static void set_locations(struct maker *maker, codespan_file *file) {
         byte = may_be_invalid_now(maker) ? wide_number(&maker->random, 90)
                                          : byte + 1 + below(&maker->random, 8);
     }
-    file->locations = PUT(maker, locations, count);
+    file->locations = PUT_OR_NULL(maker, locations, count);
     file->locations_length = count;
 }
 
@@ -139,6 +167,7 @@ static codespan_file make_file(struct maker *maker) {
         set_lines(maker, &file);
     if (one_in(&maker->random, 3))
         set_locations(maker, &file);
+    set_reserved(maker, file.reserved, 2);
     return file;
 }
 
@@ -162,7 +191,9 @@ static codespan_label make_label(struct maker *maker, const codespan_file *files
     size_t end =
         one_in(&maker->random, 2) ? make_index(maker, file) : start + below(&maker->random, 6);
     uint32_t style = choice(maker, CODESPAN_SECONDARY + 1);
-    return codespan_new_label(style, index, start, end, make_message(maker));
+    codespan_label label = codespan_new_label(style, index, start, end, make_message(maker));
+    set_reserved(maker, label.reserved, 2);
+    return label;
 }
 
 static codespan_diagnostic make_diagnostic(struct maker *maker, const codespan_label *labels,
@@ -174,10 +205,11 @@ static codespan_diagnostic make_diagnostic(struct maker *maker, const codespan_l
     uint32_t severity = choice(maker, CODESPAN_BUG + 1);
     codespan_diagnostic diagnostic = codespan_new_diagnostic(severity, make_message(maker));
     diagnostic.code = make_message(maker);
-    diagnostic.labels = PUT(maker, labels, labels_length);
+    diagnostic.labels = PUT_OR_NULL(maker, labels, labels_length);
     diagnostic.labels_length = labels_length;
-    diagnostic.notes = PUT(maker, notes, notes_length);
+    diagnostic.notes = PUT_OR_NULL(maker, notes, notes_length);
     diagnostic.notes_length = notes_length;
+    set_reserved(maker, diagnostic.reserved, 4);
     return diagnostic;
 }
 
@@ -233,6 +265,7 @@ static codespan_config make_config(struct maker *maker) {
     config.after_label_lines = wide_number(&maker->random, 3);
     config.chars = make_chars(maker);
     config.styles = make_styles(maker);
+    set_reserved(maker, config.reserved, 8);
     return config;
 }
 
@@ -258,10 +291,12 @@ struct fuzz_case make_case(uint64_t number, struct pages *pages) {
     made.styles = config->styles;
     struct call call = {PUT(&maker, files, files_length), files_length, PUT(&maker, diagnostic, 1),
                         NULL};
-    for (uint32_t spelling = 0; spelling < SPELLINGS; spelling++) {
-        config->spelling = may_be_invalid_now(&maker) ? choice(&maker, SPELLINGS) : spelling;
+    for (size_t form = 0; form < FORMS; form++) {
+        bool is_other = may_be_invalid_now(&maker);
+        config->form = is_other ? choice(&maker, CODESPAN_SVG + 1) : FORM_NUMBERS[form][0];
+        config->color_mode = is_other ? choice(&maker, 3) : FORM_NUMBERS[form][1];
         call.config = PUT(&maker, config, 1);
-        made.calls[spelling] = call;
+        made.calls[form] = call;
     }
     return made;
 }

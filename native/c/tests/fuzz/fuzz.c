@@ -5,10 +5,11 @@
  * The threads have stacks of STACK bytes. With CASE it makes the calls of that case alone, the
  * number that a failed check prints. The library can not write the arguments, nor read beside them,
  * nor write beside its output, without a fault. Checked are the statuses, that nothing else is
- * written, and that the spellings of an output have the same text. */
+ * written, and that the forms of an output have the same text. */
 #define _XOPEN_SOURCE 700
 #include "cases.h"
 #include "replay.h"
+#include "shown.h"
 #include <inttypes.h>
 #include <pthread.h>
 #include <signal.h>
@@ -26,8 +27,10 @@ struct worker {
     uint64_t first, step, cases; /* its cases: first, first + step, .. */
     double seconds;              /* how long it runs */
     struct pages pages;
-    uint8_t *buffers[SPELLINGS]; /* of OUT_CAPACITY bytes each */
-    uint8_t *expected;           /* of OUT_CAPACITY bytes */
+    uint8_t *buffers[FORMS];        /* of OUT_CAPACITY bytes each */
+    uint8_t *expected, *safe;       /* of OUT_CAPACITY bytes each */
+    struct outcome outcomes[FORMS]; /* what the calls of a case returned */
+    const uint8_t *outs[FORMS];     /* and wrote */
     size_t counts[STATUSES];
     uint8_t signal_stack[1 << 16];
 };
@@ -73,10 +76,10 @@ static void check_outcome(const struct fuzz_case *made, const struct call *call,
 }
 
 /* Makes a call with the last `capacity` bytes of a buffer. Returns the start of the output. */
-static const uint8_t *try_call(struct worker *worker, const struct fuzz_case *made,
-                               uint32_t spelling, size_t capacity, struct outcome *outcome) {
-    const struct call *call = &made->calls[spelling];
-    uint8_t *out = worker->buffers[spelling] + OUT_CAPACITY - capacity;
+static const uint8_t *try_call(struct worker *worker, const struct fuzz_case *made, size_t form,
+                               size_t capacity, struct outcome *outcome) {
+    const struct call *call = &made->calls[form];
+    uint8_t *out = worker->buffers[form] + OUT_CAPACITY - capacity;
     memset(out, UNWRITTEN, capacity);
     *outcome = emit(call, out, capacity);
     check_outcome(made, call, out, capacity, outcome);
@@ -84,44 +87,70 @@ static const uint8_t *try_call(struct worker *worker, const struct fuzz_case *ma
     return out;
 }
 
-/* Checks that a spelling of an output is the marked one, replayed in these styles. */
-static void check_styles(struct worker *worker, const uint8_t *marked, size_t marked_length,
-                         const codespan_styles *styles, const uint8_t *out,
-                         const struct outcome *outcome) {
-    size_t length = replay(marked, marked_length, styles, worker->expected, OUT_CAPACITY);
+/* Checks that a form is this text, as far as the call has written it. */
+static void check_text(const uint8_t *out, const struct outcome *outcome, const uint8_t *text,
+                       size_t length) {
     REQUIRE(outcome->written == length);
     if (outcome->status == CODESPAN_OK)
-        REQUIRE(memcmp(out, worker->expected, length) == 0);
+        REQUIRE(memcmp(out, text, length) == 0);
 }
 
-/* Renders a valid case in each spelling, and compares their texts. */
-static void check_spellings(struct worker *worker, const struct fuzz_case *made) {
-    struct outcome outcomes[SPELLINGS];
-    const uint8_t *outs[SPELLINGS];
-    for (uint32_t spelling = 0; spelling < SPELLINGS; spelling++)
-        outs[spelling] = try_call(worker, made, spelling, OUT_CAPACITY, &outcomes[spelling]);
-    if (!made->is_valid || outcomes[CODESPAN_STYLE_MARKS].status != CODESPAN_OK)
-        return;
-    const uint8_t *marked = outs[CODESPAN_STYLE_MARKS];
-    size_t length = outcomes[CODESPAN_STYLE_MARKS].written;
-    size_t plain_length = remove_style_marks(marked, length, worker->expected);
-    REQUIRE(outcomes[CODESPAN_PLAIN].status == CODESPAN_OK);
-    REQUIRE(outcomes[CODESPAN_PLAIN].written == plain_length);
-    REQUIRE(memcmp(outs[CODESPAN_PLAIN], worker->expected, plain_length) == 0);
-    REQUIRE(is_utf8(worker->expected, plain_length));
+/* Checks that a form in colors is a marked output, replayed in these styles. */
+static void check_styles(struct worker *worker, const uint8_t *marked, size_t marked_length,
+                         const codespan_styles *styles, size_t form) {
+    size_t length = replay(marked, marked_length, styles, worker->expected, OUT_CAPACITY);
+    check_text(worker->outs[form], &worker->outcomes[form], worker->expected, length);
+}
+
+/* Checks three forms: without colors, in default styles and in those of the case. */
+static void check_colors(struct worker *worker, const struct fuzz_case *made, const uint8_t *marked,
+                         size_t length, size_t form) {
     codespan_styles defaults = codespan_default_styles();
-    check_styles(worker, marked, length, &defaults, outs[CODESPAN_ANSI], &outcomes[CODESPAN_ANSI]);
-    check_styles(worker, marked, length, &made->styles, outs[CODESPAN_ANSI_STYLES],
-                 &outcomes[CODESPAN_ANSI_STYLES]);
+    size_t plain_length = remove_style_marks(marked, length, worker->expected);
+    REQUIRE(worker->outcomes[form].status == CODESPAN_OK);
+    REQUIRE(is_utf8(worker->expected, plain_length));
+    check_text(worker->outs[form], &worker->outcomes[form], worker->expected, plain_length);
+    check_styles(worker, marked, length, &defaults, form + 1);
+    check_styles(worker, marked, length, &made->styles, form + 2);
+}
+
+/* Checks that a reader of a document finds `front`, the safe text and `back` outside its tags. */
+static void check_document(struct worker *worker, size_t form, const char *front,
+                           const char *back) {
+    if (worker->outcomes[form].status != CODESPAN_OK)
+        return;
+    const struct outcome *safe = &worker->outcomes[SAFE];
+    uint8_t *text = worker->expected;
+    size_t length = read_markup(worker->outs[form], worker->outcomes[form].written, text);
+    REQUIRE(length == strlen(front) + safe->written + strlen(back));
+    REQUIRE(memcmp(text, front, strlen(front)) == 0);
+    REQUIRE(memcmp(text + strlen(front), worker->outs[SAFE], safe->written) == 0);
+    REQUIRE(memcmp(text + length - strlen(back), back, strlen(back)) == 0);
+}
+
+/* Renders a valid case in each form, and compares the forms. */
+static void check_forms(struct worker *worker, const struct fuzz_case *made) {
+    for (size_t form = 0; form < FORMS; form++)
+        worker->outs[form] = try_call(worker, made, form, OUT_CAPACITY, &worker->outcomes[form]);
+    if (!made->is_valid || worker->outcomes[MARKED].status != CODESPAN_OK)
+        return;
+    size_t length = worker->outcomes[MARKED].written;
+    check_colors(worker, made, worker->outs[MARKED], length, TEXT);
+    size_t safe_length = make_safe(worker->outs[MARKED], length, worker->safe);
+    check_colors(worker, made, worker->safe, safe_length, SAFE);
+    check_document(worker, HTML, "\n", "");
+    check_document(worker, SVG, "\n\n", "\n");
+    check_document(worker, SVG_IN_STYLES, "\n\n", "\n");
 }
 
 /* Renders with some capacity, and where that is too small with exactly the one that is needed. */
-static void check_capacity(struct worker *worker, const struct fuzz_case *made, size_t capacity) {
+static void check_capacity(struct worker *worker, const struct fuzz_case *made, size_t form,
+                           size_t capacity) {
     struct outcome first, second;
-    try_call(worker, made, CODESPAN_PLAIN, capacity, &first);
+    try_call(worker, made, form, capacity, &first);
     if (first.status != CODESPAN_TOO_SMALL || first.written > OUT_CAPACITY)
         return;
-    try_call(worker, made, CODESPAN_PLAIN, first.written, &second);
+    try_call(worker, made, form, first.written, &second);
     REQUIRE(second.status == CODESPAN_OK && second.written == first.written);
 }
 
@@ -148,8 +177,8 @@ static stack_t watch_faults(struct worker *worker) {
 static void run_case(struct worker *worker, uint64_t number) {
     current = number;
     struct fuzz_case made = make_case(number, &worker->pages);
-    check_spellings(worker, &made);
-    check_capacity(worker, &made, number % 300);
+    check_forms(worker, &made);
+    check_capacity(worker, &made, number % FORMS, number % 300);
     worker->cases++;
 }
 
@@ -177,9 +206,10 @@ static void prepare(struct worker *worker, uint64_t first, double seconds) {
     worker->step = THREADS;
     worker->seconds = seconds;
     worker->pages = new_pages();
-    for (uint32_t spelling = 0; spelling < SPELLINGS; spelling++)
-        worker->buffers[spelling] = new_buffer(OUT_CAPACITY);
+    for (size_t form = 0; form < FORMS; form++)
+        worker->buffers[form] = new_buffer(OUT_CAPACITY);
     worker->expected = new_buffer(OUT_CAPACITY);
+    worker->safe = new_buffer(OUT_CAPACITY);
 }
 
 /* What all threads found. */

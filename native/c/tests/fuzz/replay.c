@@ -72,7 +72,8 @@ size_t replay(const uint8_t *marked, size_t length, const codespan_styles *style
         size_t sequence_length = 1;
         if (marked[i] != CODESPAN_STYLE_MARK_BYTE)
             sequence[0] = (char)marked[i];
-        else if (i + 1 == length || marked[i + 1] > CODESPAN_STYLE_MARK_RESET)
+        else if (i + 1 == length || marked[i + 1] < CODESPAN_STYLE_MARK_HEADER ||
+                 marked[i + 1] > CODESPAN_STYLE_MARK_RESET)
             abort();
         else
             sequence_length = mark_sequence(sequence, sizeof sequence, styles, marked[++i]);
@@ -83,8 +84,7 @@ size_t replay(const uint8_t *marked, size_t length, const codespan_styles *style
     return written;
 }
 
-/* Returns the length of the character that these bytes begin with, 0 where it is none. */
-static size_t character_length(const uint8_t *bytes, size_t length) {
+size_t character_length(const uint8_t *bytes, size_t length) {
     static const uint32_t least[] = {0, 0, 0x80, 0x800, 0x10000};
     uint8_t first = bytes[0];
     size_t size = first < 0x80 ? 1 : first < 0xc0 ? 0 : first < 0xe0 ? 2 : first < 0xf0 ? 3 : 4;

@@ -1,4 +1,4 @@
-/* The spellings of one output: a marked one without its style marks is the plain one, and with
+/* The forms of text of one output: a marked one without its style marks is the plain one, and with
  * each style mark replaced by escape sequences it is one of those in color. */
 #ifndef REPLAY_H
 #define REPLAY_H
@@ -13,6 +13,9 @@ size_t remove_style_marks(const uint8_t *marked, size_t length, uint8_t *out);
  * Returns its length. */
 size_t replay(const uint8_t *marked, size_t length, const codespan_styles *styles, uint8_t *out,
               size_t capacity);
+
+/* Returns the length of the character that these bytes begin with, 0 where it is none. */
+size_t character_length(const uint8_t *bytes, size_t length);
 
 /* Returns whether these bytes are UTF-8. */
 bool is_utf8(const uint8_t *bytes, size_t length);

@@ -2,6 +2,7 @@
 
 use std::ops::Range;
 
+use crate::lines::Lines;
 use crate::random::Random;
 
 /// A label.
@@ -33,13 +34,13 @@ pub enum Lookup {
 }
 
 /// The file database of the files.
-#[derive(Clone, Copy, Debug)]
+#[derive(Debug)]
 pub enum Database {
     /// The crate's `SimpleFiles`.
     Simple,
     /// A custom one, whose line numbers start at `first_number`, and a lookup of which may fail.
     Custom {
-        with_newlines: bool,
+        lines: Vec<Lines>,
         first_number: usize,
         failing: Option<Lookup>,
     },
@@ -111,12 +112,17 @@ const MESSAGES: [&str; 5] = [
 const NOTES: [&str; 4] = ["note", "two\nlines", "", "three\n  indented\nlines\n"];
 
 impl Case {
-    pub fn random(random: &mut Random) -> Case {
+    /// Returns a diagnostic over a file database that is lawful, or one that is not.
+    pub fn random(random: &mut Random, is_lawful: bool) -> Case {
         let count = 1 + random.below(3);
         let files: Vec<_> = (0..count)
             .map(|index| (format!("f{index}.x"), text(random)))
             .collect();
-        let database = database(random, &files);
+        let database = if is_lawful {
+            database(random, &files)
+        } else {
+            unlawful_database(random, &files)
+        };
         let fails = matches!(
             database,
             Database::Custom {
@@ -142,27 +148,31 @@ impl Case {
             ]),
             characters: random.pick(&[Characters::Box, Characters::Ascii, Characters::Custom]),
             tab_width: random.pick(&[4, 4, 0, 1, 3, 8]),
-            context: Context {
-                start: random.below(4),
-                end: random.below(4),
-                // Where a line of context can not be looked up, other errors are returned here.
-                before: if fails {
-                    0
-                } else {
-                    random.pick(&[0, 0, 1, 2, 5])
-                },
-                after: if fails {
-                    0
-                } else {
-                    random.pick(&[0, 0, 1, 2, 5])
-                },
-            },
+            context: context(random, fails),
             files,
         }
     }
 
     pub fn is_rich(&self) -> bool {
         self.style == Style::Rich
+    }
+}
+
+fn context(random: &mut Random, fails: bool) -> Context {
+    // Where a line of context can not be looked up, other errors are returned here.
+    let mut around = || {
+        if fails {
+            0
+        } else {
+            random.pick(&[0, 0, 1, 2, 5])
+        }
+    };
+    let (before, after) = (around(), around());
+    Context {
+        start: random.below(4),
+        end: random.below(4),
+        before,
+        after,
     }
 }
 
@@ -193,10 +203,25 @@ fn database(random: &mut Random, files: &[(String, String)]) -> Database {
         Lookup::LineRange(file, line),
         Lookup::ColumnNumber(file, byte),
     ]);
+    let with_newlines = random.one_in(2);
+    let lines = |(_, text): &(String, String)| Lines::of_text(text, with_newlines);
     Database::Custom {
-        with_newlines: random.one_in(2),
-        first_number: random.pick(&[1, 1, 7, 95, 998, 99_997]),
+        lines: files.iter().map(lines).collect(),
+        first_number: first_number(random),
         failing: random.one_in(2).then_some(failing),
+    }
+}
+
+fn first_number(random: &mut Random) -> usize {
+    random.pick(&[1, 1, 7, 95, 998, 99_997])
+}
+
+fn unlawful_database(random: &mut Random, files: &[(String, String)]) -> Database {
+    let lines = files.iter().map(|(_, text)| Lines::unlawful(random, text));
+    Database::Custom {
+        lines: lines.collect(),
+        first_number: first_number(random),
+        failing: None,
     }
 }
 

@@ -1,8 +1,14 @@
 //! Compares this crate with the original one.
 //!
-//! `compare check SEED COUNT` renders random diagnostics by both, and fails where one differs that
-//! should not. `compare bench` prints the time that each takes for some diagnostics, and
-//! `compare outputs` what the original renders of the groups in `tests/original`.
+//! - `compare check SEED COUNT` renders random diagnostics by both, and fails where one differs that
+//!   should not;
+//! - `compare unlawful SEED COUNT` does so over file databases whose lines are no lines of their
+//!   texts;
+//! - `compare bench` prints the time that each takes for some diagnostics;
+//! - `compare rows` prints the names of these;
+//! - `compare repeat NAME CRATE KIND COUNT` renders one of these some times, by the crate `original`
+//!   or `proved`, as `text` or in `colors`;
+//! - `compare outputs` prints what the original renders of the groups in `tests/original`.
 
 // The name by which the groups use a crate.
 extern crate original as codespan_reporting;
@@ -11,9 +17,11 @@ mod bench;
 mod case;
 #[path = "../../tests/original/groups.rs"]
 mod groups;
+mod lines;
 mod random;
 mod sides;
 
+use std::fmt;
 use std::panic;
 use std::process::ExitCode;
 
@@ -24,14 +32,22 @@ use sides::Outcome;
 fn main() -> ExitCode {
     let words: Vec<String> = std::env::args().skip(1).collect();
     match words.iter().map(String::as_str).collect::<Vec<_>>()[..] {
-        ["check", seed, count] => match (seed.parse(), count.parse()) {
-            (Ok(seed), Ok(count)) => check(seed, count),
+        [kind @ ("check" | "unlawful"), seed, count] => match (seed.parse(), count.parse()) {
+            (Ok(seed), Ok(count)) => check(seed, count, kind == "check"),
             _ => usage(),
         },
         ["bench"] => {
             bench::run();
             ExitCode::SUCCESS
         }
+        ["rows"] => {
+            bench::print_rows();
+            ExitCode::SUCCESS
+        }
+        ["repeat", name, side, kind, calls] => match calls.parse() {
+            Ok(calls) if bench::repeat(name, side, kind, calls) => ExitCode::SUCCESS,
+            _ => usage(),
+        },
         ["outputs"] => {
             for (name, output) in groups::outputs() {
                 println!("== {name}\n{output}");
@@ -43,7 +59,7 @@ fn main() -> ExitCode {
 }
 
 fn usage() -> ExitCode {
-    eprintln!("usage: compare check SEED COUNT, compare bench, or compare outputs");
+    eprintln!("usage: compare check|unlawful|bench|rows|repeat|outputs, as src/main.rs says");
     ExitCode::from(2)
 }
 
@@ -55,19 +71,33 @@ struct Counts {
     panics: usize,
 }
 
+impl fmt::Display for Counts {
+    fn fmt(&self, f: &mut fmt::Formatter<'_>) -> fmt::Result {
+        write!(
+            f,
+            "{} outputs and {} errors are the original's, which panicked for the other {}",
+            self.outputs, self.errors, self.panics
+        )
+    }
+}
+
 /// Compares random cases.
-fn check(seed: u64, count: usize) -> ExitCode {
+fn check(seed: u64, count: usize, is_lawful: bool) -> ExitCode {
     panic::set_hook(Box::new(|_| ()));
     let mut random = Random::new(seed);
     let mut counts = Counts::default();
     for index in 0..count {
-        let case = Case::random(&mut random);
+        let case = Case::random(&mut random, is_lawful);
         let theirs = panic::catch_unwind(|| sides::original::render(&case));
+        let ours = panic::catch_unwind(|| sides::proved::render(&case));
         let Ok(theirs) = theirs else {
             counts.panics += 1;
-            continue;
+            if ours.is_ok() {
+                continue;
+            }
+            println!("case {index} of seed {seed} panics, as in the original:\n{case:#?}");
+            return ExitCode::FAILURE;
         };
-        let ours = panic::catch_unwind(|| sides::proved::render(&case));
         let Ok(ours) = ours else {
             println!("case {index} of seed {seed} panics:\n{case:#?}\nthe original:\n{theirs}");
             // Once more, with the message.
@@ -85,15 +115,7 @@ fn check(seed: u64, count: usize) -> ExitCode {
             Err(_) => counts.errors += 1,
         }
     }
-    let Counts {
-        outputs,
-        errors,
-        panics,
-    } = counts;
-    println!(
-        "{count} random diagnostics: {outputs} outputs and {errors} errors are the original's, \
-         which panicked for the other {panics}"
-    );
+    println!("{count} random diagnostics: {counts}");
     ExitCode::SUCCESS
 }
 

@@ -43,7 +43,7 @@ macro_rules! side {
             use std::ops::Range;
 
             use ::$name::diagnostic::{Diagnostic, Label, LabelStyle, Severity};
-            use ::$name::files::{column_index, line_starts, Error, Files, SimpleFiles};
+            use ::$name::files::{column_index, Error, Files, SimpleFiles};
             use ::$name::term::termcolor::Ansi;
             use ::$name::term::{
                 emit_into_string, emit_to_io_write, emit_to_write_style, Chars, Config,
@@ -52,12 +52,12 @@ macro_rules! side {
 
             use super::{Outcome, Written};
             use crate::case::{Case, Characters, Database, Lookup, Style};
+            use crate::lines::Lines;
 
             /// A custom file database.
             struct CustomFiles<'case> {
                 files: &'case [(String, String)],
-                starts: Vec<Vec<usize>>,
-                with_newlines: bool,
+                lines: &'case [Lines],
                 first_number: usize,
                 failing: Option<Lookup>,
             }
@@ -93,7 +93,7 @@ macro_rules! side {
                 fn line_index(&'a self, id: usize, byte: usize) -> Result<usize, Error> {
                     self.look_up(Lookup::LineIndex(id, byte))?;
                     self.file(id)?;
-                    Ok(self.starts[id].partition_point(|&start| start <= byte) - 1)
+                    Ok(self.lines[id].line_of(byte))
                 }
 
                 fn line_number(&'a self, id: usize, line: usize) -> Result<usize, Error> {
@@ -114,17 +114,11 @@ macro_rules! side {
 
                 fn line_range(&'a self, id: usize, line: usize) -> Result<Range<usize>, Error> {
                     self.look_up(Lookup::LineRange(id, line))?;
-                    let text = &self.file(id)?.1;
-                    let starts = &self.starts[id];
-                    let max = starts.len() - 1;
-                    let Some(&start) = starts.get(line) else {
-                        return Err(Error::LineTooLarge { given: line, max });
-                    };
-                    Ok(match starts.get(line + 1) {
-                        Some(&next) if self.with_newlines => start..next,
-                        Some(&next) => start..next - 1,
-                        None => start..text.len(),
-                    })
+                    self.file(id)?;
+                    let ranges = &self.lines[id].ranges;
+                    let max = ranges.len() - 1;
+                    let range = ranges.get(line).cloned();
+                    range.ok_or(Error::LineTooLarge { given: line, max })
                 }
             }
 
@@ -204,23 +198,18 @@ macro_rules! side {
 
             /// Renders a case.
             pub fn render(case: &Case) -> Outcome {
-                match case.database {
+                match &case.database {
                     Database::Simple => render_over(case, &simple_files(case)),
                     Database::Custom {
-                        with_newlines,
+                        lines,
                         first_number,
                         failing,
                     } => {
-                        let starts = case
-                            .files
-                            .iter()
-                            .map(|(_, text)| line_starts(text).collect());
                         let files = CustomFiles {
                             files: &case.files,
-                            starts: starts.collect(),
-                            with_newlines,
-                            first_number,
-                            failing,
+                            lines,
+                            first_number: *first_number,
+                            failing: *failing,
                         };
                         render_over(case, &files)
                     }

@@ -3,10 +3,13 @@
 
 #![allow(unsafe_code)]
 
-use alloc::vec::Vec;
-use core::ptr;
+mod heap;
 
-use super::layout::{Config, Detail, Diagnostic, File, OK, OUT_OF_MEMORY, TOO_SMALL};
+use alloc::vec::Vec;
+use core::mem::MaybeUninit;
+use core::{slice, str};
+
+use super::layout::{Config, Detail, Diagnostic, File, OK, OUT_OF_MEMORY, STYLE_MARKS, TOO_SMALL};
 
 /// The error of a call of the archive.
 #[derive(Debug)]
@@ -17,8 +20,36 @@ pub(crate) enum EmitError {
     Invalid(Detail),
 }
 
-/// The length in bytes that outputs are expected not to exceed. A longer one takes a second call.
-const EXPECTED_LENGTH: usize = 4096;
+/// The room on the stack for an output, in bytes.
+const ROOM: usize = 4096;
+
+/// An output that the archive has written.
+pub(crate) struct Output<'a> {
+    bytes: &'a [u8],
+    /// Whether it is text, without style marks.
+    is_text: bool,
+}
+
+impl<'a> Output<'a> {
+    /// Returns the bytes.
+    pub(crate) fn bytes(&self) -> &'a [u8] {
+        self.bytes
+    }
+
+    /// Returns the text.
+    ///
+    /// # Panics
+    ///
+    /// Where the output has style marks.
+    pub(crate) fn text(&self) -> &'a str {
+        assert!(self.is_text, "an output with style marks is no text");
+        // SAFETY: the archive has written these bytes, without style marks. By the clause `ok` of
+        // the contract of `codespan_emit` they are exactly those of the output in its form. Its
+        // text is UTF-8 by the law `outputs_are_utf8`, and the other forms are made of it as
+        // `String`s. All this is proved, of any arguments that the archive accepts.
+        unsafe { str::from_utf8_unchecked(self.bytes) }
+    }
+}
 
 extern "C" {
     fn codespan_emit(
@@ -33,113 +64,86 @@ extern "C" {
     ) -> u32;
 }
 
-/// Returns the output of a diagnostic over files.
+/// Passes the output of a diagnostic over files to `read`, and returns what that returns. An output
+/// that is longer than expected takes a second call.
 ///
 /// # Errors
 ///
 /// [`EmitError::OutOfMemory`] where an allocation of the archive fails, and [`EmitError::Invalid`]
 /// where it does not accept an argument.
-pub(crate) fn emit(
+pub(crate) fn emit<R>(
     files: &[File<'_>],
     diagnostic: &Diagnostic<'_>,
     config: &Config<'_>,
-) -> Result<Vec<u8>, EmitError> {
-    let mut out: Vec<u8> = Vec::with_capacity(EXPECTED_LENGTH);
-    loop {
-        let mut written = 0;
-        let mut detail = Detail::default();
-        // SAFETY: the structs have the layouts of the header, which `abi` states. Each `Slice` has
-        // the pointer and the length of a slice that it borrows, so that its pointer is aligned,
-        // not null, and points to as many values. `out` has room for its capacity. Nothing that is
-        // written overlaps anything else, and nothing that is read changes.
-        let status = unsafe {
-            codespan_emit(
-                files.as_ptr(),
-                files.len(),
-                diagnostic,
-                config,
-                out.as_mut_ptr(),
-                out.capacity(),
-                &mut written,
-                &mut detail,
-            )
-        };
-        match status {
-            OK => {
-                // SAFETY: the call has written this many bytes, and not more than the capacity.
-                unsafe { out.set_len(written) };
-                return Ok(out);
-            }
-            TOO_SMALL => out.reserve_exact(written),
-            OUT_OF_MEMORY => return Err(EmitError::OutOfMemory),
-            _ => return Err(EmitError::Invalid(detail)),
-        }
+    expected_length: usize,
+    read: impl FnOnce(Output<'_>) -> R,
+) -> Result<R, EmitError> {
+    let is_text = config.form != STYLE_MARKS;
+    let mut stack = [MaybeUninit::uninit(); ROOM];
+    let mut heap: Vec<u8> = Vec::new();
+    // Where there is no memory for what is expected, the output may be shorter.
+    let on_heap = expected_length > ROOM && heap.try_reserve_exact(expected_length).is_ok();
+    let room = if on_heap {
+        heap.spare_capacity_mut()
+    } else {
+        &mut stack[..]
+    };
+    let length = match write(files, diagnostic, config, room)? {
+        Written::Output(bytes) => return Ok(read(Output { bytes, is_text })),
+        Written::TooSmall(length) => length,
+    };
+    heap.reserve_exact(length);
+    match write(files, diagnostic, config, heap.spare_capacity_mut())? {
+        Written::Output(bytes) => Ok(read(Output { bytes, is_text })),
+        Written::TooSmall(length) => unreachable!("the output has another length now: {length}"),
     }
 }
 
-// The archive refers to these three by name. Hidden, they are no names of a shared object that is
-// made with this crate inside.
-core::arch::global_asm!(
-    ".hidden rattle_alloc",
-    ".hidden rattle_realloc",
-    ".hidden rattle_dealloc",
-);
-
-/// What an allocation returns: whether it succeeded, and a pointer that is never null.
-#[repr(C)]
-pub struct Allocation {
-    ok: bool,
-    memory: *mut u8,
+/// What a call of the archive leaves in the room that it is passed.
+enum Written<'room> {
+    /// The output.
+    Output(&'room [u8]),
+    /// Nothing, since the output has this length.
+    TooSmall(usize),
 }
 
-extern "C" {
-    fn malloc(size: usize) -> *mut u8;
-    fn realloc(memory: *mut u8, size: usize) -> *mut u8;
-    fn free(memory: *mut u8);
-}
-
-fn allocation(memory: *mut u8) -> Allocation {
-    Allocation {
-        ok: !memory.is_null(),
-        memory: if memory.is_null() {
-            ptr::NonNull::dangling().as_ptr()
-        } else {
-            memory
-        },
+/// Has the archive write an output.
+///
+/// # Errors
+///
+/// Those of [`emit`].
+fn write<'room>(
+    files: &[File<'_>],
+    diagnostic: &Diagnostic<'_>,
+    config: &Config<'_>,
+    room: &'room mut [MaybeUninit<u8>],
+) -> Result<Written<'room>, EmitError> {
+    let out: *mut u8 = room.as_mut_ptr().cast();
+    let mut written = 0;
+    let mut detail = Detail::default();
+    // SAFETY: the structs have the layouts of the header, which `abi` states. Each `Slice` has the
+    // pointer and the length of a slice that it borrows, so that its pointer is aligned, not null,
+    // and points to as many values. `out` has room for as many bytes as `room`. Nothing that is
+    // written overlaps anything else, and nothing that is read changes.
+    let status = heap::with_arena(|| unsafe {
+        codespan_emit(
+            files.as_ptr(),
+            files.len(),
+            diagnostic,
+            config,
+            out,
+            room.len(),
+            &mut written,
+            &mut detail,
+        )
+    });
+    match status {
+        // SAFETY: the call has written this many bytes, and not more than there is room for.
+        OK => Ok(Written::Output(unsafe {
+            slice::from_raw_parts(out, written)
+        })),
+        TOO_SMALL => Ok(Written::TooSmall(written)),
+        OUT_OF_MEMORY => Err(EmitError::OutOfMemory),
+        _ => Err(EmitError::Invalid(detail)),
     }
-}
-
-/// Allocates memory for the archive.
-///
-/// # Safety
-///
-/// Only the archive calls it. No type of the archive is aligned to more than `malloc` aligns to.
-#[no_mangle]
-unsafe extern "C" fn rattle_alloc(size: usize, _align: usize) -> Allocation {
-    allocation(malloc(size.max(1)))
-}
-
-/// Changes the size of memory of the archive.
-///
-/// # Safety
-///
-/// Only the archive calls it, with memory of these functions.
-#[no_mangle]
-unsafe extern "C" fn rattle_realloc(
-    memory: *mut u8,
-    _kept: usize,
-    size: usize,
-    _align: usize,
-) -> Allocation {
-    allocation(realloc(memory, size.max(1)))
-}
-
-/// Frees memory of the archive.
-///
-/// # Safety
-///
-/// Only the archive calls it, with memory of these functions, once.
-#[no_mangle]
-unsafe extern "C" fn rattle_dealloc(memory: *mut u8) {
-    free(memory);
 }

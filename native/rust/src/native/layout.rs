@@ -7,10 +7,19 @@ use core::marker::PhantomData;
 mod header;
 
 /// The ABI version of these layouts: `CODESPAN_ABI`.
-pub(crate) const ABI: u32 = 1;
+pub(crate) const ABI: u32 = 2;
 
 /// The layout of the original.
 pub(crate) const CLASSIC: u32 = 0;
+
+/// The form of a text with style marks.
+pub(crate) const STYLE_MARKS: u32 = 2;
+
+/// The color mode without colors.
+pub(crate) const COLORS_OFF: u32 = 0;
+
+/// The color mode of the default styles.
+pub(crate) const DEFAULT_STYLES: u32 = 1;
 
 /// The choice of the characters that are passed, not of one of the archive's sets.
 pub(crate) const CUSTOM_CHARS: u32 = 2;
@@ -25,20 +34,20 @@ pub(crate) const TOO_SMALL: u32 = 1;
 pub(crate) const OUT_OF_MEMORY: u32 = 2;
 
 /// `CODESPAN_ARGUMENT_FILE_LINES`.
-pub(crate) const FILE_LINES: u32 = 11;
+pub(crate) const FILE_LINES: u32 = 13;
 
 /// The byte before the number of a style mark.
 pub(crate) const STYLE_MARK_BYTE: u8 = 255;
 
 // The numbers of style marks. To those of headers and labels the number of a severity is added.
-pub(crate) const STYLE_MARK_HEADER: u8 = 0;
-pub(crate) const STYLE_MARK_HEADER_MESSAGE: u8 = 5;
-pub(crate) const STYLE_MARK_LINE_NUMBER: u8 = 6;
-pub(crate) const STYLE_MARK_NOTE_BULLET: u8 = 7;
-pub(crate) const STYLE_MARK_SOURCE_BORDER: u8 = 8;
-pub(crate) const STYLE_MARK_PRIMARY_LABEL: u8 = 9;
-pub(crate) const STYLE_MARK_SECONDARY_LABEL: u8 = 14;
-pub(crate) const STYLE_MARK_RESET: u8 = 19;
+pub(crate) const STYLE_MARK_HEADER: u8 = 128;
+pub(crate) const STYLE_MARK_HEADER_MESSAGE: u8 = 133;
+pub(crate) const STYLE_MARK_LINE_NUMBER: u8 = 134;
+pub(crate) const STYLE_MARK_NOTE_BULLET: u8 = 135;
+pub(crate) const STYLE_MARK_SOURCE_BORDER: u8 = 136;
+pub(crate) const STYLE_MARK_PRIMARY_LABEL: u8 = 137;
+pub(crate) const STYLE_MARK_SECONDARY_LABEL: u8 = 142;
+pub(crate) const STYLE_MARK_RESET: u8 = 147;
 
 /// A borrowed slice: a pointer that is never null, then a number of items.
 #[repr(C)]
@@ -93,6 +102,7 @@ pub(crate) struct File<'a> {
     pub(crate) first_line: usize,
     pub(crate) lines: Slice<'a, Line>,
     pub(crate) locations: Slice<'a, Location>,
+    pub(crate) reserved: [usize; 2],
 }
 
 /// A label: its style, the index of its file, its bytes and its message.
@@ -103,6 +113,7 @@ pub(crate) struct Label<'a> {
     pub(crate) start: usize,
     pub(crate) end: usize,
     pub(crate) message: Text<'a>,
+    pub(crate) reserved: [usize; 2],
 }
 
 /// A diagnostic.
@@ -113,6 +124,7 @@ pub(crate) struct Diagnostic<'a> {
     pub(crate) message: Text<'a>,
     pub(crate) labels: Slice<'a, Label<'a>>,
     pub(crate) notes: Slice<'a, Text<'a>>,
+    pub(crate) reserved: [usize; 4],
 }
 
 /// The characters, by their code points.
@@ -149,7 +161,7 @@ pub(crate) struct ColorSpec {
 /// The number of styles of a configuration.
 const STYLES: usize = 15;
 
-/// The styles, which the archive does not read in the spellings that are used here.
+/// The styles, which the archive does not read in the color modes that are used here.
 pub(crate) type Styles = [ColorSpec; STYLES];
 
 /// A configuration.
@@ -158,7 +170,8 @@ pub(crate) struct Config<'a> {
     pub(crate) abi: u32,
     pub(crate) display_style: u32,
     pub(crate) layout: u32,
-    pub(crate) spelling: u32,
+    pub(crate) form: u32,
+    pub(crate) color_mode: u32,
     pub(crate) characters: u32,
     pub(crate) tab_width: usize,
     pub(crate) start_context_lines: usize,
@@ -167,6 +180,7 @@ pub(crate) struct Config<'a> {
     pub(crate) after_label_lines: usize,
     pub(crate) chars: Chars<'a>,
     pub(crate) styles: Styles,
+    pub(crate) reserved: [usize; 8],
 }
 
 /// Which argument is invalid.

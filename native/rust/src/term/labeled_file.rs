@@ -10,6 +10,7 @@ use crate::diagnostic::{Label, LabelStyle};
 use crate::files::{Error, Files, Location};
 use crate::native;
 use crate::term::excerpt::Excerpt;
+use crate::term::Config;
 
 /// A line as it is looked up.
 pub(super) struct LineInfo {
@@ -17,6 +18,25 @@ pub(super) struct LineInfo {
     pub(super) number: usize,
     /// The byte indices of its start and its end in the file.
     pub(super) range: Range<usize>,
+    /// The byte index after the greatest one at which a label on this line starts or ends, or 0.
+    pub(super) reach: usize,
+}
+
+impl LineInfo {
+    /// Returns a line on which no label starts or ends.
+    fn new(number: usize, range: Range<usize>) -> LineInfo {
+        LineInfo {
+            number,
+            range,
+            reach: 0,
+        }
+    }
+
+    /// Returns true where this line is after another one, and after the labels on that one.
+    pub(super) fn follows(&self, line: &LineInfo) -> bool {
+        let Range { start, end } = line.range;
+        self.range.start >= end.max(line.reach) && self.range.start > start
+    }
 }
 
 /// A byte of a file, and the index of its line, both from 0.
@@ -28,11 +48,11 @@ pub(super) struct Position {
 
 /// A label whose location may be shown. That of the least one is: primary labels come before
 /// secondary ones, and among these an earlier start comes first.
-#[derive(PartialEq, PartialOrd)]
-struct LocationLabel {
-    style: LabelStyle,
-    /// The byte index of its start in the file.
-    start: usize,
+#[derive(Clone, Copy, PartialEq, PartialOrd)]
+pub(super) struct LocationLabel {
+    pub(super) style: LabelStyle,
+    /// The byte index of its start.
+    pub(super) start: usize,
 }
 
 impl LocationLabel {
@@ -50,12 +70,12 @@ pub(super) struct LabeledFile<FileId> {
     name: String,
     /// The label whose location is shown.
     location_label: LocationLabel,
-    /// The start of that label.
-    start: Position,
-    /// The location of that start.
+    /// The location of the start of that label.
     location: Location,
-    /// The lines that are shown, and those inside labels, by their indices, from 0.
+    /// The lines that are shown, by their indices, from 0.
     lines: BTreeMap<usize, LineInfo>,
+    /// The greatest number of a line inside a label that is not shown, or 0.
+    hidden_number: usize,
     /// The least index at which lines after a label ended, with the error.
     end_of_context: Option<(usize, Error)>,
 }
@@ -64,16 +84,15 @@ impl<FileId: Copy + PartialEq> LabeledFile<FileId> {
     /// Looks up the name of the file of a label, and the label's location.
     pub(super) fn look_up<'files>(
         label: &Label<FileId>,
-        start: Position,
         files: &'files (impl Files<'files, FileId = FileId> + ?Sized),
     ) -> Result<Self, Error> {
         Ok(LabeledFile {
             id: label.file_id,
             name: files.name(label.file_id)?.to_string(),
             location_label: LocationLabel::new(label),
-            start,
             location: files.location(label.file_id, label.range.start)?,
             lines: BTreeMap::new(),
+            hidden_number: 0,
             end_of_context: None,
         })
     }
@@ -82,13 +101,11 @@ impl<FileId: Copy + PartialEq> LabeledFile<FileId> {
     pub(super) fn show_if_before<'files>(
         &mut self,
         label: &Label<FileId>,
-        start: Position,
         files: &'files (impl Files<'files, FileId = FileId> + ?Sized),
     ) -> Result<(), Error> {
         let location_label = LocationLabel::new(label);
         if location_label < self.location_label {
             self.location_label = location_label;
-            self.start = start;
             self.location = files.location(self.id, label.range.start)?;
         }
         Ok(())
@@ -99,43 +116,61 @@ impl<FileId: Copy + PartialEq> LabeledFile<FileId> {
         self.id
     }
 
-    /// Returns the lines, by their indices.
-    pub(super) fn lines(&self) -> &BTreeMap<usize, LineInfo> {
-        &self.lines
+    /// Returns an excerpt of the lines that are shown, and the location.
+    ///
+    /// # Errors
+    ///
+    /// [`Error::IndexTooLarge`] and [`Error::InvalidCharBoundary`] where a line that is shown is no
+    /// part of the source.
+    pub(super) fn excerpt<'source>(&self, source: &'source str) -> Result<Excerpt<'source>, Error> {
+        Excerpt::new(&self.lines, self.hidden_number, source, self.location)
     }
 
-    /// Returns the location that is shown, for its byte in an excerpt of this file.
-    pub(super) fn native_location(&self, excerpt: &Excerpt<'_>) -> native::Location {
-        native::Location {
-            byte: excerpt.byte(self.start),
-            line_number: self.location.line_number,
-            column_number: self.location.column_number,
-        }
-    }
-
-    /// Returns an excerpt of this file.
-    pub(super) fn native<'a>(
-        &'a self,
-        excerpt: &'a Excerpt<'_>,
-        location: &'a native::Location,
-    ) -> native::File<'a> {
+    /// Returns this file with the text of an excerpt.
+    pub(super) fn native<'a>(&'a self, excerpt: &'a Excerpt<'_>) -> native::File<'a> {
         native::File {
             name: self.name.as_str().into(),
             source: excerpt.text().into(),
             first_byte: 0,
             first_line: 0,
             lines: native::Slice::new(excerpt.lines()),
-            locations: native::Slice::new(slice::from_ref(location)),
+            locations: native::Slice::new(slice::from_ref(excerpt.location())),
+            reserved: [0; 2],
         }
     }
 
-    /// Adds a line that was looked up, unless it is known.
-    pub(super) fn insert_line(&mut self, line_index: usize, line: LineInfo) {
-        self.lines.entry(line_index).or_insert(line);
+    /// Adds the line of a position at which a label starts or ends.
+    pub(super) fn insert_line(&mut self, position: Position, line: LineInfo) {
+        let line = self.lines.entry(position.line_index).or_insert(line);
+        line.reach = line.reach.max(position.byte.saturating_add(1));
+    }
+
+    /// Looks up the lines inside a label over more than one line. Some of these are shown: those of
+    /// context after its first line, and before its last one.
+    pub(super) fn add_lines_between<'files>(
+        &mut self,
+        first: usize,
+        last: usize,
+        config: &Config,
+        files: &'files (impl Files<'files, FileId = FileId> + ?Sized),
+    ) -> Result<(), Error> {
+        for line_index in first + 1..last {
+            let range = files.line_range(self.id, line_index)?;
+            let number = files.line_number(self.id, line_index)?;
+            if line_index - first <= config.start_context_lines
+                || last - line_index <= config.end_context_lines
+            {
+                let line = self.lines.entry(line_index);
+                line.or_insert_with(|| LineInfo::new(number, range));
+            } else {
+                self.hidden_number = self.hidden_number.max(number);
+            }
+        }
+        Ok(())
     }
 
     /// Looks up a line, unless it is known.
-    pub(super) fn add_line<'files>(
+    fn add_line<'files>(
         &mut self,
         line_index: usize,
         files: &'files (impl Files<'files, FileId = FileId> + ?Sized),
@@ -143,7 +178,7 @@ impl<FileId: Copy + PartialEq> LabeledFile<FileId> {
         if !self.lines.contains_key(&line_index) {
             let range = files.line_range(self.id, line_index)?;
             let number = files.line_number(self.id, line_index)?;
-            self.lines.insert(line_index, LineInfo { number, range });
+            self.lines.insert(line_index, LineInfo::new(number, range));
         }
         Ok(())
     }
@@ -176,7 +211,7 @@ impl<FileId: Copy + PartialEq> LabeledFile<FileId> {
             match files.line_range(self.id, line_index) {
                 Ok(range) => {
                     let number = files.line_number(self.id, line_index)?;
-                    self.lines.insert(line_index, LineInfo { number, range });
+                    self.lines.insert(line_index, LineInfo::new(number, range));
                 }
                 Err(error) => {
                     self.end_context(line_index, error);
@@ -204,15 +239,18 @@ impl<FileId: Copy + PartialEq> LabeledFile<FileId> {
         &mut self,
         files: &'files (impl Files<'files, FileId = FileId> + ?Sized),
     ) -> Result<(), Error> {
-        let alone: Vec<usize> = (self.lines.keys())
-            .zip(self.lines.keys().skip(1))
-            .filter(|(line, next)| *next - *line == 2)
-            .map(|(line, _)| line + 1)
-            .collect();
+        let mut alone = Vec::new();
+        let mut previous = usize::MAX;
+        for &line_index in self.lines.keys() {
+            if previous.checked_add(2) == Some(line_index) {
+                alone.push(previous + 1);
+            }
+            previous = line_index;
+        }
         for line_index in alone {
             let number = files.line_number(self.id, line_index)?;
             let range = files.line_range(self.id, line_index)?;
-            self.lines.insert(line_index, LineInfo { number, range });
+            self.lines.insert(line_index, LineInfo::new(number, range));
         }
         match (self.end_of_context.take(), self.lines.keys().next_back()) {
             // A line that has no range is before one that has.
@@ -222,11 +260,7 @@ impl<FileId: Copy + PartialEq> LabeledFile<FileId> {
     }
 }
 
-/// Looks up the line of a byte.
-///
-/// # Panics
-///
-/// Where the line starts after the byte.
+/// Looks up the line of a byte. A byte before the line counts as its start.
 pub(super) fn line_at<'files, F: Files<'files> + ?Sized>(
     files: &'files F,
     id: F::FileId,
@@ -235,9 +269,6 @@ pub(super) fn line_at<'files, F: Files<'files> + ?Sized>(
     let line_index = files.line_index(id, byte)?;
     let number = files.line_number(id, line_index)?;
     let range = files.line_range(id, line_index)?;
-    assert!(
-        range.start <= byte,
-        "byte {byte} is before its line {line_index}, {range:?}"
-    );
-    Ok((Position { byte, line_index }, LineInfo { number, range }))
+    let byte = byte.max(range.start);
+    Ok((Position { byte, line_index }, LineInfo::new(number, range)))
 }

@@ -1,5 +1,6 @@
 //! What a rich output shows of files: the lookups, in the original's order. Each line that a label
-//! spans is looked up, those of context around labels, and a single line between two of these.
+//! spans is looked up, those of context around labels, and a single line between two that are
+//! shown. The archive is passed those that are shown.
 
 use alloc::vec::Vec;
 
@@ -9,6 +10,9 @@ use crate::native;
 use crate::term::excerpt::Excerpt;
 use crate::term::labeled_file::{line_at, LabeledFile, Position};
 use crate::term::Config;
+
+/// The bytes that a label is expected to add at most, besides its message and its lines.
+const LABEL: usize = 400;
 
 /// A label, with the positions of its start and its end.
 struct LabelSpan<'diagnostic> {
@@ -21,15 +25,16 @@ struct LabelSpan<'diagnostic> {
     end: Position,
 }
 
-impl LabelSpan<'_> {
+impl<'diagnostic> LabelSpan<'diagnostic> {
     /// Returns the label over the excerpt of its file.
-    fn native(&self, excerpt: &Excerpt<'_>) -> native::Label<'_> {
+    fn native(&self, excerpt: &mut Excerpt<'_>) -> native::Label<'diagnostic> {
         native::Label {
             style: native::label_style_number(self.style),
             file: self.file,
-            start: excerpt.byte(self.start),
+            start: excerpt.start_of_label(self.style, self.start),
             end: excerpt.byte(self.end),
             message: self.message.into(),
+            reserved: [0; 2],
         }
     }
 }
@@ -38,6 +43,8 @@ impl LabelSpan<'_> {
 pub(super) struct Snippets<'diagnostic, FileId> {
     /// The files, in the order of the first label of each.
     files: Vec<LabeledFile<FileId>>,
+    /// The ids of these files, beside one another for a fast search.
+    ids: Vec<FileId>,
     /// The labels, in the order of the diagnostic.
     labels: Vec<LabelSpan<'diagnostic>>,
 }
@@ -50,7 +57,8 @@ impl<'diagnostic, FileId: Copy + PartialEq> Snippets<'diagnostic, FileId> {
         files: &'files (impl Files<'files, FileId = FileId> + ?Sized),
     ) -> Result<Self, Error> {
         let mut snippets = Snippets {
-            files: Vec::new(),
+            files: Vec::with_capacity(1),
+            ids: Vec::with_capacity(1),
             labels: Vec::with_capacity(diagnostic.labels.len()),
         };
         for label in &diagnostic.labels {
@@ -67,15 +75,13 @@ impl<'diagnostic, FileId: Copy + PartialEq> Snippets<'diagnostic, FileId> {
     ) -> Result<(), Error> {
         let (start, start_line) = line_at(files, label.file_id, label.range.start)?;
         let (end, end_line) = line_at(files, label.file_id, label.range.end)?;
-        let index = self.file_of(label, start, files)?;
+        let index = self.file_of(label, files)?;
         let file = &mut self.files[index];
         file.add_lines_before(start.line_index, config.before_label_lines, files)?;
         file.add_lines_after(end.line_index, config.after_label_lines, files)?;
-        file.insert_line(start.line_index, start_line);
-        for line_index in start.line_index + 1..end.line_index {
-            file.add_line(line_index, files)?;
-        }
-        file.insert_line(end.line_index, end_line);
+        file.insert_line(start, start_line);
+        file.add_lines_between(start.line_index, end.line_index, config, files)?;
+        file.insert_line(end, end_line);
         self.labels.push(LabelSpan {
             style: label.style,
             message: &label.message,
@@ -91,56 +97,62 @@ impl<'diagnostic, FileId: Copy + PartialEq> Snippets<'diagnostic, FileId> {
     fn file_of<'files>(
         &mut self,
         label: &Label<FileId>,
-        start: Position,
         files: &'files (impl Files<'files, FileId = FileId> + ?Sized),
     ) -> Result<usize, Error> {
-        let known = self
-            .files
-            .iter()
-            .position(|file| file.id() == label.file_id);
+        let previous = self.labels.last().map(|previous| previous.file);
+        let known = match previous {
+            Some(index) if self.ids[index] == label.file_id => previous,
+            _ => index_of(&self.ids, label.file_id),
+        };
         if let Some(index) = known {
-            self.files[index].show_if_before(label, start, files)?;
+            self.files[index].show_if_before(label, files)?;
             return Ok(index);
         }
-        self.files.push(LabeledFile::look_up(label, start, files)?);
+        self.files.push(LabeledFile::look_up(label, files)?);
+        self.ids.push(label.file_id);
         Ok(self.files.len() - 1)
     }
 
     /// Looks up the sources, and the single lines between two shown ones, and passes all to
-    /// `render`.
-    pub(super) fn render<'files, F: Files<'files, FileId = FileId> + ?Sized>(
+    /// `render`, with a length that the snippets are expected not to exceed.
+    pub(super) fn render<'files, F: Files<'files, FileId = FileId> + ?Sized, R>(
         mut self,
         files: &'files F,
-        render: impl FnOnce(&[native::File<'_>], &[native::Label<'_>]) -> Vec<u8>,
-    ) -> Result<Vec<u8>, Error> {
+        render: impl FnOnce(&[native::File<'_>], &[native::Label<'_>], usize) -> R,
+    ) -> Result<R, Error> {
         let mut sources: Vec<F::Source> = Vec::with_capacity(self.files.len());
         for file in &mut self.files {
             sources.push(files.source(file.id())?);
             file.fill(files)?;
         }
-        let sourced = self.files.iter().zip(&sources).enumerate();
-        let excerpts: Vec<Excerpt<'_>> = sourced
-            .map(|(index, (file, source))| {
-                Excerpt::new(file.lines(), source.as_ref(), self.positions_in(index))
-            })
-            .collect::<Result<_, _>>()?;
-        let excerpted = self.files.iter().zip(&excerpts);
-        let locations: Vec<_> = excerpted
-            .map(|(file, excerpt)| file.native_location(excerpt))
-            .collect();
-        let parts = self.files.iter().zip(&excerpts).zip(&locations);
-        let native_files: Vec<_> = parts
-            .map(|((file, excerpt), location)| file.native(excerpt, location))
-            .collect();
+        let mut excerpts = Vec::with_capacity(self.files.len());
+        for (file, source) in self.files.iter().zip(&sources) {
+            excerpts.push(file.excerpt(source.as_ref())?);
+        }
+        // The archive finds the file of the label before at once. The order of two labels of
+        // different files changes nothing but the order of the files, which stays.
+        if self.files.len() > 1 {
+            self.labels.sort_by_key(|label| label.file);
+        }
         let labels: Vec<_> = (self.labels.iter())
-            .map(|label| label.native(&excerpts[label.file]))
+            .map(|label| label.native(&mut excerpts[label.file]))
             .collect();
-        Ok(render(&native_files, &labels))
+        let files = self.files.iter().zip(&excerpts);
+        let files: Vec<_> = files.map(|(file, excerpt)| file.native(excerpt)).collect();
+        let texts = excerpts.iter().map(|excerpt| excerpt.text().len());
+        let messages = self.labels.iter().map(|label| label.message.len());
+        let length = 2 * texts.sum::<usize>() + messages.sum::<usize>() + LABEL * labels.len();
+        Ok(render(&files, &labels, length))
     }
+}
 
-    /// Returns where the labels of a file start and end.
-    fn positions_in(&self, file: usize) -> impl Iterator<Item = Position> + Clone + '_ {
-        let labels = self.labels.iter().filter(move |label| label.file == file);
-        labels.flat_map(|label| [label.start, label.end])
-    }
+/// Returns the index of the first item that equals one. For numbers `contains` compares several at
+/// once.
+fn index_of<T: Copy + PartialEq>(items: &[T], item: T) -> Option<usize> {
+    const CHUNK: usize = 64;
+    let mut chunks = items.chunks(CHUNK);
+    let chunk = chunks.position(|chunk| chunk.contains(&item))?;
+    let (first, rest) = (CHUNK * chunk, &items[CHUNK * chunk..]);
+    let in_rest = rest.iter().position(|&other| other == item)?;
+    Some(first + in_rest)
 }

@@ -114,44 +114,67 @@ impl Styles {
     /// Returns styles in which all parts are plain text.
     #[must_use]
     pub fn no_color() -> Styles {
-        Styles::new(&ColorSpec::new(), |_| None)
+        Styles::new(|_| ColorSpec::new(), |_| ColorSpec::new())
     }
 
-    /// Returns the styles whose headers are in `header`, each part in what `fg` makes of the color
-    /// that it has by default.
-    fn new(header: &ColorSpec, fg: impl Fn(Color) -> Option<Color>) -> Styles {
-        let colored = |spec: &ColorSpec, color| {
-            let mut spec = spec.clone();
-            spec.set_fg(fg(color));
-            spec
-        };
-        let plain = ColorSpec::new();
+    /// Returns the styles whose headers have the style that `header` returns of their default
+    /// color, and the other parts that of `part`.
+    fn new(
+        header: impl Fn(Option<Color>) -> ColorSpec,
+        part: impl Fn(Color) -> ColorSpec,
+    ) -> Styles {
+        use Severity::{Bug, Error, Help, Note, Warning};
         Styles {
-            header_bug: colored(header, Color::Red),
-            header_error: colored(header, Color::Red),
-            header_warning: colored(header, Color::Yellow),
-            header_note: colored(header, Color::Green),
-            header_help: colored(header, Color::Cyan),
-            header_message: header.clone(),
-            primary_label_bug: colored(&plain, Color::Red),
-            primary_label_error: colored(&plain, Color::Red),
-            primary_label_warning: colored(&plain, Color::Yellow),
-            primary_label_note: colored(&plain, Color::Green),
-            primary_label_help: colored(&plain, Color::Cyan),
-            secondary_label: colored(&plain, Color::Cyan),
-            line_number: colored(&plain, Color::Cyan),
-            source_border: colored(&plain, Color::Cyan),
-            note_bullet: colored(&plain, Color::Cyan),
+            header_bug: header(Some(color(Bug))),
+            header_error: header(Some(color(Error))),
+            header_warning: header(Some(color(Warning))),
+            header_note: header(Some(color(Note))),
+            header_help: header(Some(color(Help))),
+            header_message: header(None),
+            primary_label_bug: part(color(Bug)),
+            primary_label_error: part(color(Error)),
+            primary_label_warning: part(color(Warning)),
+            primary_label_note: part(color(Note)),
+            primary_label_help: part(color(Help)),
+            secondary_label: part(OTHER),
+            line_number: part(OTHER),
+            source_border: part(OTHER),
+            note_bullet: part(OTHER),
         }
     }
 }
 
 impl Default for Styles {
     fn default() -> Styles {
-        let mut header = ColorSpec::new();
-        header.set_bold(true).set_intense(true);
-        Styles::new(&header, Some)
+        Styles::new(header, part)
     }
+}
+
+/// Returns the default color of a severity.
+fn color(severity: Severity) -> Color {
+    match severity {
+        Severity::Bug | Severity::Error => Color::Red,
+        Severity::Warning => Color::Yellow,
+        Severity::Note => Color::Green,
+        Severity::Help => Color::Cyan,
+    }
+}
+
+/// The default color of the parts that have none of a severity.
+const OTHER: Color = Color::Cyan;
+
+/// Returns the default style of a part of a header.
+fn header(color: Option<Color>) -> ColorSpec {
+    let mut spec = ColorSpec::new();
+    spec.set_fg(color).set_bold(true).set_intense(true);
+    spec
+}
+
+/// Returns the default style of another part.
+fn part(color: Color) -> ColorSpec {
+    let mut spec = ColorSpec::new();
+    spec.set_fg(Some(color));
+    spec
 }
 
 /// A writer of styles over a termcolor writer, in custom styles.
@@ -229,29 +252,33 @@ impl<W: WriteColor> WriteStyle for StylesWriter<'_, W> {
     }
 }
 
+// The default styles are made one by one, not all of `Styles::default()` at each call.
 impl<T: WriteColor + ?Sized> WriteStyle for T {
     fn set_header(&mut self, severity: Severity) -> io::Result<()> {
-        self.set_color(Styles::default().header(severity))
+        self.set_color(&header(Some(color(severity))))
     }
 
     fn set_header_message(&mut self) -> io::Result<()> {
-        self.set_color(Styles::default().header_message())
+        self.set_color(&header(None))
     }
 
     fn set_line_number(&mut self) -> io::Result<()> {
-        self.set_color(Styles::default().line_number())
+        self.set_color(&part(OTHER))
     }
 
     fn set_note_bullet(&mut self) -> io::Result<()> {
-        self.set_color(Styles::default().note_bullet())
+        self.set_color(&part(OTHER))
     }
 
     fn set_source_border(&mut self) -> io::Result<()> {
-        self.set_color(Styles::default().source_border())
+        self.set_color(&part(OTHER))
     }
 
     fn set_label(&mut self, severity: Severity, label_style: LabelStyle) -> io::Result<()> {
-        self.set_color(Styles::default().label(severity, label_style))
+        self.set_color(&part(match label_style {
+            LabelStyle::Primary => color(severity),
+            LabelStyle::Secondary => OTHER,
+        }))
     }
 
     fn reset(&mut self) -> io::Result<()> {

@@ -1,29 +1,22 @@
 //! The views: what each display style renders of a diagnostic.
 
 use alloc::string::{String, ToString};
+use alloc::vec;
 use alloc::vec::Vec;
-use core::slice;
+use core::{iter, slice};
 
-use crate::diagnostic::{Diagnostic, LabelStyle};
+use crate::diagnostic::{Diagnostic, Label, LabelStyle};
 use crate::files::{Error, Files};
-use crate::native::{self, replay, Request, Slice, Spelling};
-use crate::term::renderer::Renderer;
+use crate::native::{self, replay, Output, Request, Slice, Spelling};
+use crate::term::renderer::{GeneralWriteResult, Renderer};
 use crate::term::snippets::Snippets;
 use crate::term::{Config, DisplayStyle};
 
-/// What was rendered: bytes to be written, and then the error with which rendering ended.
-pub(super) struct Output {
-    pub(super) bytes: Vec<u8>,
-    pub(super) result: Result<(), Error>,
-}
+/// The bytes that a header in short style is expected to have at most, besides its message.
+const HEADER: usize = 150;
 
-impl Output {
-    /// Writes the bytes, which have style marks.
-    fn write(self, renderer: &mut Renderer<'_, '_>) -> Result<(), Error> {
-        replay(&self.bytes, renderer)?;
-        self.result
-    }
-}
+/// What reads an output.
+pub(super) type Read<'a> = &'a mut dyn FnMut(Output<'_>) -> GeneralWriteResult;
 
 /// The view of [`DisplayStyle::Rich`].
 pub struct RichDiagnostic<'diagnostic, 'config, FileId> {
@@ -49,11 +42,6 @@ where
     /// # Errors
     ///
     /// The error of the first lookup that fails, before anything is written; or that of the writer.
-    ///
-    /// # Panics
-    ///
-    /// Where the lines of a file overlap or do not ascend, or `line_index` returns a line that
-    /// starts after the byte.
     pub fn render<'files>(
         &self,
         files: &'files (impl Files<'files, FileId = FileId> + ?Sized),
@@ -62,21 +50,25 @@ where
     where
         FileId: 'files,
     {
-        self.output(files, renderer.config(), Spelling::StyleMarks)
-            .write(renderer)
+        let characters = renderer.config();
+        self.output(files, characters, Spelling::StyleMarks, &mut |output| {
+            replay(output.bytes(), renderer)
+        })
     }
 
-    /// Renders with the characters and the tab width of a configuration.
+    /// Renders with the characters and the tab width of a configuration, and passes the output to
+    /// `read`.
     pub(super) fn output<'files>(
         &self,
         files: &'files (impl Files<'files, FileId = FileId> + ?Sized),
         characters: &Config,
         spelling: Spelling,
-    ) -> Output
+        read: Read<'_>,
+    ) -> Result<(), Error>
     where
         FileId: 'files,
     {
-        let render = |files: &[native::File<'_>], labels: &[native::Label<'_>]| {
+        let render = |files: &[native::File<'_>], labels: &[native::Label<'_>], length: usize| {
             Request {
                 display_style: &DisplayStyle::Rich,
                 spelling,
@@ -88,20 +80,15 @@ where
                 notes: &self.diagnostic.notes,
                 files,
                 labels,
+                expected_length: length,
             }
-            .render()
+            .render(read)
         };
-        let snippets = Snippets::look_up(self.diagnostic, self.config, files);
-        match snippets.and_then(|snippets| snippets.render(files, render)) {
-            Ok(bytes) => Output {
-                bytes,
-                result: Ok(()),
-            },
-            Err(error) => Output {
-                bytes: Vec::new(),
-                result: Err(error),
-            },
+        if self.diagnostic.labels.is_empty() {
+            return Ok(render(&[], &[], 0)?);
         }
+        let snippets = Snippets::look_up(self.diagnostic, self.config, files)?;
+        Ok(snippets.render(files, render)??)
     }
 }
 
@@ -142,51 +129,58 @@ where
     where
         FileId: 'files,
     {
-        self.output(files, renderer.config(), Spelling::StyleMarks)
-            .write(renderer)
+        let characters = renderer.config();
+        self.output(files, characters, Spelling::StyleMarks, &mut |output| {
+            replay(output.bytes(), renderer)
+        })
     }
 
-    /// Renders with the characters of a configuration.
+    /// Renders with the characters of a configuration, and passes the output to `read`. Where a
+    /// lookup fails it is the headers before.
     pub(super) fn output<'files>(
         &self,
         files: &'files (impl Files<'files, FileId = FileId> + ?Sized),
         characters: &Config,
         spelling: Spelling,
-    ) -> Output
+        read: Read<'_>,
+    ) -> Result<(), Error>
     where
         FileId: 'files,
     {
-        let (headers, result) = self.headers(files);
-        if headers.is_empty() && result.is_err() {
-            return Output {
-                bytes: Vec::new(),
-                result,
-            };
-        }
+        let labels = self.diagnostic.labels.iter();
+        let mut primary = labels.filter(|label| label.style == LabelStyle::Primary);
+        let request = self.request(self.show_notes, characters, spelling);
+        let Some(first) = primary.next() else {
+            return Ok(request.render(read)?);
+        };
+        let header = Header::look_up(files, first)?;
+        let Some(second) = primary.next() else {
+            // No vector is needed for one header.
+            let (files, labels) = ([header.file()], [label_at_start(0)]);
+            return Ok(request.with_headers(&files, &labels).render(read)?);
+        };
+        let (headers, result) = headers(files, header, iter::once(second).chain(primary));
         let show_notes = self.show_notes && result.is_ok();
-        Output {
-            bytes: self.render_headers(&headers, show_notes, characters, spelling),
-            result,
-        }
+        let files: Vec<_> = headers.iter().map(Header::file).collect();
+        let labels: Vec<_> = (0..headers.len()).map(label_at_start).collect();
+        self.request(show_notes, characters, spelling)
+            .with_headers(&files, &labels)
+            .render(read)?;
+        result
     }
 
-    /// Renders headers, and then the notes if they are shown.
-    fn render_headers(
-        &self,
-        headers: &[Header],
+    /// Returns what is rendered without a primary label.
+    fn request<'a>(
+        &'a self,
         show_notes: bool,
-        characters: &Config,
+        characters: &'a Config,
         spelling: Spelling,
-    ) -> Vec<u8> {
+    ) -> Request<'a> {
         let (display_style, notes): (_, &[String]) = if show_notes {
             (&DisplayStyle::Medium, &self.diagnostic.notes)
         } else {
             (&DisplayStyle::Short, &[])
         };
-        // A header shows the name and the location of its label alone, so each has a file of its
-        // own, without a text.
-        let files: Vec<_> = headers.iter().map(Header::file).collect();
-        let labels: Vec<_> = (0..headers.len()).map(label_at_start).collect();
         Request {
             display_style,
             spelling,
@@ -196,27 +190,42 @@ where
             code: self.diagnostic.code.as_deref().unwrap_or_default(),
             message: &self.diagnostic.message,
             notes,
-            files: &files,
-            labels: &labels,
+            files: &[],
+            labels: &[],
+            expected_length: 0,
         }
-        .render()
     }
+}
 
-    /// Looks up what each header shows, up to the first lookup that fails.
-    fn headers<'files>(
-        &self,
-        files: &'files (impl Files<'files, FileId = FileId> + ?Sized),
-    ) -> (Vec<Header>, Result<(), Error>) {
-        let mut headers = Vec::new();
-        let labels = self.diagnostic.labels.iter();
-        for label in labels.filter(|label| label.style == LabelStyle::Primary) {
-            match Header::look_up(files, label.file_id, label.range.start) {
-                Ok(header) => headers.push(header),
-                Err(error) => return (headers, Err(error)),
-            }
+impl<'a> Request<'a> {
+    /// Returns what is rendered with these headers, each with a file and a label.
+    fn with_headers(self, files: &'a [native::File<'a>], labels: &'a [native::Label<'a>]) -> Self {
+        Request {
+            files,
+            labels,
+            expected_length: labels.len() * (HEADER + self.message.len()),
+            ..self
         }
-        (headers, Ok(()))
     }
+}
+
+/// Looks up what more headers show, up to the first lookup that fails.
+fn headers<'files, 'a, F: Files<'files> + ?Sized>(
+    files: &'files F,
+    first: Header,
+    labels: impl Iterator<Item = &'a Label<F::FileId>>,
+) -> (Vec<Header>, Result<(), Error>)
+where
+    'files: 'a,
+{
+    let mut headers = vec![first];
+    for label in labels {
+        match Header::look_up(files, label) {
+            Ok(header) => headers.push(header),
+            Err(error) => return (headers, Err(error)),
+        }
+    }
+    (headers, Ok(()))
 }
 
 /// What a header shows of its label: the file's name and a location.
@@ -228,11 +237,10 @@ struct Header {
 impl Header {
     fn look_up<'files, F: Files<'files> + ?Sized>(
         files: &'files F,
-        id: F::FileId,
-        byte: usize,
+        label: &Label<F::FileId>,
     ) -> Result<Header, Error> {
-        let name = files.name(id)?.to_string();
-        let location = files.location(id, byte)?;
+        let name = files.name(label.file_id)?.to_string();
+        let location = files.location(label.file_id, label.range.start)?;
         Ok(Header {
             name,
             location: native::Location {
@@ -243,7 +251,8 @@ impl Header {
         })
     }
 
-    /// Returns a file without a text, whose start has the location.
+    /// Returns a file without a text, whose start has the location. A header shows nothing else of
+    /// its label.
     fn file(&self) -> native::File<'_> {
         native::File {
             name: self.name.as_str().into(),
@@ -252,6 +261,7 @@ impl Header {
             first_line: 0,
             lines: Slice::new(&[]),
             locations: Slice::new(slice::from_ref(&self.location)),
+            reserved: [0; 2],
         }
     }
 }
@@ -264,5 +274,6 @@ fn label_at_start(file: usize) -> native::Label<'static> {
         start: 0,
         end: 0,
         message: "".into(),
+        reserved: [0; 2],
     }
 }

@@ -69,6 +69,9 @@ pub const ALL: &[Configuration] = &[
     RICH_ASCII,
 ];
 
+/// The rich style without color.
+pub const RICH_ALONE: &[Configuration] = &[RICH];
+
 /// Each style without color.
 pub const PLAIN: &[Configuration] = &[RICH, MEDIUM, SHORT];
 

@@ -2,7 +2,8 @@
 //! compiled with this module: this one by `tests/original.rs`, and the original by `compare`.
 //!
 //! The groups have the names and the structure of those in the original's test: severities, codes,
-//! ranges and styles of labels, lengths of lines, numbers of notes. Their texts are other ones.
+//! ranges and styles of labels, lengths of lines, numbers of notes. Their texts are other ones. The
+//! groups of `lines` are not in the original's test.
 
 use codespan_reporting::diagnostic::Diagnostic;
 use codespan_reporting::files::Files;
@@ -10,6 +11,7 @@ use codespan_reporting::term::{emit_to_string, Config};
 
 mod characters;
 mod configurations;
+mod lines;
 mod messages;
 mod multi_line;
 mod one_line;
@@ -17,7 +19,7 @@ mod overlapping;
 
 use configurations::{
     Configuration, ALL, CONTEXT_AROUND, CONTEXT_WITHIN, MORE_TAB_WIDTHS, PLAIN, PLAIN_AND_ASCII,
-    RICH_AND_SHORT, TAB_WIDTHS,
+    RICH_ALONE, RICH_AND_SHORT, TAB_WIDTHS,
 };
 
 /// Files and diagnostics over them.
@@ -113,5 +115,10 @@ fn groups() -> Vec<Group> {
         ("position_indicator", PLAIN_AND_ASCII, Box::new(one_line::position_indicator())),
         ("multiline_omit", CONTEXT_WITHIN, Box::new(multi_line::multiline_omit())),
         ("surrounding_lines", CONTEXT_AROUND, Box::new(multi_line::surrounding_lines())),
+        ("empty_line_at_next_start", RICH_ALONE, Box::new(lines::empty_line_at_next_start())),
+        ("overlapping_lines", RICH_ALONE, Box::new(lines::overlapping_lines())),
+        ("descending_lines", RICH_ALONE, Box::new(lines::descending_lines())),
+        ("hidden_lines_outside", CONTEXT_WITHIN, Box::new(lines::hidden_lines_outside())),
+        ("numbers_of_hidden_lines", CONTEXT_WITHIN, Box::new(lines::numbers_of_hidden_lines())),
     ]
 }

@@ -20,7 +20,7 @@ returns-clause-value c =
     result_is _ c.convert_config-settings.result.config
     (native_file_views c.in_ok-database.database)
     c.in_ok-diagnostic.diagnostic c.args.files.now c.args.diagnostic.now c.args.config.now
-    c.render.result c.render.ensures c.convert_config-settings.ensures.spelling
+    c.render.result c.render.ensures c.convert_config-settings.ensures.form
     c.convert_config-settings.ensures.config c.in_ok-database.ensures c.in_ok-diagnostic.ensures
 
 pub returns-clause-means : goal.returns-clause-means

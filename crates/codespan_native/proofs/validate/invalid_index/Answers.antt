@@ -1,7 +1,8 @@
 use Rattle.codespan_native.proofs.FirstInvalid.{by_index}
 use Rattle.codespan_native.specs.Validity.{HasValidStyle, HasValidMessage, HasValidName}
 use Rattle.codespan_native.specs.Validity.{HasValidSource, HasValidLines, HasValidLocations}
-use Rattle.codespan_native.specs.Validity.{HasValidFile, IsValidText}
+use Rattle.codespan_native.specs.Validity.{HasValidFile, HasZeroReserved, HasZeroWords}
+use Rattle.codespan_native.specs.Validity.{IsValidText}
 use Rattle.codespan_native.proofs.validate.invalid_index.Goals as goal
 
 pub returns-in-Character : goal.returns-in-Character
@@ -23,6 +24,10 @@ pub returns-in-FileLocations : goal.returns-in-FileLocations
 returns-in-FileLocations c =
     rw c.in-FileLocations.is (by_index HasValidLocations _ _ c.locations_index.ensures)
 
+pub returns-in-FileReserved : goal.returns-in-FileReserved
+returns-in-FileReserved c =
+    rw c.in-FileReserved.is (by_index HasZeroReserved _ _ c.file_reserved_index.ensures)
+
 pub returns-in-LabelStyle : goal.returns-in-LabelStyle
 returns-in-LabelStyle c =
     rw c.in-LabelStyle.is (by_index HasValidStyle _ _ c.label_style_index.ensures)
@@ -34,6 +39,10 @@ returns-in-LabelMessage c =
 pub returns-in-LabelFile : goal.returns-in-LabelFile
 returns-in-LabelFile c =
     rw c.in-LabelFile.is (by_index (HasValidFile _) _ _ c.label_file_index.ensures)
+
+pub returns-in-LabelReserved : goal.returns-in-LabelReserved
+returns-in-LabelReserved c =
+    rw c.in-LabelReserved.is (by_index HasZeroWords _ _ c.label_reserved_index.ensures)
 
 pub returns-in-Note : goal.returns-in-Note
 returns-in-Note c = rw c.in-Note.is (by_index IsValidText _ _ c.note_index.ensures)

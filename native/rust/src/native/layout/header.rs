@@ -41,8 +41,10 @@ impl CLayout {
             .filter(|field| !field.is_empty())
         {
             let (kind, names) = field.rsplit_once(' ').expect(field);
-            let kind = CLayout::of_type(kind, names.starts_with('*'));
-            layout.push(names.trim_start_matches('*'), &kind);
+            let (name, count) = names.split_once('[').unwrap_or((names, "1]"));
+            let count = count.trim_end_matches(']').parse().expect(field);
+            let kind = CLayout::of_type(kind, name.starts_with('*')).of_array(count);
+            layout.push(name.trim_start_matches('*'), &kind);
         }
         layout.size = layout.size.next_multiple_of(layout.align);
         layout
@@ -55,6 +57,11 @@ impl CLayout {
             "uint32_t" => CLayout::of_scalar(4),
             name => CLayout::of_struct(name),
         }
+    }
+
+    fn of_array(mut self, count: usize) -> CLayout {
+        self.size *= count;
+        self
     }
 
     fn push(&mut self, name: &str, field: &CLayout) {
@@ -87,9 +94,9 @@ fn structs_are_those_of_the_header() {
     assert_layout!("codespan_text", Text<'_>, length);
     assert_layout!("codespan_line", Line, start end number);
     assert_layout!("codespan_location", Location, byte line_number column_number);
-    assert_layout!("codespan_file", File<'_>, name source first_byte first_line lines locations);
-    assert_layout!("codespan_label", Label<'_>, style file start end message);
-    assert_layout!("codespan_diagnostic", Diagnostic<'_>, severity code message labels notes);
+    assert_layout!("codespan_file", File<'_>, name source first_byte first_line lines locations reserved);
+    assert_layout!("codespan_label", Label<'_>, style file start end message reserved);
+    assert_layout!("codespan_diagnostic", Diagnostic<'_>, severity code message labels notes reserved);
     assert_layout!("codespan_color_spec", ColorSpec, fg bg bold intense);
     assert_eq!(
         CLayout::of_struct("codespan_styles").size,
@@ -106,8 +113,8 @@ fn structs_are_those_of_the_header() {
     );
     assert_layout!(
         "codespan_config", Config<'_>,
-        abi display_style layout spelling characters tab_width
-        start_context_lines end_context_lines before_label_lines after_label_lines chars styles
+        abi display_style layout form color_mode characters tab_width
+        start_context_lines end_context_lines before_label_lines after_label_lines chars styles reserved
     );
 }
 
@@ -127,9 +134,19 @@ fn numbers_are_those_of_the_header() {
     assert_eq!(OUT_OF_MEMORY, constant("OUT_OF_MEMORY"));
     assert_eq!(FILE_LINES, constant("ARGUMENT_FILE_LINES"));
     assert_eq!(CLASSIC, constant("CLASSIC"));
+    assert_eq!(COLORS_OFF, constant("COLORS_OFF"));
     assert_eq!(CUSTOM_CHARS, constant("CUSTOM_CHARS"));
-    assert_eq!(Spelling::Plain as u32, constant("PLAIN"));
-    assert_eq!(Spelling::StyleMarks as u32, constant("STYLE_MARKS"));
+    assert_eq!(DEFAULT_STYLES, constant("DEFAULT_STYLES"));
+    for (spelling, name) in [
+        (Spelling::Safe, "TERMINAL"),
+        (Spelling::SafeInColor, "TERMINAL"),
+        (Spelling::Plain, "TEXT"),
+        (Spelling::StyleMarks, "STYLE_MARKS"),
+        (Spelling::Html, "HTML"),
+        (Spelling::Svg, "SVG"),
+    ] {
+        assert_eq!(spelling.form(), constant(name), "{name}");
+    }
     for (style, name) in [
         (DisplayStyle::Rich, "RICH"),
         (DisplayStyle::Medium, "MEDIUM"),

@@ -6,7 +6,7 @@ use Rattle.codespan_base.specs.StyleSpellings.{ansi_spelling}
 use Rattle.codespan_native.proofs.Rendered.{fresh_known, text_after}
 use Rattle.codespan_native.specs.SourceModel.{native_file_views}
 use Rattle.codespan_native.specs.RenderedStreams.{stream_of_output}
-use Rattle.codespan_native.proofs.render.render_ansi.Goals as goal
+use Rattle.codespan_native.proofs.render.marked.render_ansi.Goals as goal
 
 pub returns : goal.returns
 returns c =
@@ -20,6 +20,8 @@ returns c =
       value = ap (λ (v : Vec ℕ Global). v.items) c.into_inner-2.ensures
           ∙ ap (λ (a : Ansi (Vec ℕ Global)). (ansi_inner a).items) c.into_inner.ensures
           ∙ text_after spelling _ _ stream first _ begins written refl
-          ∙ ap (λ (v : Vec ℕ Global). v.items ++ spelled spelling stream) c.new.ensures;
+          ∙ ap (λ (v : Vec ℕ Global). v.items ++ spelled spelling stream) c.new.ensures
+          ∙ ap (λ (front : List ℕ). front ++ spelled spelling stream)
+          c.in_ok-buffer.ensures.items;
       is_output = c.in_ok-write_to.ensures.is_output;
     }

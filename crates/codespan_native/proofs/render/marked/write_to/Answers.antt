@@ -1,6 +1,6 @@
 use Rattle.codespan_native.proofs.Rendered.{stream_is_output, written_stream}
 use Rattle.codespan_native.specs.SourceModel.{native_file_views}
-use Rattle.codespan_native.proofs.render.write_to.Goals as goal
+use Rattle.codespan_native.proofs.render.marked.write_to.Goals as goal
 
 pub returns-in-Ok-clause-is_output : goal.returns-in-Ok-clause-is_output
 returns-in-Ok-clause-is_output g c =

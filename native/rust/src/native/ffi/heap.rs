@@ -1,0 +1,103 @@
+//! The heap that the archive allocates from: an arena on the stack of a call, and `malloc` where
+//! the arena has no room. Without `std` there are no thread-local variables, and so no arena.
+
+use core::ptr;
+
+#[cfg(feature = "std")]
+mod arena;
+
+#[cfg(feature = "std")]
+pub(super) use arena::with_arena;
+
+/// Makes a call of the archive.
+#[cfg(not(feature = "std"))]
+pub(super) fn with_arena<R>(call: impl FnOnce() -> R) -> R {
+    call()
+}
+
+// The archive refers to these three by name. Hidden, they are no names of a shared object that is
+// made with this crate inside.
+core::arch::global_asm!(
+    ".hidden rattle_alloc",
+    ".hidden rattle_realloc",
+    ".hidden rattle_dealloc",
+);
+
+/// What an allocation returns: whether it succeeded, and a pointer that is never null.
+#[repr(C)]
+pub struct Allocation {
+    ok: bool,
+    memory: *mut u8,
+}
+
+extern "C" {
+    fn malloc(size: usize) -> *mut u8;
+    fn realloc(memory: *mut u8, size: usize) -> *mut u8;
+    fn free(memory: *mut u8);
+}
+
+fn allocation(memory: *mut u8) -> Allocation {
+    Allocation {
+        ok: !memory.is_null(),
+        memory: if memory.is_null() {
+            ptr::NonNull::dangling().as_ptr()
+        } else {
+            memory
+        },
+    }
+}
+
+/// Allocates memory for the archive.
+///
+/// # Safety
+///
+/// Only the archive calls it. No type of the archive is aligned to more than `malloc` aligns to.
+#[no_mangle]
+unsafe extern "C" fn rattle_alloc(size: usize, _align: usize) -> Allocation {
+    #[cfg(feature = "std")]
+    if let Some(memory) = arena::allocate(size) {
+        return allocation(memory);
+    }
+    allocation(malloc(size.max(1)))
+}
+
+/// Changes the size of memory of the archive, whose first `kept` bytes stay.
+///
+/// # Safety
+///
+/// Only the archive calls it, with memory of these functions.
+#[no_mangle]
+unsafe extern "C" fn rattle_realloc(
+    memory: *mut u8,
+    kept: usize,
+    size: usize,
+    align: usize,
+) -> Allocation {
+    #[cfg(feature = "std")]
+    if arena::has(memory) {
+        if arena::resize(memory, size) {
+            return allocation(memory);
+        }
+        let moved = rattle_alloc(size, align);
+        if moved.ok {
+            ptr::copy_nonoverlapping(memory, moved.memory, kept.min(size));
+        }
+        return moved;
+    }
+    let (_, _) = (kept, align);
+    allocation(realloc(memory, size.max(1)))
+}
+
+/// Frees memory of the archive.
+///
+/// # Safety
+///
+/// Only the archive calls it, with memory of these functions, once.
+#[no_mangle]
+unsafe extern "C" fn rattle_dealloc(memory: *mut u8) {
+    #[cfg(feature = "std")]
+    if arena::has(memory) {
+        return arena::free(memory);
+    }
+    free(memory);
+}
