@@ -17,10 +17,10 @@ def request(times, case):
     return b''.join([*parts, b'%d\n' % len(notes), *map(text, notes)])
 
 
-def edits(times, count, size):
-    """The input of `edit_cases`: so many edits, the same distance apart, of a source of lines of 38 bytes; each replaces five bytes by seven."""
+def edits(word, times, count, size):
+    """The input of `edit_cases` after this word: so many edits, the same distance apart, of a source of lines of 38 bytes; each replaces five bytes by seven."""
     source, step = ('x' * 37 + '\n') * (size // 38), size // count
-    head = ' '.join([str(times)] + ['%d %d 7' % (at * step + 4, at * step + 9) for at in range(count)])
+    head = ' '.join([word, str(times)] + ['%d %d 7' % (at * step + 4, at * step + 9) for at in range(count)])
     return ('%s\n%s%s' % (head, 'here it' * count, source)).encode()
 
 

@@ -66,6 +66,7 @@ def figures_of_outputs(files):
         (TESTING, 'documents in docs/pictures', r'`docs/pictures` \| (\d+) documents', files.count_files(r'docs/pictures/.*\.svg')),
         (TESTING, 'worked outputs of writer_runs', r'\| (\d+) worked outputs, in three', outputs),
         (TESTING, 'rows of writer_runs', r'styles each, and (\d+) rows', count('^row ', 'crates/writer_runs/stdout')),
+        (TESTING, 'suggestions of writer_runs', r'writer; (\d+) suggestions', count('^suggestion ', 'crates/writer_runs/stdout')),
         (TESTING, 'worked outputs of writer_runs', r'texts of (\d+) worked outputs', outputs),
         (TESTING, 'subjects of alloc_failures', r'\| (\d+) subjects', count('^.', 'crates/alloc_failures/stdout')),
         *((page, 'cases of the gallery', r'\d+ of (\d+) cases', cases) for page in (README, CONTRACTS)),

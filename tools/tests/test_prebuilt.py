@@ -9,11 +9,12 @@ from unittest import mock
 from tree import TreeCase
 
 FOLDER = 'native/prebuilt/x86_64-linux'
-ARCHIVE, REPORT = 'crates/codespan_c/out/libcodespan_c.a', 'crates/report/out/report'
+ARCHIVE, REPORT, SAFE = 'crates/codespan_c/out/libcodespan_c.a', 'crates/report/out/report', 'crates/safe_text/out/safe_text'
 LOW = 'crates/low/src/lib.rt'
 SAME = '''\
 prebuilt: libcodespan_c.a has the bytes that are built here, 1.2.3
 prebuilt: bin/report has the bytes that are built here, 1.2.3
+prebuilt: bin/safe_text has the bytes that are built here, 1.2.3
 '''
 
 
@@ -21,14 +22,16 @@ class Prebuilt(TreeCase):
     TOOLS = ('prebuilt',)
     FILES = {
         'VERSION': '1.2.3\n',
-        'crates.txt': '# crates\nlow:\nother: low\ncodespan_c staticlib: low std\nreport: low\n',
+        'crates.txt': '# crates\nlow:\nother: low\ncodespan_c staticlib: low std\nreport: low\nsafe_text: low\n',
         LOW: 'fn low() {}\n',
         'crates/low/specs/Low.antt': 'low = 1\n',
         'crates/other/src/lib.rt': 'fn other() {}\n',
         'crates/codespan_c/src/lib.rt': 'fn exports() {}\n',
         'crates/report/src/main.rt': 'fn main() {}\n',
+        'crates/safe_text/src/main.rt': 'fn main() {}\n',
         ARCHIVE: 'an archive\n',
         REPORT: 'a program\n',
+        SAFE: 'a filter\n',
         'bin/rt': '#!/bin/sh\necho kit 1 of 2\n',
     }
 
@@ -67,24 +70,27 @@ class Prebuilt(TreeCase):
             'version 1.2.3',
             'kit kit 1 of 2',
             f'file {digest(REPORT)} bin/report',
+            f'file {digest(SAFE)} bin/safe_text',
             f'file {digest(ARCHIVE)} libcodespan_c.a',
-            *(f'source {digest(it)} {it}' for it in ('crates/codespan_c/src/lib.rt', LOW, 'crates/report/src/main.rt')),
+            *(f'source {digest(it)} {it}' for it in ('crates/codespan_c/src/lib.rt', LOW, 'crates/report/src/main.rt', 'crates/safe_text/src/main.rt')),
         ])
 
     def test_other_bytes_of_the_same_sources(self):
         self.put(ARCHIVE, 'another archive\n')
-        self.assert_checks(SAME.splitlines(True)[1], f'prebuilt: libcodespan_c.a has other bytes than {ARCHIVE}, and the same sources\n')
+        self.assert_checks(''.join(SAME.splitlines(True)[1:]), f'prebuilt: libcodespan_c.a has other bytes than {ARCHIVE}, and the same sources\n')
 
     def test_changed_source(self):
         self.put(LOW, 'fn low() { }\n')
         self.put(ARCHIVE, 'another archive\n')
         self.put('VERSION', '1.2.4\n')
         self.assert_checks('prebuilt: the prebuilt libcodespan_c.a is of version 1.2.3: 1 of its sources have changed\n'
-                           'prebuilt: the prebuilt bin/report is of version 1.2.3: 1 of its sources have changed\n')
+                           'prebuilt: the prebuilt bin/report is of version 1.2.3: 1 of its sources have changed\n'
+                           'prebuilt: the prebuilt bin/safe_text is of version 1.2.3: 1 of its sources have changed\n')
 
     def test_added_source_of_one_file(self):
         self.put('crates/report/src/run.rt', 'fn run() {}\n')
-        self.assert_checks(SAME.splitlines(True)[0] + 'prebuilt: the prebuilt bin/report is of version 1.2.3: 1 of its sources have changed\n')
+        archive, _, safe = SAME.splitlines(True)
+        self.assert_checks(archive + 'prebuilt: the prebuilt bin/report is of version 1.2.3: 1 of its sources have changed\n' + safe)
 
     def test_removed_source(self):
         (self.top / LOW).unlink()
@@ -99,11 +105,12 @@ class Prebuilt(TreeCase):
         self.change('bin/rt', '1 of 2', '2 of 2')
         self.put(ARCHIVE, 'another archive\n')
         self.assert_checks('prebuilt: the prebuilt libcodespan_c.a is of version 1.2.3: the kit is another one\n'
-                           'prebuilt: the prebuilt bin/report is of version 1.2.3: the kit is another one\n')
+                           'prebuilt: the prebuilt bin/report is of version 1.2.3: the kit is another one\n'
+                           'prebuilt: the prebuilt bin/safe_text is of version 1.2.3: the kit is another one\n')
 
     def test_nothing_built(self):
         (self.top / ARCHIVE).unlink()
-        self.assert_checks(SAME.splitlines(True)[1], f'prebuilt: {ARCHIVE} is not built\n')
+        self.assert_checks(''.join(SAME.splitlines(True)[1:]), f'prebuilt: {ARCHIVE} is not built\n')
         self.assertEqual(self.run_tool('check', '--files'), (0, '', ''))
 
     def test_a_file_that_is_not_that_of_the_manifest(self):

@@ -22,12 +22,14 @@ mod copying;
 mod databases;
 mod diagnostics;
 mod documents;
+mod edits;
 mod native;
 mod outcome;
 mod recording;
 mod rendering;
 mod run;
 mod subject;
+mod suggestions;
 mod without_alloc;
 mod worked_outputs;
 

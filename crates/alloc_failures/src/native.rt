@@ -23,6 +23,7 @@ static FILES: [RawFile<'static>; 1] = [RawFile {
     first_line: 0,
     lines: &[],
     locations: &[],
+    reserved: [0; 2],
 }];
 
 /// The diagnostic.
@@ -36,16 +37,19 @@ static DIAGNOSTIC: RawDiagnostic<'static> = RawDiagnostic {
         start: 0,
         end: 3,
         message: b"here",
+        reserved: [0; 2],
     }],
     notes: &[RawText { bytes: b"a note" }],
+    reserved: [0; 4],
 };
 
 /// The default configuration, in ASCII and without colors.
 static CONFIG: RawConfig<'static> = RawConfig {
-    abi: 1,
+    abi: 2,
     display_style: 0,
     layout: 0,
-    spelling: 0,
+    form: 1,
+    color_mode: 0,
     characters: 1,
     tab_width: 4,
     start_context_lines: 3,
@@ -54,6 +58,7 @@ static CONFIG: RawConfig<'static> = RawConfig {
     after_label_lines: 0,
     chars: NO_CHARS,
     styles: NO_STYLES,
+    reserved: [0; 8],
 };
 
 /// Characters that are not used.

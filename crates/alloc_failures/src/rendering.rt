@@ -278,7 +278,7 @@ fn is_prefix(bytes: &[u8], text: &str) -> bool
 
 /// Judges a call that writes to a vector: it holds the output; or the call failed, and it holds a
 /// prefix: with `Io` if an allocation for the vector failed, and otherwise with `OutOfMemory`.
-fn judge_recording(returned: &Result<(), Error>, recording: &Recording, output: &str) -> Outcome
+pub fn judge_recording(returned: &Result<(), Error>, recording: &Recording, output: &str) -> Outcome
     ensures done { result ≡ Outcome.Done → IsOk returned.now
         × (recording.now.has_failed ≡ false) × (recording.now.bytes.items ≡ output.now) }
     ensures failed { result ≡ Outcome.Failed → recording.now.has_failed ≡ false

@@ -6,9 +6,11 @@ use crate::builders::{
 use crate::clones::{CloneCall, judge_clone};
 use crate::databases::{DatabaseCall, judge_database};
 use crate::documents::{Format, StyledOrLspCall, judge_styled_or_lsp};
+use crate::edits::{EditsCall, judge_edits};
 use crate::native::judge_native;
 use crate::outcome::{Outcome, outcome_of};
 use crate::rendering::{RenderCall, judge_rendering};
+use crate::suggestions::{SuggestionCall, judge_suggestion};
 use crate::without_alloc::{Stage, judge_without_alloc};
 use crate::worked_outputs::{
     COLOURED_HEADER, MAPPED_NUMBERS, MEDIUM, MISMATCHED_TYPES, MUTABLE_BORROWS, SHORT,
@@ -31,6 +33,10 @@ pub enum Subject {
     Rendering(RenderCall, &'static WorkedOutput<'static>),
     /// A call of `codespan_styled` or `codespan_lsp`.
     StyledOrLsp(StyledOrLspCall),
+    /// A call of `codespan_edits`.
+    Edits(EditsCall),
+    /// A call of `codespan_suggestions`.
+    Suggestion(SuggestionCall),
     /// The call of `codespan_native`.
     Native,
     /// The calls that do not allocate.
@@ -141,6 +147,34 @@ static STYLED_OR_LSP: [NamedSubject; 7] = [
     ),
 ];
 
+/// The calls of `codespan_edits` and `codespan_suggestions`.
+static EDITS: [NamedSubject; 9] = [
+    ("apply_edits", Subject::Edits(EditsCall::ApplyEdits)),
+    ("diff", Subject::Edits(EditsCall::Diff)),
+    ("diff_hunks", Subject::Edits(EditsCall::DiffHunks)),
+    (
+        "apply_suggestion",
+        Subject::Suggestion(SuggestionCall::Apply),
+    ),
+    (
+        "emit_suggestion_into_string",
+        Subject::Suggestion(SuggestionCall::EmitIntoString),
+    ),
+    (
+        "emit_suggestion_to_write_style",
+        Subject::Suggestion(SuggestionCall::EmitToWriteStyle),
+    ),
+    (
+        "unified_diff",
+        Subject::Suggestion(SuggestionCall::UnifiedDiff),
+    ),
+    ("fix_its", Subject::Suggestion(SuggestionCall::FixIts)),
+    (
+        "code_action",
+        Subject::Suggestion(SuggestionCall::CodeAction),
+    ),
+];
+
 /// The call of `codespan_native`, by the name of its export, and the calls that do not allocate.
 static OTHERS: [NamedSubject; 3] = [
     ("codespan_emit", Subject::Native),
@@ -174,8 +208,15 @@ static WORKED_OUTPUTS: [(&str, &WorkedOutput<'static>); 8] = [
 ];
 
 /// Returns the subjects named by one word.
-pub fn named_subjects() -> [&'static [NamedSubject]; 5] {
-    [&BUILDERS, &CLONES, &DATABASES, &STYLED_OR_LSP, &OTHERS]
+pub fn named_subjects() -> [&'static [NamedSubject]; 6] {
+    [
+        &BUILDERS,
+        &CLONES,
+        &DATABASES,
+        &STYLED_OR_LSP,
+        &EDITS,
+        &OTHERS,
+    ]
 }
 
 /// Returns the first words of the subjects named by two words, with their calls.
@@ -210,6 +251,8 @@ impl Subject {
             Subject::Database(call) => judge_database(alloc, call),
             Subject::Rendering(call, worked) => judge_rendering(alloc, call, worked),
             Subject::StyledOrLsp(call) => judge_styled_or_lsp(alloc, call),
+            Subject::Edits(call) => judge_edits(alloc, call),
+            Subject::Suggestion(call) => judge_suggestion(alloc, call),
             Subject::Native => Ok(judge_native(alloc)),
             Subject::WithoutAlloc(stage) => judge_without_alloc(alloc, stage),
         })

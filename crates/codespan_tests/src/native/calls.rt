@@ -19,11 +19,12 @@ const NO_COLOR: RawColorSpec = RawColorSpec {
 };
 
 /// The configuration: the caller's characters, and no colors.
-static CONFIG: RawConfig<'static> = RawConfig {
-    abi: 1,
+pub const CONFIG: RawConfig<'static> = RawConfig {
+    abi: 2,
     display_style: 0,
     layout: 0,
-    spelling: 0,
+    form: 1,
+    color_mode: 0,
     characters: 2,
     tab_width: 4,
     start_context_lines: 3,
@@ -65,6 +66,7 @@ static CONFIG: RawConfig<'static> = RawConfig {
         source_border: NO_COLOR,
         note_bullet: NO_COLOR,
     },
+    reserved: [0; 8],
 };
 
 /// A primary label over the first byte of the first file, without a message.
@@ -74,15 +76,17 @@ const LABEL: RawLabel<'static> = RawLabel {
     start: 0,
     end: 1,
     message: b"",
+    reserved: [0; 2],
 };
 
 /// A diagnostic with that label alone.
-const DIAGNOSTIC: RawDiagnostic<'static> = RawDiagnostic {
+pub const DIAGNOSTIC: RawDiagnostic<'static> = RawDiagnostic {
     severity: 0,
     code: b"",
     message: b"bad",
     labels: &[LABEL],
     notes: &[],
+    reserved: [0; 4],
 };
 
 /// A file without text.
@@ -93,6 +97,7 @@ const FILE: RawFile<'static> = RawFile {
     first_line: 0,
     lines: &[],
     locations: &[],
+    reserved: [0; 2],
 };
 
 /// A call: its name, its files, its diagnostic and its output.
@@ -180,7 +185,7 @@ static CALLS: [Call<'static>; 3] = [
 ];
 
 /// Returns the first `count` bytes, or all if there are fewer.
-fn first_bytes(bytes: &[u8], count: usize) -> &[u8] {
+pub fn first_bytes(bytes: &[u8], count: usize) -> &[u8] {
     &bytes[..count.min(bytes.len())]
 }
 
@@ -222,7 +227,7 @@ static FAILED_CALLS: [FailedCall<'static>; 2] = [
             notes: &[RawText { bytes: b"\xff" }],
             ..DIAGNOSTIC
         },
-        (4, 17, 1),
+        (4, 21, 1),
     ),
     // FILE_MISSING, for the label 0: the note comes after it
     (
@@ -231,7 +236,7 @@ static FAILED_CALLS: [FailedCall<'static>; 2] = [
             notes: &[RawText { bytes: b"\xff" }],
             ..DIAGNOSTIC
         },
-        (3, 18, 0),
+        (3, 22, 0),
     ),
 ];
 
@@ -271,7 +276,7 @@ fn assert_status_text(rt: &impl Abort, status: u32, argument: u32, text: &str) {
 #[test]
 fn texts_of_statuses(rt: HostRuntime) {
     assert_status_text(&rt, 2, 0, "out of memory");
-    assert_status_text(&rt, 4, 14, "the code must be UTF-8");
+    assert_status_text(&rt, 4, 17, "the code must be UTF-8");
     let mut written = 0;
     assert!(rt; write_status(2, 0, &mut [0; 12], &mut written) == 1 && written == 13);
 }
