@@ -49,6 +49,7 @@ fn config_of(chars: Chars<'_>) -> Config<'_> {
         before_label_lines: 10,
         after_label_lines: 11,
         layout: Layout::Unbroken,
+        max_width: Some(12),
     }
 }
 

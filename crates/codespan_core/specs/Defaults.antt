@@ -1,11 +1,12 @@
 -- The default configuration.
+use Rattle.std.specs.Prelude.{None}
 use Rattle.codespan_core.specs.declared.term.config.Config.{Config}
 use Rattle.codespan_core.specs.declared.term.config.DisplayStyle.TheVariants.{Rich}
 use Rattle.codespan_core.specs.declared.term.config.Layout.TheVariants.{Classic}
 use Rattle.codespan_core.specs.Characters.{box_drawing}
 
--- rich style in box drawing, tabs of four cells; of a multi-line label, three lines after its first
--- and one before its last
+-- rich style in box drawing, tabs of four cells, lines whole; of a multi-line label, three lines
+-- after its first and one before its last
 abbrev pub default_config : Config
 default_config = record {
   display_style = Rich;
@@ -16,4 +17,5 @@ default_config = record {
   before_label_lines = 0;
   after_label_lines = 0;
   layout = Classic;
+  max_width = None;
 }

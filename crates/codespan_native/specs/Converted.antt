@@ -147,6 +147,7 @@ converted_config c = record {
   before_label_lines = c.before_label_lines;
   after_label_lines = c.after_label_lines;
   layout = layout_of c.layout;
+  max_width = None;
 }
 
 -- a style

@@ -13,8 +13,9 @@ pub fn are_same_chars(left: &Chars<'_>, right: &Chars<'_>) -> bool {
     characters_of(left) == characters_of(right)
 }
 
-/// Returns all fields but the characters: the display style, the layout, and the numbers.
-fn settings_of(config: &Config<'_>) -> (DisplayStyle, Layout, [usize; 5]) {
+/// Returns all fields but the characters: the display style, the layout, the greatest width, and the
+/// numbers.
+fn settings_of(config: &Config<'_>) -> (DisplayStyle, Layout, Option<usize>, [usize; 5]) {
     let Config {
         display_style,
         tab_width,
@@ -24,6 +25,7 @@ fn settings_of(config: &Config<'_>) -> (DisplayStyle, Layout, [usize; 5]) {
         before_label_lines,
         after_label_lines,
         layout,
+        max_width,
     } = *config;
     let numbers = [
         tab_width,
@@ -32,7 +34,7 @@ fn settings_of(config: &Config<'_>) -> (DisplayStyle, Layout, [usize; 5]) {
         before_label_lines,
         after_label_lines,
     ];
-    (display_style, layout, numbers)
+    (display_style, layout, max_width, numbers)
 }
 
 /// Returns the characters in the order of their fields, without the `snippet_start`.

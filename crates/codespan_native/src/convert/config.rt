@@ -51,6 +51,7 @@ fn converted_config<'a>(raw: &RawConfig<'a>) -> Config<'a>
         end_context_lines: raw.end_context_lines,
         before_label_lines: raw.before_label_lines,
         after_label_lines: raw.after_label_lines,
+        max_width: None,
     }
 }
 

@@ -41,6 +41,7 @@ fn defaults<'chars>() -> Config<'chars> {
         before_label_lines: 0,
         after_label_lines: 0,
         layout: Layout::Classic,
+        max_width: None,
     }
 }
 
@@ -68,6 +69,7 @@ fn with_owned_start(alloc: Global) -> Result<Config<'static>, AllocError> {
         before_label_lines: 6,
         after_label_lines: 7,
         layout: Layout::Unbroken,
+        max_width: Some(8),
     })
 }
 
