@@ -292,7 +292,10 @@ typedef struct codespan_config {
     size_t after_label_lines;   /* lines shown after a label */
     codespan_chars chars;       /* read only for CODESPAN_CUSTOM_CHARS */
     codespan_styles styles;     /* read only for CODESPAN_OWN_STYLES */
-    size_t reserved[8];         /* 0 */
+    size_t max_width;           /* greatest width of a source line, in cells, with what is before
+                                 * it: a wider one is shortened, and `...` stands for what is left
+                                 * out. 0: none, lines are whole */
+    size_t reserved[7];         /* 0 */
 } codespan_config;
 
 /* ---- the call ---- */
@@ -467,7 +470,7 @@ static inline codespan_styles codespan_default_styles(void) {
 }
 
 /* Returns the default configuration: rich style, classic layout, safe text without colors, box
- * drawing, tab stops every 4 cells. */
+ * drawing, tab stops every 4 cells, lines of any width. */
 static inline codespan_config codespan_default_config(void) {
     codespan_config config = {CODESPAN_ABI,
                               CODESPAN_RICH,
@@ -482,7 +485,8 @@ static inline codespan_config codespan_default_config(void) {
                               0, /* after_label_lines */
                               codespan_box_chars(),
                               codespan_default_styles(),
-                              {0, 0, 0, 0, 0, 0, 0, 0}};
+                              0, /* max_width */
+                              {0, 0, 0, 0, 0, 0, 0}};
     return config;
 }
 

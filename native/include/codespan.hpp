@@ -126,6 +126,7 @@ struct Config {
     std::size_t after_label_lines = 0;  /* lines shown after a label */
     codespan_chars chars = codespan_box_chars();
     codespan_styles styles = codespan_default_styles();
+    std::size_t max_width = 0; /* cells of a source line: a wider one is shortened; 0: none */
 };
 
 /* Why a diagnostic was not rendered. */
@@ -196,6 +197,7 @@ inline codespan_config c_config(const Config &config) noexcept {
             config.after_label_lines,
             config.chars,
             config.styles,
+            config.max_width,
             {}};
 }
 

@@ -58,7 +58,8 @@ static CONFIG: RawConfig<'static> = RawConfig {
     after_label_lines: 0,
     chars: NO_CHARS,
     styles: NO_STYLES,
-    reserved: [0; 8],
+    max_width: 0,
+    reserved: [0; 7],
 };
 
 /// Characters that are not used.

@@ -63,6 +63,10 @@ display_style_of n = if n == 0 then Rich else if n == 1 then Medium else Short
 abbrev pub layout_of : ℕ → Layout
 layout_of n = if n == 0 then Classic else Unbroken
 
+-- the greatest width of a line of a number; of 0 none
+abbrev pub max_width_of : ℕ → Option ℕ
+max_width_of n = if n == 0 then None else Some n
+
 -- the color of a number; of 0 none
 abbrev pub color_of : ℕ → Option Color
 color_of n =
@@ -147,7 +151,7 @@ converted_config c = record {
   before_label_lines = c.before_label_lines;
   after_label_lines = c.after_label_lines;
   layout = layout_of c.layout;
-  max_width = None;
+  max_width = max_width_of c.max_width;
 }
 
 -- a style

@@ -216,8 +216,10 @@ pub struct RawConfig<'a> {
     pub chars: RawChars<'a>,
     /// The caller's styles, read only where `color_mode` is 2.
     pub styles: RawStyles,
+    /// The greatest width of a line of the source, in cells, with the gutter; 0: none.
+    pub max_width: usize,
     /// 0, for fields of a later ABI version.
-    pub reserved: [usize; 8],
+    pub reserved: [usize; 7],
 }
 
 /// The first invalid argument, or none.

@@ -238,6 +238,7 @@ class Config:
     after_label_lines: int = 0  #: lines shown after a label
     chars: Chars = field(default_factory=Chars)  #: read only for `Characters.CUSTOM`
     styles: Styles = field(default_factory=Styles)  #: read only for `ColorMode.OWN_STYLES`
+    max_width: Optional[int] = None  #: cells of a source line: a wider one is shortened; 0: `None`
 
 
 def byte_index(source: Text, character: int) -> int:

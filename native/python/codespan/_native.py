@@ -90,7 +90,8 @@ COUNTS = ['tab_width', 'start_context_lines', 'end_context_lines', 'before_label
 class Config(c.Structure):
     _fields_ = ([('abi', c.c_uint32)] + [(name, c.c_uint32) for name in CHOICES] +
                 [(name, c.c_size_t) for name in COUNTS] +
-                [('chars', Chars), ('styles', Styles), ('reserved', c.c_size_t * 8)])
+                [('chars', Chars), ('styles', Styles), ('max_width', c.c_size_t),
+                 ('reserved', c.c_size_t * 7)])
 
 
 class Detail(c.Structure):
@@ -207,7 +208,7 @@ def config_of(config: api.Config) -> Config:
     """Returns the struct of a configuration. Nothing changes one, so calls share it."""
     return Config(ABI, *(choice(getattr(config, name)) for name in CHOICES),
                   *(number(getattr(config, name)) for name in COUNTS), chars_of(config.chars),
-                  styles_of(config.styles))
+                  styles_of(config.styles), number(config.max_width or 0))
 
 
 def emit(files: Sequence[api.File], diagnostic: api.Diagnostic, config: api.Config) -> Outcome:

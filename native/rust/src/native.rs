@@ -8,6 +8,7 @@ mod style_marks;
 use alloc::alloc::{handle_alloc_error, Layout};
 use alloc::string::String;
 use alloc::vec::Vec;
+use core::num::NonZeroUsize;
 
 use crate::diagnostic::{LabelStyle, Severity};
 use crate::term::{Config, DisplayStyle};
@@ -55,11 +56,28 @@ impl Spelling {
     }
 }
 
+/// What an output is written as.
+#[derive(Clone, Copy)]
+pub(crate) struct Form {
+    pub(crate) spelling: Spelling,
+    /// The greatest width of a line of the source, which the original does not have.
+    pub(crate) max_width: Option<NonZeroUsize>,
+}
+
+impl From<Spelling> for Form {
+    fn from(spelling: Spelling) -> Form {
+        Form {
+            spelling,
+            max_width: None,
+        }
+    }
+}
+
 /// What an output is rendered from.
 pub(crate) struct Request<'a> {
     /// How much of the diagnostic is rendered.
     pub(crate) display_style: &'a DisplayStyle,
-    pub(crate) spelling: Spelling,
+    pub(crate) form: Form,
     /// The configuration that has the characters and the tab width.
     pub(crate) characters: &'a Config,
     /// The configuration that has the numbers of context lines.
@@ -114,8 +132,8 @@ impl Request<'_> {
             abi: layout::ABI,
             display_style: display_style_number(self.display_style),
             layout: layout::CLASSIC,
-            form: self.spelling.form(),
-            color_mode: self.spelling.color_mode(),
+            form: self.form.spelling.form(),
+            color_mode: self.form.spelling.color_mode(),
             characters: characters::number(&self.characters.chars),
             tab_width: self.characters.tab_width,
             start_context_lines: self.context.start_context_lines,
@@ -124,7 +142,8 @@ impl Request<'_> {
             after_label_lines: self.context.after_label_lines,
             chars: characters::native(&self.characters.chars),
             styles: layout::Styles::default(),
-            reserved: [0; 8],
+            max_width: self.form.max_width.map_or(0, NonZeroUsize::get),
+            reserved: [0; 7],
         }
     }
 }

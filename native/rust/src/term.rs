@@ -8,7 +8,7 @@ use alloc::string::String;
 
 use crate::diagnostic::Diagnostic;
 use crate::files::{Error, Files};
-use crate::native::{replay, write_text, Spelling};
+use crate::native::{replay, write_text, Form, Spelling};
 
 mod config;
 mod excerpt;
@@ -154,10 +154,10 @@ pub(crate) fn text_output<'files, F: Files<'files> + ?Sized>(
     config: &Config,
     files: &'files F,
     diagnostic: &Diagnostic<F::FileId>,
-    spelling: Spelling,
+    form: impl Into<Form>,
 ) -> Result<String, Error> {
     let mut text = String::new();
-    emit_output(config, files, diagnostic, spelling, &mut |output| {
+    emit_output(config, files, diagnostic, form, &mut |output| {
         text = output.text().into();
         Ok(())
     })?;
@@ -169,15 +169,16 @@ fn emit_output<'files, F: Files<'files> + ?Sized>(
     config: &Config,
     files: &'files F,
     diagnostic: &Diagnostic<F::FileId>,
-    spelling: Spelling,
+    form: impl Into<Form>,
     read: Read<'_>,
 ) -> Result<(), Error> {
+    let form = form.into();
     let show_notes = match config.display_style {
         DisplayStyle::Rich => {
-            return RichDiagnostic::new(diagnostic, config).output(files, config, spelling, read)
+            return RichDiagnostic::new(diagnostic, config).output(files, config, form, read)
         }
         DisplayStyle::Medium => true,
         DisplayStyle::Short => false,
     };
-    ShortDiagnostic::new(diagnostic, show_notes).output(files, config, spelling, read)
+    ShortDiagnostic::new(diagnostic, show_notes).output(files, config, form, read)
 }

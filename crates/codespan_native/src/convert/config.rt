@@ -3,7 +3,7 @@
 ghost use Rattle.std.specs.Prelude.{◌≡◌};
 ghost use Rattle.codespan_base.specs.ConfigEquality.{IsEqualConfig};
 ghost use Rattle.codespan_native.specs.Converted.{converted_config, display_style_of, layout_of};
-ghost use Rattle.codespan_native.specs.Converted.{form_of};
+ghost use Rattle.codespan_native.specs.Converted.{form_of, max_width_of};
 ghost use Rattle.codespan_native.specs.ValidParts.{AreValidChars};
 
 use crate::convert::chars::convert_chars;
@@ -51,7 +51,7 @@ fn converted_config<'a>(raw: &RawConfig<'a>) -> Config<'a>
         end_context_lines: raw.end_context_lines,
         before_label_lines: raw.before_label_lines,
         after_label_lines: raw.after_label_lines,
-        max_width: None,
+        max_width: max_width_of(raw.max_width),
     }
 }
 
@@ -63,6 +63,16 @@ fn display_style_of(number: u32) -> DisplayStyle
         0 => DisplayStyle::Rich,
         1 => DisplayStyle::Medium,
         _ => DisplayStyle::Short,
+    }
+}
+
+/// Returns the greatest width of a number; of 0 none.
+fn max_width_of(number: usize) -> Option<usize>
+    ensures { result ≡ max_width_of number }
+{
+    match number {
+        0 => None,
+        _ => Some(number),
     }
 }
 

@@ -66,7 +66,8 @@ pub const CONFIG: RawConfig<'static> = RawConfig {
         source_border: NO_COLOR,
         note_bullet: NO_COLOR,
     },
-    reserved: [0; 8],
+    max_width: 0,
+    reserved: [0; 7],
 };
 
 /// A primary label over the first byte of the first file, without a message.

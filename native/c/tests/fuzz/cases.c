@@ -265,7 +265,9 @@ static codespan_config make_config(struct maker *maker) {
     config.after_label_lines = wide_number(&maker->random, 3);
     config.chars = make_chars(maker);
     config.styles = make_styles(maker);
-    set_reserved(maker, config.reserved, 8);
+    if (one_in(&maker->random, 3))
+        config.max_width = wide_number(&maker->random, 60);
+    set_reserved(maker, config.reserved, 7);
     return config;
 }
 

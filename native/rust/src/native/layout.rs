@@ -180,7 +180,8 @@ pub(crate) struct Config<'a> {
     pub(crate) after_label_lines: usize,
     pub(crate) chars: Chars<'a>,
     pub(crate) styles: Styles,
-    pub(crate) reserved: [usize; 8],
+    pub(crate) max_width: usize,
+    pub(crate) reserved: [usize; 7],
 }
 
 /// Which argument is invalid.

@@ -7,7 +7,7 @@ use core::{iter, slice};
 
 use crate::diagnostic::{Diagnostic, Label, LabelStyle};
 use crate::files::{Error, Files};
-use crate::native::{self, replay, Output, Request, Slice, Spelling};
+use crate::native::{self, replay, Form, Output, Request, Slice, Spelling};
 use crate::term::renderer::{GeneralWriteResult, Renderer};
 use crate::term::snippets::Snippets;
 use crate::term::{Config, DisplayStyle};
@@ -51,9 +51,12 @@ where
         FileId: 'files,
     {
         let characters = renderer.config();
-        self.output(files, characters, Spelling::StyleMarks, &mut |output| {
-            replay(output.bytes(), renderer)
-        })
+        self.output(
+            files,
+            characters,
+            Spelling::StyleMarks.into(),
+            &mut |output| replay(output.bytes(), renderer),
+        )
     }
 
     /// Renders with the characters and the tab width of a configuration, and passes the output to
@@ -62,7 +65,7 @@ where
         &self,
         files: &'files (impl Files<'files, FileId = FileId> + ?Sized),
         characters: &Config,
-        spelling: Spelling,
+        form: Form,
         read: Read<'_>,
     ) -> Result<(), Error>
     where
@@ -71,7 +74,7 @@ where
         let render = |files: &[native::File<'_>], labels: &[native::Label<'_>], length: usize| {
             Request {
                 display_style: &DisplayStyle::Rich,
-                spelling,
+                form,
                 characters,
                 context: self.config,
                 severity: self.diagnostic.severity,
@@ -130,9 +133,12 @@ where
         FileId: 'files,
     {
         let characters = renderer.config();
-        self.output(files, characters, Spelling::StyleMarks, &mut |output| {
-            replay(output.bytes(), renderer)
-        })
+        self.output(
+            files,
+            characters,
+            Spelling::StyleMarks.into(),
+            &mut |output| replay(output.bytes(), renderer),
+        )
     }
 
     /// Renders with the characters of a configuration, and passes the output to `read`. Where a
@@ -141,7 +147,7 @@ where
         &self,
         files: &'files (impl Files<'files, FileId = FileId> + ?Sized),
         characters: &Config,
-        spelling: Spelling,
+        form: Form,
         read: Read<'_>,
     ) -> Result<(), Error>
     where
@@ -149,7 +155,7 @@ where
     {
         let labels = self.diagnostic.labels.iter();
         let mut primary = labels.filter(|label| label.style == LabelStyle::Primary);
-        let request = self.request(self.show_notes, characters, spelling);
+        let request = self.request(self.show_notes, characters, form);
         let Some(first) = primary.next() else {
             return Ok(request.render(read)?);
         };
@@ -163,19 +169,14 @@ where
         let show_notes = self.show_notes && result.is_ok();
         let files: Vec<_> = headers.iter().map(Header::file).collect();
         let labels: Vec<_> = (0..headers.len()).map(label_at_start).collect();
-        self.request(show_notes, characters, spelling)
+        self.request(show_notes, characters, form)
             .with_headers(&files, &labels)
             .render(read)?;
         result
     }
 
     /// Returns what is rendered without a primary label.
-    fn request<'a>(
-        &'a self,
-        show_notes: bool,
-        characters: &'a Config,
-        spelling: Spelling,
-    ) -> Request<'a> {
+    fn request<'a>(&'a self, show_notes: bool, characters: &'a Config, form: Form) -> Request<'a> {
         let (display_style, notes): (_, &[String]) = if show_notes {
             (&DisplayStyle::Medium, &self.diagnostic.notes)
         } else {
@@ -183,7 +184,7 @@ where
         };
         Request {
             display_style,
-            spelling,
+            form,
             characters,
             context: characters,
             severity: self.diagnostic.severity,

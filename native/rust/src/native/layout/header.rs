@@ -114,7 +114,8 @@ fn structs_are_those_of_the_header() {
     assert_layout!(
         "codespan_config", Config<'_>,
         abi display_style layout form color_mode characters tab_width
-        start_context_lines end_context_lines before_label_lines after_label_lines chars styles reserved
+        start_context_lines end_context_lines before_label_lines after_label_lines chars styles
+        max_width reserved
     );
 }
 
