@@ -92,7 +92,7 @@ typedef struct codespan_file {
     codespan_text source;
     size_t first_byte; /* byte index in the file of the first byte of `source` */
     /* The index in the file, from 0, of the first line of `source`: the number of lines before it.
-     * Not read where there are `lines`. */
+     * codespan_emit does not read it where there are `lines`. */
     size_t first_line;
     /* The lines of `source`, in ascending order. Where there are none, a line starts after each
      * '\n', and line numbers count on from first_line + 1, up to SIZE_MAX. Where there are some,

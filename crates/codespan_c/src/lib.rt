@@ -1,17 +1,23 @@
-//! The exports for C: the functions of `native/include/codespan.h`, each a call of
-//! `codespan_native` or a constant of it.
+//! The exports for C: the functions of `native/include/codespan.h` and `codespan_editor.h`, each a
+//! call of `codespan_native` or a constant of it.
 #![tactic(auto)]
 
 ghost use Rattle.std.specs.Prelude.{◌≡◌, ◌≤◌};
 ghost use Rattle.codespan_native.specs.Constants.{ABI, STATUS_TEXT_MAX};
+ghost use Rattle.codespan_native.specs.EditCalls.{AppliesEdits};
 ghost use Rattle.codespan_native.specs.EmitCalls.{EmitsToBuffer};
+ghost use Rattle.codespan_native.specs.PositionCalls.{FindsByte, FindsPosition};
 ghost use Rattle.codespan_native.specs.Results.{IsTooSmall, IsWritten};
 ghost use Rattle.codespan_native.specs.Statuses.{OK, TOO_SMALL};
 ghost use Rattle.codespan_native.specs.StatusTexts.{text_for};
 ghost use Rattle.codespan_native.specs.StyleSheets.{WritesStyleSheet};
 
+use codespan_native::edits::write_edited;
 use codespan_native::emit::emit;
-use codespan_native::raw::{ABI, Detail, RawConfig, RawDiagnostic, RawFile, RawStyles};
+use codespan_native::positions::{find_byte, find_position};
+use codespan_native::raw::{
+    ABI, Detail, RawConfig, RawDiagnostic, RawEdit, RawFile, RawPosition, RawStyles,
+};
 use codespan_native::status::write_status;
 use codespan_native::style_sheet::write_style_sheet;
 use std::alloc::Global;
@@ -48,6 +54,60 @@ pub extern "C" fn codespan_html_styles(
     ensures { WritesStyleSheet styles.now out.old out.new result written.new }
 {
     write_style_sheet(alloc, styles, out, written)
+}
+
+/// Looks up the position of a byte of a file, and returns a status: see [`find_position`].
+#[unsafe(no_mangle)]
+pub extern "C" fn codespan_position(
+    alloc: Global,
+    file: &RawFile<'_>,
+    encoding: u32,
+    byte: usize,
+    position: &mut RawPosition,
+    detail: &mut Detail,
+) -> u32
+    ensures { FindsPosition file.now encoding byte result position.new detail.new }
+{
+    let found = find_position(alloc, file, encoding, byte);
+    *position = found.value;
+    *detail = found.detail;
+    found.status
+}
+
+/// Looks up the byte of a position of a file, and returns a status: see [`find_byte`].
+#[unsafe(no_mangle)]
+pub extern "C" fn codespan_byte(
+    alloc: Global,
+    file: &RawFile<'_>,
+    encoding: u32,
+    position: &RawPosition,
+    byte: &mut usize,
+    detail: &mut Detail,
+) -> u32
+    ensures { FindsByte file.now encoding position.now result byte.new detail.new }
+{
+    let found = find_byte(alloc, file, encoding, position);
+    *byte = found.value;
+    *detail = found.detail;
+    found.status
+}
+
+/// Writes a text after all edits to `out`, and returns a status: see [`write_edited`].
+#[unsafe(no_mangle)]
+pub extern "C" fn codespan_apply_edits(
+    alloc: Global,
+    source: &[u8],
+    edits: &[RawEdit<'_>],
+    out: &mut [u8],
+    written: &mut usize,
+    detail: &mut Detail,
+) -> u32
+    ensures { AppliesEdits source.now edits.now out.old out.new result written.new detail.new }
+{
+    let outcome = write_edited(alloc, source, edits, out);
+    *written = outcome.written;
+    *detail = outcome.detail;
+    outcome.status
 }
 
 /// Returns the ABI version, which fixes the layouts of the structs.

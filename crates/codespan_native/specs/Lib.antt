@@ -22,6 +22,10 @@ pub mod Meaning
 pub mod EmitCalls
 -- the style sheet of HTML elements
 pub mod StyleSheets
+-- positions and edits, for editors
+pub mod EditorArguments
+pub mod PositionCalls
+pub mod EditCalls
 pub mod RenderedStreams
 -- lemmas, which a reader may skip
 pub mod Lemmas

@@ -10,6 +10,16 @@ use Rattle.codespan_native.specs.declared.error.Argument.TheVariants.{FileReserv
 use Rattle.codespan_native.specs.declared.error.Argument.TheVariants.{Message, DiagnosticReserved}
 use Rattle.codespan_native.specs.declared.error.Argument.TheVariants.{LabelStyle, LabelMessage}
 use Rattle.codespan_native.specs.declared.error.Argument.TheVariants.{LabelReserved, Note}
+use Rattle.codespan_native.specs.declared.error.EditorArgument.TheVariants.{Encoding, LineTooLarge}
+use Rattle.codespan_native.specs.declared.error.EditorArgument.TheVariants.{ColumnTooLarge}
+use Rattle.codespan_native.specs.declared.error.EditorArgument.TheVariants.{CharBoundary}
+use Rattle.codespan_native.specs.declared.error.EditorArgument.TheVariants.{EditReplacement}
+use Rattle.codespan_native.specs.declared.error.EditorArgument.TheVariants.{EditReserved}
+use Rattle.codespan_native.specs.declared.error.EditorArgument.TheVariants.{EditReversed}
+use Rattle.codespan_native.specs.declared.error.EditorArgument.TheVariants.{EditPastEnd}
+use Rattle.codespan_native.specs.declared.error.EditorArgument.TheVariants.{EditBoundary}
+use Rattle.codespan_native.specs.declared.error.EditorArgument.TheVariants.{EditOverlap}
+use Rattle.codespan_native.specs.EditorArguments.{editor_number}
 use Rattle.codespan_native.specs.Statuses.{OK, TOO_SMALL, OUT_OF_MEMORY, FILE_MISSING, INVALID}
 use Rattle.codespan_native.specs.Validity.{argument_number}
 
@@ -58,6 +68,21 @@ argument_text a =
     if a == argument_number LabelMessage then codes "the message of a label must be UTF-8" else
     if a == argument_number LabelReserved then codes "the reserved words of a label must be 0" else
     if a == argument_number Note then codes "a note must be UTF-8" else
+    if a == editor_number Encoding then codes "the encoding must be one of those of the header" else
+    if a == editor_number LineTooLarge then
+    codes "the line must be one of the source, with an index of 32 bits" else
+    if a == editor_number ColumnTooLarge then
+    codes "the byte or the character must not be past the end of its line" else
+    if a == editor_number CharBoundary then
+    codes "the byte or the character must not be inside a character of the source" else
+    if a == editor_number EditReplacement then codes "the replacement of an edit must be UTF-8" else
+    if a == editor_number EditReserved then codes "the reserved words of an edit must be 0" else
+    if a == editor_number EditReversed then codes "an edit must not end before it starts" else
+    if a == editor_number EditPastEnd then
+    codes "an edit must not end past the end of the source" else
+    if a == editor_number EditBoundary then
+    codes "an edit must start and end at boundaries of characters" else
+    if a == editor_number EditOverlap then codes "edits must not overlap" else
     codes "an argument is invalid"
 
 -- the text for a status: what it means, or, where an argument is invalid, what that must be

@@ -3,6 +3,8 @@
 mod chars;
 mod config;
 mod diagnostic;
+mod edits;
+mod encoding;
 mod files;
 mod forms;
 mod styles;
@@ -10,6 +12,9 @@ mod text;
 
 pub use config::{Settings, convert_config};
 pub use diagnostic::convert_diagnostic;
-pub use files::convert_files;
+pub use edits::convert_edits;
+pub use encoding::convert_encoding;
+pub use files::{convert_file, convert_files};
 pub use forms::Form;
 pub use styles::convert_styles;
+pub use text::str_of;

@@ -1,5 +1,6 @@
 //! The arguments that can be invalid, and the error of a failed allocation.
 
+use crate::raw::Detail;
 use std::alloc::{AllocError, AllocFailed};
 
 /// An allocation failed.
@@ -75,6 +76,7 @@ pub enum Argument {
 
 impl Argument {
     ghost use Rattle.std.specs.Prelude.{◌≡◌};
+    ghost use Rattle.codespan_native.specs.EditorArguments.{argument_detail};
     ghost use Rattle.codespan_native.specs.Validity.{argument_number};
 
     /// Returns the number of the argument in the header.
@@ -82,5 +84,56 @@ impl Argument {
         ensures { result ≡ argument_number self }
     {
         self as u32
+    }
+
+    /// Returns the detail that names the argument, of which there is only one.
+    pub fn detail(self) -> Detail
+        ensures { result ≡ argument_detail self }
+    {
+        Detail {
+            argument: self.number(),
+            index: 0,
+        }
+    }
+}
+
+/// An argument of a call for editors that can be invalid, by its number in the header for editors.
+#[derive(Clone, Copy)]
+pub enum EditorArgument {
+    /// The encoding. Invalid above 2.
+    Encoding = 25,
+    /// The line of a byte or of a position. Invalid unless the source has it and its index fits a
+    /// `u32`.
+    LineTooLarge = 26,
+    /// The byte or the character of a position. Invalid past the end of its line.
+    ColumnTooLarge = 27,
+    /// The byte or the character of a position. Invalid inside a character of the source.
+    CharBoundary = 28,
+    /// The replacement of an edit. Invalid unless UTF-8.
+    EditReplacement = 29,
+    /// The reserved words of an edit. Invalid unless all are 0.
+    EditReserved = 30,
+    /// The range of an edit. Invalid where it ends before it starts.
+    EditReversed = 31,
+    /// The range of an edit. Invalid where it ends past the source.
+    EditPastEnd = 32,
+    /// The range of an edit. Invalid where it starts or ends inside a character.
+    EditBoundary = 33,
+    /// The range of an edit. Invalid where it overlaps that of an earlier one, by their ranges.
+    EditOverlap = 34,
+}
+
+impl EditorArgument {
+    ghost use Rattle.codespan_native.specs.EditorArguments.{editor_detail};
+    ghost use Rattle.std.specs.Prelude.{◌≡◌};
+
+    /// Returns the detail that names the argument, of several the one of this index.
+    pub fn detail(self, index: usize) -> Detail
+        ensures { result ≡ editor_detail self index }
+    {
+        Detail {
+            argument: self as u32,
+            index,
+        }
     }
 }

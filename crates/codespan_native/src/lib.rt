@@ -10,14 +10,19 @@
 //! [`native_file`] has a file, [`native_files`] the database, and [`stated_lines`] validates what a
 //! caller states. [`status`] has the statuses, and [`buffer`] copies the output to the caller's
 //! buffer. [`style_sheet`] writes the style sheet of HTML elements.
+//!
+//! For editors [`positions`] converts between bytes and positions, and [`edits`] applies edits to a
+//! text; `native/include/codespan_editor.h` is their header.
 #![tactic(auto)]
 
 mod buffer;
 mod convert;
+pub mod edits;
 pub mod emit;
 pub mod error;
 mod native_file;
 mod native_files;
+pub mod positions;
 pub mod raw;
 pub mod render;
 mod stated_lines;

@@ -51,7 +51,8 @@ pub struct RawFile<'a> {
     pub source: &'a [u8],
     /// Byte index in the file, from 0, of the first byte of `source`.
     pub first_byte: usize,
-    /// The number of lines of the file before `source`; not read where there are `lines`.
+    /// The number of lines of the file before `source`; where there are `lines`, read only for
+    /// positions.
     pub first_line: usize,
     /// The lines of `source`; where there are none, a line starts after each newline.
     pub lines: &'a [RawLine],
@@ -222,13 +223,38 @@ pub struct RawConfig<'a> {
     pub reserved: [usize; 7],
 }
 
-/// The first invalid argument, or none.
+/// A position of an editor in a file.
+#[derive(Clone, Copy)]
+#[repr(C)]
+pub struct RawPosition {
+    /// The index in the file, from 0, of the line.
+    pub line: u32,
+    /// The number of code units of the line before the position.
+    pub character: u32,
+}
+
+/// An edit of a text.
 #[derive(Drop)]
 #[repr(C)]
+pub struct RawEdit<'a> {
+    /// Byte index in the text, from 0.
+    pub start: usize,
+    /// Byte index in the text, from 0, exclusive.
+    pub end: usize,
+    /// The text that is put in place of these bytes, in UTF-8.
+    pub replacement: &'a [u8],
+    /// 0, for fields of a later ABI version.
+    pub reserved: [usize; 2],
+}
+
+/// The first invalid argument, or none.
+#[derive(Clone, Copy)]
+#[repr(C)]
 pub struct Detail {
-    /// The number of an [`Argument`](crate::error::Argument), 0 where none is invalid.
+    /// The number of an [`Argument`](crate::error::Argument) or an
+    /// [`EditorArgument`](crate::error::EditorArgument), 0 where none is invalid.
     pub argument: u32,
-    /// The index, from 0, of the character, style, file, label or note; 0 where there is only one
-    /// such argument.
+    /// The index, from 0, of the character, style, file, label, note or edit, or the end of a line;
+    /// 0 where there is only one such argument.
     pub index: usize,
 }

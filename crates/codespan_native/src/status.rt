@@ -9,6 +9,7 @@ ghost use Rattle.codespan_native.specs.Validity.{status_for};
 
 use crate::buffer::copy_out;
 use crate::error::Argument;
+use crate::raw::Detail;
 
 /// The output was written.
 pub const OK: u32 = 0;
@@ -28,11 +29,17 @@ pub const INVALID: u32 = 4;
 /// The number of no argument.
 pub const NO_ARGUMENT: u32 = 0;
 
+/// The detail that names no argument.
+pub const NO_DETAIL: Detail = Detail {
+    argument: NO_ARGUMENT,
+    index: 0,
+};
+
 /// The text of a number that is of no argument or of one without a text of its own.
 const ANY_ARGUMENT_TEXT: &str = "an argument is invalid";
 
 /// What each argument must be, at the index that is its number.
-static ARGUMENT_TEXTS: [&str; 25] = [
+static ARGUMENT_TEXTS: [&str; 35] = [
     ANY_ARGUMENT_TEXT,
     "the ABI version must be that of the library",
     "the display style must be one of those of the header",
@@ -59,6 +66,16 @@ static ARGUMENT_TEXTS: [&str; 25] = [
     ANY_ARGUMENT_TEXT,
     "the reserved words of a label must be 0",
     "a note must be UTF-8",
+    "the encoding must be one of those of the header",
+    "the line must be one of the source, with an index of 32 bits",
+    "the byte or the character must not be past the end of its line",
+    "the byte or the character must not be inside a character of the source",
+    "the replacement of an edit must be UTF-8",
+    "the reserved words of an edit must be 0",
+    "an edit must not end before it starts",
+    "an edit must not end past the end of the source",
+    "an edit must start and end at boundaries of characters",
+    "edits must not overlap",
 ];
 
 /// Returns the status of a call whose first invalid argument is this one.

@@ -6,6 +6,7 @@ ghost use Rattle.codespan_native.specs.Validity.{IsValidAt};
 
 mod config;
 mod diagnostic;
+mod edits;
 mod files;
 mod values;
 
@@ -16,10 +17,13 @@ use crate::validate::config::{character_index, color_index, is_abi_valid, is_sni
 use crate::validate::diagnostic::{
     label_file_index, label_message_index, label_reserved_index, label_style_index, note_index,
 };
+pub use crate::validate::edits::{edit_reserved_index, replacement_index};
+pub use crate::validate::files::invalid_field;
 use crate::validate::files::{
     file_reserved_index, lines_index, locations_index, name_index, source_index,
 };
-use crate::validate::values::{are_zero, is_utf8};
+use crate::validate::values::are_zero;
+pub use crate::validate::values::is_utf8;
 
 /// An invalid argument.
 #[derive(Drop)]

@@ -5,6 +5,7 @@
  * Linked with -Wl,--wrap=malloc,--wrap=realloc,--wrap=free, so that the library's calls of these
  * arrive here. */
 #include "check.h"
+#include <codespan_editor.h>
 
 void *__real_malloc(size_t size);
 void *__real_realloc(void *block, size_t size);
@@ -41,14 +42,19 @@ void __wrap_free(void *block) {
 
 enum { OUT_CAPACITY = 1 << 16 };
 
-/* Makes a call in which the allocations from `first` to `last` fail. */
-static struct outcome emit_failing(const struct call *call, size_t first, size_t last,
-                                   uint8_t *out) {
-    memset(out, UNWRITTEN, OUT_CAPACITY);
+/* Has the allocations from `first` to `last` of the next call fail. */
+static void fail_from(size_t first, size_t last) {
     allocations = 0;
     blocks = 0;
     first_failed = first;
     last_failed = last;
+}
+
+/* Makes a call in which the allocations from `first` to `last` fail. */
+static struct outcome emit_failing(const struct call *call, size_t first, size_t last,
+                                   uint8_t *out) {
+    memset(out, UNWRITTEN, OUT_CAPACITY);
+    fail_from(first, last);
     struct outcome outcome = emit(call, out, OUT_CAPACITY);
     CHECK(blocks == 0);
     CHECK(outcome.detail.argument == CODESPAN_ARGUMENT_NONE && outcome.detail.index == 0);
@@ -118,8 +124,71 @@ static size_t fail_all(codespan_config *config) {
     return fail_each(&call, false) + fail_each(&call, true);
 }
 
+/* ---- calls for editors ---- */
+
+/* Whether a call has returned without a value, since no memory was left; if not it has succeeded.
+ */
+static bool is_out_of_memory(uint32_t status, codespan_detail detail, bool is_unset) {
+    CHECK(blocks == 0 && detail.argument == CODESPAN_ARGUMENT_NONE && detail.index == 0);
+    if (status == CODESPAN_OK)
+        return false;
+    CHECK(status == CODESPAN_OUT_OF_MEMORY && is_unset);
+    return true;
+}
+
+static bool position_fails(void) {
+    codespan_file file = codespan_new_file(codespan_no_text(), long_source());
+    codespan_editor_position position = {7, 7};
+    codespan_detail detail = {7, 7};
+    uint32_t status = codespan_position(&file, CODESPAN_UTF16, 1604, &position, &detail);
+    CHECK(status != CODESPAN_OK || (position.line == 200 && position.character == 4));
+    return is_out_of_memory(status, detail, position.line == 0 && position.character == 0);
+}
+
+static bool byte_fails(void) {
+    codespan_file file = codespan_new_file(codespan_no_text(), long_source());
+    codespan_editor_position position = {200, 4};
+    codespan_detail detail = {7, 7};
+    size_t byte = 7;
+    uint32_t status = codespan_byte(&file, CODESPAN_UTF16, &position, &byte, &detail);
+    CHECK(status != CODESPAN_OK || byte == 1604);
+    return is_out_of_memory(status, detail, byte == 0);
+}
+
+static bool edits_fail(void) {
+    codespan_edit edits[] = {codespan_new_edit(4, 5, codespan_text_from("&y")),
+                             codespan_new_edit(0, 0, codespan_text_from("let x = "))};
+    static const char wanted[] = "let x = foo(&y)";
+    uint8_t out[sizeof wanted];
+    codespan_detail detail = {7, 7};
+    size_t written = 7;
+    memset(out, UNWRITTEN, sizeof out);
+    uint32_t status = codespan_apply_edits((const uint8_t *)"foo(y)", 6, edits, 2, out, sizeof out,
+                                           &written, &detail);
+    CHECK(status != CODESPAN_OK ||
+          (written == sizeof wanted - 1 && memcmp(out, wanted, written) == 0));
+    return is_out_of_memory(status, detail, written == 0 && is_unwritten(out, sizeof out));
+}
+
+/* Makes each allocation of a call fail, alone and with all after it. Returns how many calls ran out
+ * of memory. */
+static size_t fail_each_of(bool (*has_failed)(void)) {
+    fail_from(SIZE_MAX, 0);
+    CHECK(!has_failed() && allocations > 0);
+    size_t total = allocations, failed = 0;
+    for (size_t first = 1; first <= total; first++) {
+        fail_from(first, first);
+        failed += has_failed();
+        fail_from(first, SIZE_MAX);
+        failed += has_failed();
+    }
+    CHECK(failed > 0);
+    return failed;
+}
+
 int main(void) {
-    size_t failed = 0;
+    size_t failed =
+        fail_each_of(position_fails) + fail_each_of(byte_fails) + fail_each_of(edits_fail);
     for (uint32_t style = CODESPAN_RICH; style <= CODESPAN_SHORT; style++)
         for (uint32_t form = CODESPAN_TERMINAL; form <= CODESPAN_SVG; form++) {
             codespan_config config = codespan_default_config();

@@ -1,6 +1,6 @@
 //! Converts the files.
 
-ghost use Rattle.std.specs.Prelude.{◌≡◌, All, IfOk, map};
+ghost use Rattle.std.specs.Prelude.{◌≡◌, ◌∷◌, [], All, IfOk, map};
 ghost use Rattle.codespan_native.specs.Converted.{converted_file};
 ghost use Rattle.codespan_native.specs.SourceModel.{source_text_view, native_file_view};
 ghost use Rattle.codespan_native.specs.SourceModel.{native_file_views};
@@ -31,6 +31,24 @@ pub fn convert_files<'a>(alloc: Global, raw: &[RawFile<'a>]) -> Result<NativeFil
     for file in raw {
         files.add(file_of(alloc, file)?)?;
     }
+    Ok(files)
+}
+
+/// Returns the file database of one file, whose id is 0.
+///
+/// # Errors
+///
+/// [`OutOfMemory`] where an allocation fails.
+///
+/// # Requires
+///
+/// The name, source, lines and locations of the file are valid.
+pub fn convert_file<'a>(alloc: Global, raw: &RawFile<'a>) -> Result<NativeFiles<'a>, OutOfMemory>
+    requires { IsValidFile raw.now }
+    ensures { IfOk result (λ files. native_file_views files ≡ converted_file raw.now ∷ []) }
+{
+    let mut files = NativeFiles::new(alloc);
+    files.add(file_of(alloc, raw)?)?;
     Ok(files)
 }
 

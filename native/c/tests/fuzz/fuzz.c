@@ -5,9 +5,10 @@
  * The threads have stacks of STACK bytes. With CASE it makes the calls of that case alone, the
  * number that a failed check prints. The library can not write the arguments, nor read beside them,
  * nor write beside its output, without a fault. Checked are the statuses, that nothing else is
- * written, and that the forms of an output have the same text. */
+ * written, that the forms of an output have the same text, and the calls for editors. */
 #define _XOPEN_SOURCE 700
 #include "cases.h"
+#include "editor.h"
 #include "replay.h"
 #include "shown.h"
 #include <inttypes.h>
@@ -179,6 +180,11 @@ static void run_case(struct worker *worker, uint64_t number) {
     struct fuzz_case made = make_case(number, &worker->pages);
     check_forms(worker, &made);
     check_capacity(worker, &made, number % FORMS, number % 300);
+    const char *fault =
+        editor_fault(&made, number, &worker->pages, worker->buffers[0], OUT_CAPACITY);
+    if (fault != NULL)
+        fprintf(stderr, "not true: %s\n", fault);
+    REQUIRE(fault == NULL);
     worker->cases++;
 }
 
