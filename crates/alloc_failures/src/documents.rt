@@ -53,12 +53,13 @@ static RUNS: [(StyleMark, &str); 4] = [
 ];
 
 /// Its HTML element.
-const HTML: &str =
+pub(crate) const HTML: &str =
     "<pre class=\"diagnostic\">\nf&amp;g:2:1: <span class=\"header-error\">error</span>\
                     <span class=\"header-message\">: bd</span>\n</pre>";
 
 /// Its SVG document.
-const SVG: &str = "<svg xmlns=\"http://www.w3.org/2000/svg\" width=\"186\" height=\"42\" \
+pub(crate) const SVG: &str =
+    "<svg xmlns=\"http://www.w3.org/2000/svg\" width=\"186\" height=\"42\" \
                    viewBox=\"0 0 186 42\" \
                    font-family=\"DejaVu Sans Mono, Menlo, Consolas, monospace\" font-size=\"15\" \
                    fill=\"#e6edf3\">\n\
@@ -72,10 +73,11 @@ const SVG: &str = "<svg xmlns=\"http://www.w3.org/2000/svg\" width=\"186\" heigh
                    </svg>\n";
 
 /// Its text for a terminal.
-const TERMINAL: &str = "f&g:2:1: \x1b[0m\x1b[1m\x1b[38;5;9merror\x1b[0m\x1b[1m: bd\x1b[0m\n";
+pub(crate) const TERMINAL: &str =
+    "f&g:2:1: \x1b[0m\x1b[1m\x1b[38;5;9merror\x1b[0m\x1b[1m: bd\x1b[0m\n";
 
 /// The style sheet of no colors.
-const CSS: &str = ".diagnostic .header-bug { }\n\
+pub(crate) const CSS: &str = ".diagnostic .header-bug { }\n\
                    .diagnostic .header-error { }\n\
                    .diagnostic .header-warning { }\n\
                    .diagnostic .header-note { }\n\

@@ -1,130 +1,70 @@
-//! The call of `codespan_native`, which takes the structs of C and writes to the caller's memory.
+//! The calls of `codespan_native`, which take the structs of C and write to the caller's memory.
 
+ghost use Rattle.std.specs.Prelude.{◌≡◌, IsTrue};
+ghost use Rattle.codespan_native.specs.Statuses.{OK, OUT_OF_MEMORY};
+
+mod editor;
+mod forms;
+mod subjects;
+
+use crate::native::editor::{judge_byte, judge_edited, judge_position};
+pub use crate::native::forms::OutputForm;
+use crate::native::forms::{judge_output, judge_style_sheet};
+pub use crate::native::subjects::NATIVE;
 use crate::outcome::{Outcome, Wrong, judge_success};
-use codespan_native::emit::emit;
-use codespan_native::raw::{
-    RawChars, RawColorSpec, RawConfig, RawDiagnostic, RawFile, RawLabel, RawStyles, RawText,
-};
 use codespan_native::status::{OK, OUT_OF_MEMORY};
 use std::alloc::Global;
 
-/// The output of the diagnostic, in ASCII.
-const OUTPUT: &[u8] =
-    b"error[E1]: bad\n  --> f.txt:1:1\n  |\n1 | abc\n  | ^^^ here\n  |\n  = a note\n\n";
+/// A call of `codespan_native`, by its export.
+#[derive(Clone, Copy)]
+pub enum NativeCall {
+    /// `codespan_emit`
+    Emit(OutputForm),
+    /// `codespan_html_styles`
+    HtmlStyles,
+    /// `codespan_position`
+    Position,
+    /// `codespan_byte`
+    Byte,
+    /// `codespan_apply_edits`
+    ApplyEdits,
+}
 
-/// The memory before the call.
-const UNWRITTEN: [u8; 128] = [b'.'; 128];
-
-/// The file.
-static FILES: [RawFile<'static>; 1] = [RawFile {
-    name: b"f.txt",
-    source: b"abc\n",
-    first_byte: 0,
-    first_line: 0,
-    lines: &[],
-    locations: &[],
-    reserved: [0; 2],
-}];
-
-/// The diagnostic.
-static DIAGNOSTIC: RawDiagnostic<'static> = RawDiagnostic {
-    severity: 3,
-    code: b"E1",
-    message: b"bad",
-    labels: &[RawLabel {
-        style: 0,
-        file: 0,
-        start: 0,
-        end: 3,
-        message: b"here",
-        reserved: [0; 2],
-    }],
-    notes: &[RawText { bytes: b"a note" }],
-    reserved: [0; 4],
-};
-
-/// The default configuration, in ASCII and without colors.
-static CONFIG: RawConfig<'static> = RawConfig {
-    abi: 2,
-    display_style: 0,
-    layout: 0,
-    form: 1,
-    color_mode: 0,
-    characters: 1,
-    tab_width: 4,
-    start_context_lines: 3,
-    end_context_lines: 1,
-    before_label_lines: 0,
-    after_label_lines: 0,
-    chars: NO_CHARS,
-    styles: NO_STYLES,
-    max_width: 0,
-    reserved: [0; 7],
-};
-
-/// Characters that are not used.
-const NO_CHARS: RawChars<'static> = RawChars {
-    snippet_start: b"",
-    source_border_left: 0,
-    source_border_left_break: 0,
-    note_bullet: 0,
-    single_primary_caret: 0,
-    single_secondary_caret: 0,
-    multi_primary_caret_start: 0,
-    multi_primary_caret_end: 0,
-    multi_secondary_caret_start: 0,
-    multi_secondary_caret_end: 0,
-    multi_top_left: 0,
-    multi_top: 0,
-    multi_bottom_left: 0,
-    multi_bottom: 0,
-    multi_left: 0,
-    pointer_left: 0,
-};
-
-/// Styles that are not used.
-const NO_STYLES: RawStyles = RawStyles {
-    header_bug: NO_COLOR,
-    header_error: NO_COLOR,
-    header_warning: NO_COLOR,
-    header_note: NO_COLOR,
-    header_help: NO_COLOR,
-    header_message: NO_COLOR,
-    primary_label_bug: NO_COLOR,
-    primary_label_error: NO_COLOR,
-    primary_label_warning: NO_COLOR,
-    primary_label_note: NO_COLOR,
-    primary_label_help: NO_COLOR,
-    secondary_label: NO_COLOR,
-    line_number: NO_COLOR,
-    source_border: NO_COLOR,
-    note_bullet: NO_COLOR,
-};
-
-/// A style without a color.
-const NO_COLOR: RawColorSpec = RawColorSpec {
-    fg: 0,
-    bg: 0,
-    bold: 0,
-    intense: 0,
-};
-
-/// Makes a call of `emit` and judges it.
-pub fn judge_native(alloc: Global) -> Outcome {
-    let mut out = UNWRITTEN;
-    let outcome = emit(alloc, &FILES, &DIAGNOSTIC, &CONFIG, &mut out);
-    if outcome.status == OK {
-        judge_success(outcome.written == OUTPUT.len() && out.starts_with(OUTPUT))
-    } else if outcome.status == OUT_OF_MEMORY {
-        judge_unwritten(&out, outcome.written)
-    } else {
-        Outcome::Wrong(Wrong::Error)
+/// Makes a call and judges it.
+pub fn judge_native(alloc: Global, call: NativeCall) -> Outcome {
+    match call {
+        NativeCall::Emit(form) => judge_output(alloc, form),
+        NativeCall::HtmlStyles => judge_style_sheet(alloc),
+        NativeCall::Position => judge_position(alloc),
+        NativeCall::Byte => judge_byte(alloc),
+        NativeCall::ApplyEdits => judge_edited(alloc),
     }
 }
 
-/// Returns `Failed` if nothing was written.
-fn judge_unwritten(out: &[u8], written: usize) -> Outcome {
-    if written == 0 && out.starts_with(&UNWRITTEN) {
+/// Judges a call that writes bytes to memory that was full of dots.
+pub(crate) fn judge_bytes(status: u32, written: usize, out: &[u8], expected: &[u8]) -> Outcome {
+    let is_rest_unchanged = match out.get(written..) {
+        Some(rest) => rest.iter().all(|byte| *byte == b'.'),
+        None => false,
+    };
+    judge_found(
+        status,
+        written == expected.len() && out.starts_with(expected) && is_rest_unchanged,
+        written == 0 && is_rest_unchanged,
+    )
+}
+
+/// Judges a call by whether what it set is as expected, and whether it is as after a failed
+/// allocation.
+pub(crate) fn judge_found(status: u32, is_expected: bool, is_unset: bool) -> Outcome
+    ensures done { result ≡ Outcome.Done → (status ≡ OK) × IsTrue is_expected }
+    ensures failed { result ≡ Outcome.Failed → (status ≡ OUT_OF_MEMORY) × IsTrue is_unset }
+{
+    if status == OK {
+        judge_success(is_expected)
+    } else if status != OUT_OF_MEMORY {
+        Outcome::Wrong(Wrong::Error)
+    } else if is_unset {
         Outcome::Failed
     } else {
         Outcome::Wrong(Wrong::Changed)

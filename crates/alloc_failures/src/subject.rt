@@ -7,7 +7,7 @@ use crate::clones::{CloneCall, judge_clone};
 use crate::databases::{DatabaseCall, judge_database};
 use crate::documents::{Format, StyledOrLspCall, judge_styled_or_lsp};
 use crate::edits::{EditsCall, judge_edits};
-use crate::native::judge_native;
+use crate::native::{NATIVE, NativeCall, judge_native};
 use crate::outcome::{Outcome, outcome_of};
 use crate::rendering::{RenderCall, judge_rendering};
 use crate::suggestions::{SuggestionCall, judge_suggestion};
@@ -37,8 +37,8 @@ pub enum Subject {
     Edits(EditsCall),
     /// A call of `codespan_suggestions`.
     Suggestion(SuggestionCall),
-    /// The call of `codespan_native`.
-    Native,
+    /// A call of `codespan_native`.
+    Native(NativeCall),
     /// The calls that do not allocate.
     WithoutAlloc(Stage),
 }
@@ -175,9 +175,8 @@ static EDITS: [NamedSubject; 9] = [
     ),
 ];
 
-/// The call of `codespan_native`, by the name of its export, and the calls that do not allocate.
-static OTHERS: [NamedSubject; 3] = [
-    ("codespan_emit", Subject::Native),
+/// The calls that do not allocate.
+static WITHOUT_ALLOC: [NamedSubject; 2] = [
     (
         "without_alloc_prepared",
         Subject::WithoutAlloc(Stage::Preparation),
@@ -208,14 +207,15 @@ static WORKED_OUTPUTS: [(&str, &WorkedOutput<'static>); 8] = [
 ];
 
 /// Returns the subjects named by one word.
-pub fn named_subjects() -> [&'static [NamedSubject]; 6] {
+pub fn named_subjects() -> [&'static [NamedSubject]; 7] {
     [
         &BUILDERS,
         &CLONES,
         &DATABASES,
         &STYLED_OR_LSP,
         &EDITS,
-        &OTHERS,
+        &NATIVE,
+        &WITHOUT_ALLOC,
     ]
 }
 
@@ -253,7 +253,7 @@ impl Subject {
             Subject::StyledOrLsp(call) => judge_styled_or_lsp(alloc, call),
             Subject::Edits(call) => judge_edits(alloc, call),
             Subject::Suggestion(call) => judge_suggestion(alloc, call),
-            Subject::Native => Ok(judge_native(alloc)),
+            Subject::Native(call) => Ok(judge_native(alloc, call)),
             Subject::WithoutAlloc(stage) => judge_without_alloc(alloc, stage),
         })
     }
