@@ -189,9 +189,24 @@ pub fn column_index(source: &str, line_range: Range<usize>, byte_index: usize) -
     // A character ends where the next one starts, or with the source.
     let last = end.min(source.len() - 1);
     let next = &source.as_bytes()[line_range.start + 1..=last];
-    let starts = |&&byte: &&u8| byte & 0xc0 != 0x80;
 
-    next.iter().filter(starts).count() + usize::from(end == source.len())
+    count_starts(next) + usize::from(end == source.len())
+}
+
+/// Returns the number of bytes at which characters start: those that are not `0b10......`.
+fn count_starts(bytes: &[u8]) -> usize {
+    const LOW: u64 = u64::from_ne_bytes([1; 8]);
+    let mut words = bytes.chunks_exact(8);
+    let mut count = 0;
+    for bytes in words.by_ref() {
+        let word = u64::from_le_bytes(bytes.try_into().expect("a word has 8 bytes"));
+        // The lowest bit of each byte here says whether a character starts. The product has the sum
+        // of these bytes, which is 8 at most, as its highest byte.
+        let starts = (!word >> 7 | word >> 6) & LOW;
+        count += (starts.wrapping_mul(LOW) >> 56) as usize;
+    }
+    let rest = words.remainder().iter();
+    count + rest.filter(|&&byte| byte & 0xc0 != 0x80).count()
 }
 
 /// Returns the byte index of the start of each line: 0, and the byte after each newline.

@@ -11,10 +11,10 @@ use alloc::vec::Vec;
 use core::num::NonZeroUsize;
 
 use crate::diagnostic::{LabelStyle, Severity};
-use crate::term::{Config, DisplayStyle};
+use crate::term::{Config, DisplayStyle, GeneralWriteResult};
 
 use ffi::EmitError;
-pub(crate) use ffi::Output;
+pub(crate) use ffi::Read;
 pub(crate) use layout::{File, Label, Line, Location, Slice};
 pub(crate) use style_marks::{replay, write_text};
 
@@ -73,7 +73,7 @@ impl From<Spelling> for Form {
     }
 }
 
-/// What an output is rendered from.
+/// What an output is rendered from, besides the files and the labels.
 pub(crate) struct Request<'a> {
     /// How much of the diagnostic is rendered.
     pub(crate) display_style: &'a DisplayStyle,
@@ -87,64 +87,82 @@ pub(crate) struct Request<'a> {
     pub(crate) code: &'a str,
     pub(crate) message: &'a str,
     pub(crate) notes: &'a [String],
-    /// The files that the labels name by their indices, from 0.
-    pub(crate) files: &'a [File<'a>],
-    pub(crate) labels: &'a [Label<'a>],
-    /// The length in bytes that the output is expected not to exceed, besides the message and the
-    /// notes. A longer one takes two calls of the archive.
-    pub(crate) expected_length: usize,
 }
 
 impl Request<'_> {
-    /// Passes the output to `read`, and returns what that returns.
+    /// Renders with files and with labels, which name files by their indices, from 0. Passes the
+    /// output to `read`, and returns what that returns.
+    ///
+    /// `expected_length` is the length in bytes that the output is expected not to exceed, besides
+    /// the message and the notes. A longer one takes two calls of the archive.
     ///
     /// # Panics
     ///
     /// Where the archive has another ABI.
-    pub(crate) fn render<R>(&self, read: impl FnOnce(Output<'_>) -> R) -> R {
+    pub(crate) fn render(
+        &self,
+        files: &[File<'_>],
+        labels: &[Label<'_>],
+        expected_length: usize,
+        read: Read<'_>,
+    ) -> GeneralWriteResult {
         let notes: Vec<_> = self.notes.iter().map(|note| note.as_str().into()).collect();
         let diagnostic = layout::Diagnostic {
             severity: severity_number(self.severity),
             code: self.code.into(),
             message: self.message.into(),
-            labels: Slice::new(self.labels),
+            labels: Slice::new(labels),
             notes: Slice::new(&notes),
             reserved: [0; 4],
         };
         let notes = self.notes.iter().map(|note| 2 * note.len());
-        let length = self.expected_length + self.message.len() + notes.sum::<usize>();
-        match ffi::emit(self.files, &diagnostic, &self.config(), length, read) {
+        let length = expected_length + self.message.len() + notes.sum::<usize>();
+        match ffi::emit(files, &diagnostic, &self.config(), length, read) {
             Ok(result) => result,
-            // The archive does not report the layout of the allocation that failed.
-            Err(EmitError::OutOfMemory) => handle_alloc_error(Layout::new::<u8>()),
-            Err(EmitError::Invalid(detail)) if detail.argument == layout::FILE_LINES => {
-                unreachable!("the lines of an excerpt overlap, or do not ascend: {detail:?}")
-            }
-            Err(EmitError::Invalid(detail)) => panic!(
-                "the archive does not take these structs; is its ABI {}? {detail:?}",
-                layout::ABI
-            ),
+            Err(error) => fail(error),
         }
     }
 
     fn config(&self) -> layout::Config<'_> {
-        layout::Config {
+        let number = characters::number(&self.characters.chars);
+        let mut config = layout::Config {
             abi: layout::ABI,
             display_style: display_style_number(self.display_style),
             layout: layout::CLASSIC,
             form: self.form.spelling.form(),
             color_mode: self.form.spelling.color_mode(),
-            characters: characters::number(&self.characters.chars),
+            characters: number,
             tab_width: self.characters.tab_width,
             start_context_lines: self.context.start_context_lines,
             end_context_lines: self.context.end_context_lines,
             before_label_lines: self.context.before_label_lines,
             after_label_lines: self.context.after_label_lines,
-            chars: characters::native(&self.characters.chars),
+            chars: layout::Chars::default(),
             styles: layout::Styles::default(),
             max_width: self.form.max_width.map_or(0, NonZeroUsize::get),
             reserved: [0; 7],
+        };
+        // The archive reads them only then.
+        if number == layout::CUSTOM_CHARS {
+            config.chars = characters::native(&self.characters.chars);
         }
+        config
+    }
+}
+
+/// Ends a call of the archive that has no output.
+#[cold]
+fn fail(error: EmitError) -> ! {
+    match error {
+        // The archive does not report the layout of the allocation that failed.
+        EmitError::OutOfMemory => handle_alloc_error(Layout::new::<u8>()),
+        EmitError::Invalid(detail) if detail.argument == layout::FILE_LINES => {
+            unreachable!("the lines of an excerpt overlap, or do not ascend: {detail:?}")
+        }
+        EmitError::Invalid(detail) => panic!(
+            "the archive does not take these structs; is its ABI {}? {detail:?}",
+            layout::ABI
+        ),
     }
 }
 

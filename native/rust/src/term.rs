@@ -8,7 +8,7 @@ use alloc::string::String;
 
 use crate::diagnostic::Diagnostic;
 use crate::files::{Error, Files};
-use crate::native::{replay, write_text, Form, Spelling};
+use crate::native::{replay, write_text, Form, Read, Spelling};
 
 mod config;
 mod excerpt;
@@ -26,8 +26,6 @@ pub use styles::{Styles, StylesWriter};
 #[cfg(feature = "termcolor")]
 pub use termcolor;
 pub use views::{RichDiagnostic, ShortDiagnostic};
-
-use views::Read;
 
 /// Returns the output of a diagnostic, without colors.
 ///

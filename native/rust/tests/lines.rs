@@ -8,7 +8,7 @@ mod given_lines;
 use std::ops::Range;
 
 use codespan_reporting::diagnostic::{Diagnostic, Label};
-use codespan_reporting::files::{Error, Files, Location, SimpleFile, SimpleFiles};
+use codespan_reporting::files::{column_index, Error, Files, Location, SimpleFile, SimpleFiles};
 use codespan_reporting::term::{emit_into_string, Config};
 
 use common::ten_lines;
@@ -214,4 +214,30 @@ fn many_labels_in_turn_in_two_files() {
     let snippet = |name| format!("     ┌─ {name}:1:1\n     │\n{lines}");
     let shown = format!("error: \n{}     │\n{}\n", snippet("f"), snippet("g"));
     assert!(output == shown, "{} bytes", output.len());
+}
+
+/// Returns the number of characters of a line that end at or before a byte, one by one.
+fn column_by_characters(source: &str, line: Range<usize>, byte: usize) -> usize {
+    let starts = source[line.clone()].char_indices();
+    let ends = starts.map(|(start, char)| line.start + start + char.len_utf8());
+    ends.filter(|&end| end <= byte).count()
+}
+
+#[test]
+fn columns_count_characters() {
+    let lengths = [0, 1, 7, 8, 9, 15, 16, 17, 31, 32, 33, 63, 64, 65, 300];
+    for (length, chars) in lengths
+        .iter()
+        .zip(["a", "é", "→", "𐐀", "aé→𐐀", "→a"].iter().cycle())
+    {
+        let text: String = chars.chars().cycle().take(*length).collect();
+        let source = format!("{text}→\n{text}{chars}");
+        for line in [0..source.len(), 0..text.len(), text.len() + 4..source.len()] {
+            for byte in 0..=source.len() + 1 {
+                let expected = column_by_characters(&source, line.clone(), byte);
+                let column = column_index(&source, line.clone(), byte);
+                assert_eq!(column, expected, "{source:?} {line:?} {byte}");
+            }
+        }
+    }
 }

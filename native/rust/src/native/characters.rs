@@ -31,13 +31,14 @@ const ASCII: Set = Set {
 };
 
 /// Returns the number of the set that has these characters, or that of characters that are passed.
+#[inline]
 pub(super) fn number(chars: &Chars) -> u32 {
-    let set = if chars.source_border_left == BOX.others[0] {
-        &BOX
+    let (set, is_set) = if chars.source_border_left == BOX.others[0] {
+        (&BOX, BOX.is(chars))
     } else {
-        &ASCII
+        (&ASCII, ASCII.is(chars))
     };
-    if set.is(chars) {
+    if is_set {
         set.number
     } else {
         layout::CUSTOM_CHARS
@@ -45,26 +46,28 @@ pub(super) fn number(chars: &Chars) -> u32 {
 }
 
 impl Set {
-    /// Returns true for the characters of this set. They are compared where they are, which takes
-    /// half the time of two arrays.
+    /// Returns true for the characters of this set. Inlined for a constant set, it compares them
+    /// where they are, several at once.
+    #[inline(always)]
     fn is(&self, chars: &Chars) -> bool {
         let others = &self.others;
-        chars.snippet_start == self.snippet_start
-            && chars.source_border_left == others[0]
-            && chars.source_border_left_break == others[1]
-            && chars.note_bullet == others[2]
-            && chars.single_primary_caret == others[3]
-            && chars.single_secondary_caret == others[4]
-            && chars.multi_primary_caret_start == others[5]
-            && chars.multi_primary_caret_end == others[6]
-            && chars.multi_secondary_caret_start == others[7]
-            && chars.multi_secondary_caret_end == others[8]
-            && chars.multi_top_left == others[9]
-            && chars.multi_top == others[10]
-            && chars.multi_bottom_left == others[11]
-            && chars.multi_bottom == others[12]
-            && chars.multi_left == others[13]
-            && chars.pointer_left == others[14]
+        let differs = |char: char, index: usize| u32::from(char) ^ u32::from(others[index]);
+        let difference = differs(chars.source_border_left, 0)
+            | differs(chars.source_border_left_break, 1)
+            | differs(chars.note_bullet, 2)
+            | differs(chars.single_primary_caret, 3)
+            | differs(chars.single_secondary_caret, 4)
+            | differs(chars.multi_primary_caret_start, 5)
+            | differs(chars.multi_primary_caret_end, 6)
+            | differs(chars.multi_secondary_caret_start, 7)
+            | differs(chars.multi_secondary_caret_end, 8)
+            | differs(chars.multi_top_left, 9)
+            | differs(chars.multi_top, 10)
+            | differs(chars.multi_bottom_left, 11)
+            | differs(chars.multi_bottom, 12)
+            | differs(chars.multi_left, 13)
+            | differs(chars.pointer_left, 14);
+        difference == 0 && chars.snippet_start == self.snippet_start
     }
 }
 

@@ -10,6 +10,7 @@ use core::mem::MaybeUninit;
 use core::{slice, str};
 
 use super::layout::{Config, Detail, Diagnostic, File, OK, OUT_OF_MEMORY, STYLE_MARKS, TOO_SMALL};
+use crate::term::GeneralWriteResult;
 
 /// The error of a call of the archive.
 #[derive(Debug)]
@@ -64,6 +65,9 @@ extern "C" {
     ) -> u32;
 }
 
+/// What reads an output.
+pub(crate) type Read<'a> = &'a mut dyn FnMut(Output<'_>) -> GeneralWriteResult;
+
 /// Passes the output of a diagnostic over files to `read`, and returns what that returns. An output
 /// that is longer than expected takes a second call.
 ///
@@ -71,18 +75,19 @@ extern "C" {
 ///
 /// [`EmitError::OutOfMemory`] where an allocation of the archive fails, and [`EmitError::Invalid`]
 /// where it does not accept an argument.
-pub(crate) fn emit<R>(
+#[inline]
+pub(crate) fn emit(
     files: &[File<'_>],
     diagnostic: &Diagnostic<'_>,
     config: &Config<'_>,
     expected_length: usize,
-    read: impl FnOnce(Output<'_>) -> R,
-) -> Result<R, EmitError> {
+    read: Read<'_>,
+) -> Result<GeneralWriteResult, EmitError> {
     let is_text = config.form != STYLE_MARKS;
-    let mut stack = [MaybeUninit::uninit(); ROOM];
     let mut heap: Vec<u8> = Vec::new();
     // Where there is no memory for what is expected, the output may be shorter.
     let on_heap = expected_length > ROOM && heap.try_reserve_exact(expected_length).is_ok();
+    let mut stack = [MaybeUninit::uninit(); ROOM];
     let room = if on_heap {
         heap.spare_capacity_mut()
     } else {

@@ -67,6 +67,12 @@ impl<'a, T> Slice<'a, T> {
     }
 }
 
+impl<T> Default for Slice<'_, T> {
+    fn default() -> Self {
+        Slice::new(&[])
+    }
+}
+
 /// A text.
 pub(crate) type Text<'a> = Slice<'a, u8>;
 
@@ -129,6 +135,7 @@ pub(crate) struct Diagnostic<'a> {
 
 /// The characters, by their code points.
 #[repr(C)]
+#[derive(Default)]
 pub(crate) struct Chars<'a> {
     pub(crate) snippet_start: Text<'a>,
     pub(crate) source_border_left: u32,

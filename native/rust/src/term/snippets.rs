@@ -6,7 +6,7 @@ use alloc::vec::Vec;
 
 use crate::diagnostic::{Diagnostic, Label, LabelStyle};
 use crate::files::{Error, Files};
-use crate::native;
+use crate::native::{self, Read, Request};
 use crate::term::excerpt::Excerpt;
 use crate::term::labeled_file::{line_at, LabeledFile, Position};
 use crate::term::Config;
@@ -113,13 +113,14 @@ impl<'diagnostic, FileId: Copy + PartialEq> Snippets<'diagnostic, FileId> {
         Ok(self.files.len() - 1)
     }
 
-    /// Looks up the sources, and the single lines between two shown ones, and passes all to
-    /// `render`, with a length that the snippets are expected not to exceed.
-    pub(super) fn render<'files, F: Files<'files, FileId = FileId> + ?Sized, R>(
+    /// Looks up the sources, and the single lines between two shown ones, renders all, and passes
+    /// the output to `read`.
+    pub(super) fn render<'files, F: Files<'files, FileId = FileId> + ?Sized>(
         mut self,
         files: &'files F,
-        render: impl FnOnce(&[native::File<'_>], &[native::Label<'_>], usize) -> R,
-    ) -> Result<R, Error> {
+        request: &Request<'_>,
+        read: Read<'_>,
+    ) -> Result<(), Error> {
         let mut sources: Vec<F::Source> = Vec::with_capacity(self.files.len());
         for file in &mut self.files {
             sources.push(files.source(file.id())?);
@@ -142,7 +143,7 @@ impl<'diagnostic, FileId: Copy + PartialEq> Snippets<'diagnostic, FileId> {
         let texts = excerpts.iter().map(|excerpt| excerpt.text().len());
         let messages = self.labels.iter().map(|label| label.message.len());
         let length = 2 * texts.sum::<usize>() + messages.sum::<usize>() + LABEL * labels.len();
-        Ok(render(&files, &labels, length))
+        Ok(request.render(&files, &labels, length, read)?)
     }
 }
 

@@ -7,16 +7,13 @@ use core::{iter, slice};
 
 use crate::diagnostic::{Diagnostic, Label, LabelStyle};
 use crate::files::{Error, Files};
-use crate::native::{self, replay, Form, Output, Request, Slice, Spelling};
-use crate::term::renderer::{GeneralWriteResult, Renderer};
+use crate::native::{self, replay, Form, Line, Read, Request, Slice, Spelling};
+use crate::term::renderer::Renderer;
 use crate::term::snippets::Snippets;
 use crate::term::{Config, DisplayStyle};
 
 /// The bytes that a header in short style is expected to have at most, besides its message.
 const HEADER: usize = 150;
-
-/// What reads an output.
-pub(super) type Read<'a> = &'a mut dyn FnMut(Output<'_>) -> GeneralWriteResult;
 
 /// The view of [`DisplayStyle::Rich`].
 pub struct RichDiagnostic<'diagnostic, 'config, FileId> {
@@ -71,27 +68,21 @@ where
     where
         FileId: 'files,
     {
-        let render = |files: &[native::File<'_>], labels: &[native::Label<'_>], length: usize| {
-            Request {
-                display_style: &DisplayStyle::Rich,
-                form,
-                characters,
-                context: self.config,
-                severity: self.diagnostic.severity,
-                code: self.diagnostic.code.as_deref().unwrap_or_default(),
-                message: &self.diagnostic.message,
-                notes: &self.diagnostic.notes,
-                files,
-                labels,
-                expected_length: length,
-            }
-            .render(read)
+        let request = Request {
+            display_style: &DisplayStyle::Rich,
+            form,
+            characters,
+            context: self.config,
+            severity: self.diagnostic.severity,
+            code: self.diagnostic.code.as_deref().unwrap_or_default(),
+            message: &self.diagnostic.message,
+            notes: &self.diagnostic.notes,
         };
         if self.diagnostic.labels.is_empty() {
-            return Ok(render(&[], &[], 0)?);
+            return Ok(request.render(&[], &[], 0, read)?);
         }
         let snippets = Snippets::look_up(self.diagnostic, self.config, files)?;
-        Ok(snippets.render(files, render)??)
+        snippets.render(files, &request, read)
     }
 }
 
@@ -155,27 +146,31 @@ where
     {
         let labels = self.diagnostic.labels.iter();
         let mut primary = labels.filter(|label| label.style == LabelStyle::Primary);
-        let request = self.request(self.show_notes, characters, form);
         let Some(first) = primary.next() else {
-            return Ok(request.render(read)?);
+            let request = self.request(self.show_notes, characters, form);
+            return Ok(request.render(&[], &[], 0, read)?);
         };
         let header = Header::look_up(files, first)?;
         let Some(second) = primary.next() else {
             // No vector is needed for one header.
+            let request = self.request(self.show_notes, characters, form);
             let (files, labels) = ([header.file()], [label_at_start(0)]);
-            return Ok(request.with_headers(&files, &labels).render(read)?);
+            return Ok(request.render(&files, &labels, self.length(1), read)?);
         };
         let (headers, result) = headers(files, header, iter::once(second).chain(primary));
-        let show_notes = self.show_notes && result.is_ok();
         let files: Vec<_> = headers.iter().map(Header::file).collect();
         let labels: Vec<_> = (0..headers.len()).map(label_at_start).collect();
-        self.request(show_notes, characters, form)
-            .with_headers(&files, &labels)
-            .render(read)?;
+        self.request(self.show_notes && result.is_ok(), characters, form)
+            .render(&files, &labels, self.length(headers.len()), read)?;
         result
     }
 
-    /// Returns what is rendered without a primary label.
+    /// Returns the length in bytes that some headers are expected not to exceed.
+    fn length(&self, headers: usize) -> usize {
+        headers * (HEADER + self.diagnostic.message.len())
+    }
+
+    /// Returns what is rendered besides the headers' files and labels.
     fn request<'a>(&'a self, show_notes: bool, characters: &'a Config, form: Form) -> Request<'a> {
         let (display_style, notes): (_, &[String]) = if show_notes {
             (&DisplayStyle::Medium, &self.diagnostic.notes)
@@ -191,21 +186,6 @@ where
             code: self.diagnostic.code.as_deref().unwrap_or_default(),
             message: &self.diagnostic.message,
             notes,
-            files: &[],
-            labels: &[],
-            expected_length: 0,
-        }
-    }
-}
-
-impl<'a> Request<'a> {
-    /// Returns what is rendered with these headers, each with a file and a label.
-    fn with_headers(self, files: &'a [native::File<'a>], labels: &'a [native::Label<'a>]) -> Self {
-        Request {
-            files,
-            labels,
-            expected_length: labels.len() * (HEADER + self.message.len()),
-            ..self
         }
     }
 }
@@ -228,6 +208,13 @@ where
     }
     (headers, Ok(()))
 }
+
+/// The line of a file without a text, which the archive need not look for so.
+const EMPTY_LINE: Line = Line {
+    start: 0,
+    end: 0,
+    number: 1,
+};
 
 /// What a header shows of its label: the file's name and a location.
 struct Header {
@@ -260,7 +247,7 @@ impl Header {
             source: "".into(),
             first_byte: 0,
             first_line: 0,
-            lines: Slice::new(&[]),
+            lines: Slice::new(&[EMPTY_LINE]),
             locations: Slice::new(slice::from_ref(&self.location)),
             reserved: [0; 2],
         }

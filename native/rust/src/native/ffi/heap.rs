@@ -36,14 +36,21 @@ extern "C" {
     fn free(memory: *mut u8);
 }
 
-fn allocation(memory: *mut u8) -> Allocation {
-    Allocation {
-        ok: !memory.is_null(),
-        memory: if memory.is_null() {
-            ptr::NonNull::dangling().as_ptr()
-        } else {
-            memory
-        },
+impl Allocation {
+    /// Returns that memory was allocated.
+    fn of(memory: *mut u8) -> Allocation {
+        Allocation { ok: true, memory }
+    }
+
+    /// Returns what one of these functions has returned, which is null where it failed.
+    fn from_c(memory: *mut u8) -> Allocation {
+        match ptr::NonNull::new(memory) {
+            Some(memory) => Allocation::of(memory.as_ptr()),
+            None => Allocation {
+                ok: false,
+                memory: ptr::NonNull::dangling().as_ptr(),
+            },
+        }
     }
 }
 
@@ -56,9 +63,20 @@ fn allocation(memory: *mut u8) -> Allocation {
 unsafe extern "C" fn rattle_alloc(size: usize, _align: usize) -> Allocation {
     #[cfg(feature = "std")]
     if let Some(memory) = arena::allocate(size) {
-        return allocation(memory);
+        return Allocation::of(memory);
     }
-    allocation(malloc(size.max(1)))
+    allocate_by_c(size)
+}
+
+/// Allocates memory by `malloc`, for an output that is larger than the arena.
+///
+/// # Safety
+///
+/// That of `rattle_alloc`.
+#[cold]
+#[inline(never)]
+unsafe extern "C" fn allocate_by_c(size: usize) -> Allocation {
+    Allocation::from_c(malloc(size.max(1)))
 }
 
 /// Changes the size of memory of the archive, whose first `kept` bytes stay.
@@ -76,7 +94,7 @@ unsafe extern "C" fn rattle_realloc(
     #[cfg(feature = "std")]
     if arena::has(memory) {
         if arena::resize(memory, size) {
-            return allocation(memory);
+            return Allocation::of(memory);
         }
         let moved = rattle_alloc(size, align);
         if moved.ok {
@@ -85,7 +103,7 @@ unsafe extern "C" fn rattle_realloc(
         return moved;
     }
     let (_, _) = (kept, align);
-    allocation(realloc(memory, size.max(1)))
+    Allocation::from_c(realloc(memory, size.max(1)))
 }
 
 /// Frees memory of the archive.

@@ -17,7 +17,7 @@ struct Memory {
     _bytes: [MaybeUninit<u8>; SIZE],
 }
 
-/// The pointers of an arena, all null where no call is running.
+/// The pointers of an arena, of which all but `last` are null where no call is running.
 struct Arena {
     start: Cell<*mut u8>,
     /// The start of what was taken last, or null where that was freed.
@@ -40,31 +40,43 @@ thread_local! {
 
 /// Makes a call of the archive, which allocates from an arena. The archive calls nothing of a user,
 /// so no call is made inside another one, and none of its memory is used once it has returned.
+#[inline]
 pub(crate) fn with_arena<R>(call: impl FnOnce() -> R) -> R {
     let mut memory = MaybeUninit::<Memory>::uninit();
     let start: *mut u8 = memory.as_mut_ptr().cast();
-    ARENA.with(|arena| arena.set(start, start.wrapping_add(SIZE)));
+    ARENA.with(|arena| {
+        arena.last.set(ptr::null_mut());
+        arena.set(start, start.wrapping_add(SIZE));
+    });
     let result = call();
     ARENA.with(|arena| arena.set(ptr::null_mut(), ptr::null_mut()));
     result
 }
 
 /// Takes memory, if there is room.
+#[inline]
 pub(super) fn allocate(size: usize) -> Option<*mut u8> {
-    ARENA.with(|arena| arena.take(arena.next.get(), size))
+    ARENA.with(|arena| {
+        let start = arena.next.get();
+        arena.take(start, size).then_some(start)
+    })
 }
 
 /// Returns true for memory of the arena.
+#[inline]
 pub(super) fn has(memory: *mut u8) -> bool {
-    ARENA.with(|arena| arena.start.get() <= memory && memory < arena.end.get())
+    // No memory is in the first bytes of the address space, where a null arena would be.
+    ARENA.with(|arena| (memory as usize).wrapping_sub(arena.start.get() as usize) < SIZE)
 }
 
 /// Changes the size of memory of the arena in its place, if it was taken last and there is room.
+#[inline]
 pub(super) fn resize(memory: *mut u8, size: usize) -> bool {
-    ARENA.with(|arena| memory == arena.last.get() && arena.take(memory, size).is_some())
+    ARENA.with(|arena| memory == arena.last.get() && arena.take(memory, size))
 }
 
 /// Frees memory of the arena.
+#[inline]
 pub(super) fn free(memory: *mut u8) {
     ARENA.with(|arena| {
         if memory == arena.last.get() {
@@ -75,24 +87,25 @@ pub(super) fn free(memory: *mut u8) {
 }
 
 impl Arena {
+    #[inline]
     fn set(&self, start: *mut u8, end: *mut u8) {
         self.start.set(start);
-        self.last.set(ptr::null_mut());
         self.next.set(start);
         self.end.set(end);
     }
 
-    /// Takes memory from a byte on, if there is room.
-    fn take(&self, start: *mut u8, size: usize) -> Option<*mut u8> {
+    /// Takes memory from a byte on, if there is room, and returns whether there is.
+    #[inline]
+    fn take(&self, start: *mut u8, size: usize) -> bool {
         let room = self.end.get() as usize - start as usize;
         if size.max(1) > room {
-            return None;
+            return false;
         }
         // The room is a multiple of the alignment, so it is not exceeded.
         let size = size.max(1).next_multiple_of(ALIGN);
         self.last.set(start);
         self.next.set(start.wrapping_add(size));
-        Some(start)
+        true
     }
 }
 
