@@ -17,6 +17,12 @@ use crate::files::{Error, Files};
 use crate::native::{Form, Spelling};
 use crate::term::{text_output, Config};
 
+mod style_sheet;
+
+pub use style_sheet::html_styles;
+#[cfg(feature = "termcolor")]
+pub use style_sheet::html_styles_of;
+
 /// A configuration of the original, with what it does not have.
 ///
 /// ```

@@ -15,7 +15,8 @@ use crate::term::{Config, DisplayStyle, GeneralWriteResult};
 
 use ffi::EmitError;
 pub(crate) use ffi::Read;
-pub(crate) use layout::{File, Label, Line, Location, Slice};
+pub(crate) use layout::Styles as NativeStyles;
+pub(crate) use layout::{ColorSpec, File, Label, Line, Location, Slice};
 pub(crate) use style_marks::{replay, write_text};
 
 /// The form of an output, and how changes of style are spelled in it.
@@ -148,6 +149,15 @@ impl Request<'_> {
         }
         config
     }
+}
+
+/// Returns the style sheet of HTML elements in these styles.
+///
+/// # Panics
+///
+/// Where a color has no number.
+pub(crate) fn style_sheet(styles: &NativeStyles) -> String {
+    ffi::html_styles(styles).unwrap_or_else(|error| fail(error))
 }
 
 /// Ends a call of the archive that has no output.

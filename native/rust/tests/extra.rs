@@ -2,9 +2,11 @@
 //! outputs are written by hand.
 
 use codespan_reporting::diagnostic::{Diagnostic, Label};
+use codespan_reporting::extra::{html_styles, html_styles_of};
 use codespan_reporting::extra::{safe, safe_in_color, to_html, to_svg};
 use codespan_reporting::files::{Error, SimpleFile, SimpleFiles};
-use codespan_reporting::term::Config;
+use codespan_reporting::term::termcolor::{Color, ColorSpec};
+use codespan_reporting::term::{Config, Styles};
 
 fn no_files() -> SimpleFiles<&'static str, &'static str> {
     SimpleFiles::new()
@@ -52,4 +54,82 @@ fn a_lookup_that_fails() {
         to_html(&Config::default(), &no_files(), &diagnostic),
         Err(Error::FileMissing)
     ));
+}
+
+#[test]
+fn the_style_sheet_is_that_of_the_gallery() {
+    let page = include_str!("../../../docs/pictures/gallery.html");
+    let css = html_styles();
+    assert!(page.contains(&css) && css.lines().count() == 18);
+    assert_eq!(html_styles_of(&Styles::default()), Some(css));
+}
+
+/// Returns a field.
+type Field = fn(&mut Styles) -> &mut ColorSpec;
+
+/// Each field of the styles by its class.
+const CLASSES: [(&str, Field); 15] = [
+    ("header-bug", |styles| &mut styles.header_bug),
+    ("header-error", |styles| &mut styles.header_error),
+    ("header-warning", |styles| &mut styles.header_warning),
+    ("header-note", |styles| &mut styles.header_note),
+    ("header-help", |styles| &mut styles.header_help),
+    ("header-message", |styles| &mut styles.header_message),
+    ("primary-label-bug", |styles| &mut styles.primary_label_bug),
+    ("primary-label-error", |styles| {
+        &mut styles.primary_label_error
+    }),
+    ("primary-label-warning", |styles| {
+        &mut styles.primary_label_warning
+    }),
+    ("primary-label-note", |styles| {
+        &mut styles.primary_label_note
+    }),
+    ("primary-label-help", |styles| {
+        &mut styles.primary_label_help
+    }),
+    ("secondary-label", |styles| &mut styles.secondary_label),
+    ("line-number", |styles| &mut styles.line_number),
+    ("source-border", |styles| &mut styles.source_border),
+    ("note-bullet", |styles| &mut styles.note_bullet),
+];
+
+#[test]
+fn each_style_has_its_rule() {
+    let colors = [
+        (Color::Black, "#000000"),
+        (Color::Red, "#cd0000"),
+        (Color::Green, "#00cd00"),
+        (Color::Yellow, "#cdcd00"),
+        (Color::Blue, "#0000ee"),
+        (Color::Magenta, "#cd00cd"),
+        (Color::Cyan, "#00cdcd"),
+        (Color::White, "#e5e5e5"),
+    ];
+    for ((class, field), (color, rgb)) in CLASSES.iter().zip(colors.iter().cycle()) {
+        let mut styles = Styles::no_color();
+        field(&mut styles)
+            .set_fg(Some(*color))
+            .set_bg(Some(Color::White))
+            .set_bold(true);
+        let css = html_styles_of(&styles).unwrap();
+        let rule =
+            format!("{class} {{ color: {rgb}; background-color: #e5e5e5; font-weight: bold; }}");
+        assert!(css.contains(&format!(".diagnostic .{rule}\n")), "{css}");
+        assert_eq!(css.matches("color: #").count(), 2);
+    }
+}
+
+#[test]
+fn styles_that_a_sheet_does_not_have() {
+    let changes: [fn(&mut ColorSpec) -> &mut ColorSpec; 3] = [
+        |spec| spec.set_fg(Some(Color::Ansi256(9))),
+        |spec| spec.set_bg(Some(Color::Rgb(1, 2, 3))),
+        |spec| spec.set_underline(true),
+    ];
+    for change in changes {
+        let mut styles = Styles::default();
+        change(&mut styles.note_bullet);
+        assert_eq!(html_styles_of(&styles), None);
+    }
 }

@@ -4,6 +4,9 @@
 #![allow(unsafe_code)]
 
 mod heap;
+mod texts;
+
+pub(crate) use texts::html_styles;
 
 use alloc::vec::Vec;
 use core::mem::MaybeUninit;

@@ -159,16 +159,17 @@ pub(crate) struct Chars<'a> {
 #[repr(C)]
 #[derive(Clone, Copy, Default)]
 pub(crate) struct ColorSpec {
-    fg: u32,
-    bg: u32,
-    bold: u32,
-    intense: u32,
+    pub(crate) fg: u32,
+    pub(crate) bg: u32,
+    pub(crate) bold: u32,
+    pub(crate) intense: u32,
 }
 
-/// The number of styles of a configuration.
+/// The number of styles.
 const STYLES: usize = 15;
 
-/// The styles, which the archive does not read in the color modes that are used here.
+/// The styles, in the order of the fields of `codespan_styles`. Those of a configuration are not
+/// read in the color modes that are used here.
 pub(crate) type Styles = [ColorSpec; STYLES];
 
 /// A configuration.
