@@ -6,8 +6,9 @@
  *     codespan::print(stderr, {file}, diagnostic);
  *
  * Texts are views in UTF-8: what they view has to live until the call returns. So a text that is
- * put together, such as "unknown name " + name, has to be in a std::string of its own. Byte indices
- * start at 0 and count from the start of the file, ends are exclusive; both may be any number.
+ * put together, such as "unknown name " + name, has to be in a std::string of its own: a Text is
+ * not made of a temporary one. Byte indices start at 0 and count from the start of the file, ends
+ * are exclusive; both may be any number.
  *
  * emit and print throw codespan::Error. Without exceptions (-fno-exceptions) call try_emit, which
  * returns a status in its place.
@@ -24,10 +25,25 @@
 #include <new>
 #include <string>
 #include <string_view>
+#include <type_traits>
 #include <utility>
 #include <vector>
 
 namespace codespan {
+
+/* A view of a text, made of what a std::string_view is made of, but of no temporary std::string: it
+ * would be gone before the call. Within one statement std::string_view(a + b) makes a view of one.
+ */
+class Text : public std::string_view {
+  public:
+    constexpr Text() noexcept = default;
+
+    template <class T, class = std::enable_if_t<std::is_convertible_v<const T &, std::string_view>>>
+    constexpr Text(const T &text) : std::string_view(text) {}
+
+    template <class Allocator>
+    Text(const std::basic_string<char, std::char_traits<char>, Allocator> &&) = delete;
+};
 
 /* How bad what a diagnostic reports is. */
 enum class Severity : std::uint32_t {
@@ -73,8 +89,8 @@ enum class Colors : std::uint32_t {
 
 /* A file, or a window of one: codespan_file of codespan.h says what the numbers mean. */
 struct File {
-    std::string_view name;
-    std::string_view source = {};
+    Text name;
+    Text source = {};
     std::size_t first_byte = 0; /* byte index in the file of the first byte of `source` */
     std::size_t first_line = 0; /* how many lines are before it */
     std::vector<codespan_line> lines = {};         /* none: a line starts after each newline */
@@ -87,28 +103,26 @@ struct Label {
     std::size_t file;    /* index in the files that are passed */
     std::size_t start;   /* byte index in the file */
     std::size_t end;     /* byte index in the file, exclusive */
-    std::string_view message = {};
+    Text message = {};
 };
 
 /* Returns a primary label: what the diagnostic is about. */
-inline Label primary(std::size_t file, std::size_t start, std::size_t end,
-                     std::string_view message = {}) {
+inline Label primary(std::size_t file, std::size_t start, std::size_t end, Text message = {}) {
     return {CODESPAN_PRIMARY, file, start, end, message};
 }
 
 /* Returns a secondary label: what helps to understand a primary one. */
-inline Label secondary(std::size_t file, std::size_t start, std::size_t end,
-                       std::string_view message = {}) {
+inline Label secondary(std::size_t file, std::size_t start, std::size_t end, Text message = {}) {
     return {CODESPAN_SECONDARY, file, start, end, message};
 }
 
 /* A diagnostic. */
 struct Diagnostic {
     Severity severity;
-    std::string_view message;
-    std::string_view code = {};
+    Text message;
+    Text code = {};
     std::vector<Label> labels = {};
-    std::vector<std::string_view> notes = {};
+    std::vector<Text> notes = {};
 };
 
 /* A configuration. */
@@ -213,7 +227,7 @@ class Call {
         for (const Label &label : diagnostic.labels)
             labels_.push_back(c_label(label));
         notes_.reserve(diagnostic.notes.size());
-        for (std::string_view note : diagnostic.notes)
+        for (Text note : diagnostic.notes)
             notes_.push_back(text(note));
         diagnostic_ = {static_cast<std::uint32_t>(diagnostic.severity),
                        text(diagnostic.code),
