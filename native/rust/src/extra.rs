@@ -1,12 +1,12 @@
 //! What the original does not have: safe text for a terminal, HTML and SVG, and lines of a greatest
-//! width.
+//! width; positions of an editor, and edits of a text.
 //!
 //! Safe text has what a terminal shows: no control character but tab and newline, no directional
 //! control, and no escape sequence but those of colors. So no name, source or message can start an
 //! escape sequence or reorder a row. HTML and SVG show the same characters.
 //!
-//! Each function takes a configuration of the original, or [`Settings`] with what such a one lacks. It
-//! fails with the error of the first lookup that fails, and panics where
+//! Each function that renders takes a configuration of the original, or [`Settings`] with what such
+//! a one lacks. It fails with the error of the first lookup that fails, and panics where
 //! [`emit_into_string`](crate::term::emit_into_string) does.
 
 use alloc::string::String;
@@ -17,8 +17,12 @@ use crate::files::{Error, Files};
 use crate::native::{Form, Spelling};
 use crate::term::{text_output, Config};
 
+mod edits;
+mod positions;
 mod style_sheet;
 
+pub use edits::{apply_edits, Edit, EditError};
+pub use positions::{byte, position, Encoding, Position};
 pub use style_sheet::html_styles;
 #[cfg(feature = "termcolor")]
 pub use style_sheet::html_styles_of;

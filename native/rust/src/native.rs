@@ -16,7 +16,10 @@ use crate::term::{Config, DisplayStyle, GeneralWriteResult};
 use ffi::EmitError;
 pub(crate) use ffi::Read;
 pub(crate) use layout::Styles as NativeStyles;
-pub(crate) use layout::{ColorSpec, File, Label, Line, Location, Slice};
+pub(crate) use layout::{
+    ColorSpec, Detail, Edit, EditorPosition, File, Label, Line, Location, Slice, CHAR_BOUNDARY,
+    COLUMN_TOO_LARGE, EDIT_BOUNDARY, EDIT_OVERLAP, EDIT_PAST_END, EDIT_REVERSED, LINE_TOO_LARGE,
+};
 pub(crate) use style_marks::{replay, write_text};
 
 /// The form of an output, and how changes of style are spelled in it.
@@ -160,6 +163,37 @@ pub(crate) fn style_sheet(styles: &NativeStyles) -> String {
     ffi::html_styles(styles).unwrap_or_else(|error| fail(error))
 }
 
+/// Returns the position of a byte of a file, or why it has none.
+pub(crate) fn position(
+    file: &File<'_>,
+    encoding: u32,
+    byte: usize,
+) -> Result<EditorPosition, Detail> {
+    ffi::position(file, encoding, byte).map_err(invalid)
+}
+
+/// Returns the byte at a position of a file, or why there is none.
+pub(crate) fn byte(
+    file: &File<'_>,
+    encoding: u32,
+    position: &EditorPosition,
+) -> Result<usize, Detail> {
+    ffi::byte(file, encoding, position).map_err(invalid)
+}
+
+/// Returns a text after all edits, or which edit is invalid.
+pub(crate) fn apply_edits(source: &str, edits: &[Edit<'_>]) -> Result<String, Detail> {
+    ffi::apply_edits(source, edits).map_err(invalid)
+}
+
+/// Returns the argument that is invalid. Ends where an allocation failed.
+fn invalid(error: EmitError) -> Detail {
+    match error {
+        EmitError::Invalid(detail) => detail,
+        error => fail(error),
+    }
+}
+
 /// Ends a call of the archive that has no output.
 #[cold]
 fn fail(error: EmitError) -> ! {
@@ -169,11 +203,17 @@ fn fail(error: EmitError) -> ! {
         EmitError::Invalid(detail) if detail.argument == layout::FILE_LINES => {
             unreachable!("the lines of an excerpt overlap, or do not ascend: {detail:?}")
         }
-        EmitError::Invalid(detail) => panic!(
-            "the archive does not take these structs; is its ABI {}? {detail:?}",
-            layout::ABI
-        ),
+        EmitError::Invalid(detail) => refused(&detail),
     }
+}
+
+/// Ends a call of the archive that does not take an argument which it should take.
+#[cold]
+pub(crate) fn refused(detail: &Detail) -> ! {
+    panic!(
+        "the archive does not take these structs; is its ABI {}? {detail:?}",
+        layout::ABI
+    )
 }
 
 /// Returns the number of a display style.

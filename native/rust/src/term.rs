@@ -19,6 +19,8 @@ mod snippets;
 mod styles;
 mod views;
 
+pub(crate) use excerpt::slice;
+
 pub use config::{Chars, Config, DisplayStyle};
 pub use renderer::{GeneralWrite, GeneralWriteResult, Renderer, WriteStyle};
 #[cfg(feature = "termcolor")]

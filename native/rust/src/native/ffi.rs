@@ -4,9 +4,11 @@
 #![allow(unsafe_code)]
 
 mod heap;
+mod positions;
 mod texts;
 
-pub(crate) use texts::html_styles;
+pub(crate) use positions::{byte, position};
+pub(crate) use texts::{apply_edits, html_styles};
 
 use alloc::vec::Vec;
 use core::mem::MaybeUninit;

@@ -3,8 +3,14 @@
 
 use core::marker::PhantomData;
 
+mod editor;
 #[cfg(all(test, feature = "std"))]
 mod header;
+
+pub(crate) use editor::{
+    Edit, EditorPosition, CHAR_BOUNDARY, COLUMN_TOO_LARGE, EDIT_BOUNDARY, EDIT_OVERLAP,
+    EDIT_PAST_END, EDIT_REVERSED, LINE_TOO_LARGE,
+};
 
 /// The ABI version of these layouts: `CODESPAN_ABI`.
 pub(crate) const ABI: u32 = 2;
@@ -64,6 +70,10 @@ impl<'a, T> Slice<'a, T> {
             length: items.len(),
             borrowed: PhantomData,
         }
+    }
+
+    pub(crate) fn len(&self) -> usize {
+        self.length
     }
 }
 

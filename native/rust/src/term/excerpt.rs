@@ -182,7 +182,7 @@ impl<'source> Excerpt<'source> {
 }
 
 /// Returns the bytes of a range of a source.
-fn slice(source: &str, range: Range<usize>) -> Result<&str, Error> {
+pub(crate) fn slice(source: &str, range: Range<usize>) -> Result<&str, Error> {
     source.get(range.clone()).ok_or_else(|| {
         let max = source.len();
         let off_boundary = [range.start, range.end]

@@ -4,7 +4,7 @@ use alloc::string::String;
 use alloc::vec;
 
 use super::EmitError;
-use crate::native::layout::{Detail, Styles, OK, OUT_OF_MEMORY, TOO_SMALL};
+use crate::native::layout::{Detail, Edit, Styles, OK, OUT_OF_MEMORY, TOO_SMALL};
 
 extern "C" {
     fn codespan_html_styles(
@@ -12,6 +12,17 @@ extern "C" {
         out: *mut u8,
         out_length: usize,
         written: *mut usize,
+    ) -> u32;
+
+    fn codespan_apply_edits(
+        source: *const u8,
+        source_length: usize,
+        edits: *const Edit<'_>,
+        edits_length: usize,
+        out: *mut u8,
+        out_length: usize,
+        written: *mut usize,
+        detail: *mut Detail,
     ) -> u32;
 }
 
@@ -31,6 +42,33 @@ pub(crate) fn html_styles(styles: &Styles) -> Result<String, EmitError> {
     })
 }
 
+/// Returns a text after all edits.
+///
+/// # Errors
+///
+/// Those of [`text_of`].
+pub(crate) fn apply_edits(source: &str, edits: &[Edit<'_>]) -> Result<String, EmitError> {
+    let replacements = edits.iter().map(|edit| edit.replacement.len());
+    let length = source.len() + replacements.sum::<usize>();
+    text_of(length, |room, written, detail| {
+        // SAFETY: the edits have the layout of the header, and each replacement has the pointer and
+        // the length of a slice that it borrows. `room` is written, which overlaps nothing else,
+        // and not more than its length.
+        unsafe {
+            codespan_apply_edits(
+                source.as_ptr(),
+                source.len(),
+                edits.as_ptr(),
+                edits.len(),
+                room.as_mut_ptr(),
+                room.len(),
+                written,
+                detail,
+            )
+        }
+    })
+}
+
 /// Returns the text that a call of the archive writes into the room that it is passed. A text that
 /// is longer than expected takes a second call.
 ///
@@ -38,7 +76,7 @@ pub(crate) fn html_styles(styles: &Styles) -> Result<String, EmitError> {
 ///
 /// [`EmitError::OutOfMemory`] where an allocation of the archive fails, and [`EmitError::Invalid`]
 /// where it does not accept an argument.
-pub(super) fn text_of(
+fn text_of(
     expected_length: usize,
     call: impl Fn(&mut [u8], &mut usize, &mut Detail) -> u32,
 ) -> Result<String, EmitError> {

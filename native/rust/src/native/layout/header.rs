@@ -9,7 +9,10 @@ use crate::diagnostic::{LabelStyle, Severity};
 use crate::native::{display_style_number, label_style_number, severity_number, Spelling};
 use crate::term::DisplayStyle;
 
-const HEADER: &str = include_str!("../../../../include/codespan.h");
+const HEADER: &str = concat!(
+    include_str!("../../../../include/codespan.h"),
+    include_str!("../../../../include/codespan_editor.h")
+);
 
 /// How C lays out a type.
 #[derive(Clone, Default)]
@@ -103,6 +106,8 @@ fn structs_are_those_of_the_header() {
         size_of::<Styles>()
     );
     assert_layout!("codespan_detail", Detail, argument index);
+    assert_layout!("codespan_editor_position", EditorPosition, line character);
+    assert_layout!("codespan_edit", Edit<'_>, start end replacement reserved);
     assert_layout!(
         "codespan_chars", Chars<'_>,
         snippet_start source_border_left source_border_left_break note_bullet
@@ -134,6 +139,17 @@ fn numbers_are_those_of_the_header() {
     assert_eq!(TOO_SMALL, constant("TOO_SMALL"));
     assert_eq!(OUT_OF_MEMORY, constant("OUT_OF_MEMORY"));
     assert_eq!(FILE_LINES, constant("ARGUMENT_FILE_LINES"));
+    for (argument, name) in [
+        (LINE_TOO_LARGE, "LINE_TOO_LARGE"),
+        (COLUMN_TOO_LARGE, "COLUMN_TOO_LARGE"),
+        (CHAR_BOUNDARY, "CHAR_BOUNDARY"),
+        (EDIT_REVERSED, "EDIT_REVERSED"),
+        (EDIT_PAST_END, "EDIT_PAST_END"),
+        (EDIT_BOUNDARY, "EDIT_BOUNDARY"),
+        (EDIT_OVERLAP, "EDIT_OVERLAP"),
+    ] {
+        assert_eq!(argument, constant(&format!("ARGUMENT_{name}")), "{name}");
+    }
     assert_eq!(CLASSIC, constant("CLASSIC"));
     assert_eq!(COLORS_OFF, constant("COLORS_OFF"));
     assert_eq!(CUSTOM_CHARS, constant("CUSTOM_CHARS"));
