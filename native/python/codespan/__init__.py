@@ -12,7 +12,8 @@ each form.
 
 Texts are `str`, or `bytes` in UTF-8. Indices of sources count **bytes of UTF-8**, from 0, and ends
 are exclusive: `Label.of_characters` takes characters. Numbers are from 0 to 2**64 - 1.
-`File.read` reads a file, also one that is not UTF-8.
+`File.read` reads a file, also one that is not UTF-8. `position` and `byte` convert between bytes
+and the positions of an editor, and `apply_edits` edits a text.
 """
 from __future__ import annotations
 
@@ -24,12 +25,14 @@ from typing import Optional, Sequence, TextIO, Union
 
 from . import _native
 from ._argument import Argument, InvalidArgument
+from ._editor import Edit, Encoding, Position, apply_edits, byte, position
 
 __all__ = [
     'Argument', 'Characters', 'Chars', 'Color', 'ColorMode', 'ColorSpec', 'Config', 'Diagnostic',
-    'DisplayStyle', 'File', 'Form', 'InvalidArgument', 'Label', 'LabelStyle', 'Layout', 'Line',
-    'Location', 'Severity', 'Styles', 'byte_index', 'emit', 'has_colors', 'html_styles', 'print',
-    'to_html', 'to_svg', 'utf8',
+    'DisplayStyle', 'Edit', 'Encoding', 'File', 'Form', 'InvalidArgument', 'Label', 'LabelStyle',
+    'Layout', 'Line', 'Location', 'Position', 'Severity', 'Styles', 'apply_edits', 'byte',
+    'byte_index', 'emit', 'has_colors', 'html_styles', 'position', 'print', 'to_html', 'to_svg',
+    'utf8',
 ]
 
 __version__ = '0.1.0'

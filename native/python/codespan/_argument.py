@@ -1,11 +1,12 @@
-"""The arguments of `emit` that can be invalid, and the exception that names one."""
+"""The arguments that can be invalid, and the exception that names one."""
 from __future__ import annotations
 
 from enum import IntEnum
 
 
 class Argument(IntEnum):
-    """An argument of `emit` that can be invalid. They are checked in this order."""
+    """An argument that can be invalid: those up to 24 are of `emit`, and are checked in this
+    order."""
     NONE = 0
     ABI = 1
     DISPLAY_STYLE = 2
@@ -31,6 +32,16 @@ class Argument(IntEnum):
     LABEL_FILE = 22  #: not one of the files; index: the label
     LABEL_RESERVED = 23  #: index: the label
     NOTE = 24  #: index: the note
+    ENCODING = 25
+    LINE_TOO_LARGE = 26  #: no line of the file, or one whose index is greater than 2**32 - 1
+    COLUMN_TOO_LARGE = 27  #: past the end of the line; index: that end
+    CHAR_BOUNDARY = 28  #: inside a character
+    EDIT_REPLACEMENT = 29  #: not UTF-8; index: the edit
+    EDIT_RESERVED = 30  #: index: the edit
+    EDIT_REVERSED = 31  #: the end is before the start; index: the edit
+    EDIT_PAST_END = 32  #: the end is past the end of the source; index: the edit
+    EDIT_BOUNDARY = 33  #: the start or the end is inside a character; index: the edit
+    EDIT_OVERLAP = 34  #: it starts before the end of another one before it; index: the edit
 
 
 class InvalidArgument(ValueError):

@@ -98,6 +98,15 @@ class Detail(c.Structure):
     _fields_ = [('argument', c.c_uint32), ('index', c.c_size_t)]
 
 
+class Position(c.Structure):
+    _fields_ = [('line', c.c_uint32), ('character', c.c_uint32)]
+
+
+class Edit(c.Structure):
+    _fields_ = [('start', c.c_size_t), ('end', c.c_size_t), ('replacement', Text),
+                ('reserved', c.c_size_t * 2)]
+
+
 class Outcome(NamedTuple):
     """What a call returned. `output` is empty unless the status is OK, and `argument_index` is that
     of several arguments of one number."""
@@ -128,6 +137,15 @@ def load() -> c.CDLL:
     library.codespan_status_text.argtypes = [c.c_uint32, c.c_uint32, c.c_char_p, c.c_size_t, size]
     library.codespan_html_styles.restype = c.c_uint32
     library.codespan_html_styles.argtypes = [c.POINTER(Styles), c.c_char_p, c.c_size_t, size]
+    library.codespan_position.restype = c.c_uint32
+    library.codespan_position.argtypes = [c.POINTER(File), c.c_uint32, c.c_size_t,
+                                          c.POINTER(Position), c.POINTER(Detail)]
+    library.codespan_byte.restype = c.c_uint32
+    library.codespan_byte.argtypes = [c.POINTER(File), c.c_uint32, c.POINTER(Position), size,
+                                      c.POINTER(Detail)]
+    library.codespan_apply_edits.restype = c.c_uint32
+    library.codespan_apply_edits.argtypes = [c.c_char_p, c.c_size_t, c.POINTER(Edit), c.c_size_t,
+                                             c.c_char_p, c.c_size_t, size, c.POINTER(Detail)]
     if library.codespan_abi_version() != ABI:
         raise ImportError('libcodespan.so has another ABI than this module')
     return library
@@ -149,9 +167,14 @@ def choice(value: SupportsIndex) -> int:
     return number(value, U32_MAX)
 
 
+def data_of(text: Union[str, bytes]) -> bytes:
+    """Returns a text in UTF-8."""
+    return text.encode() if isinstance(text, str) else bytes(memoryview(text))
+
+
 def text_of(text: Union[str, bytes]) -> Text:
     """Returns the struct of a text."""
-    data = text.encode() if isinstance(text, str) else bytes(memoryview(text))
+    data = data_of(text)
     return Text(data, len(data))
 
 

@@ -1,17 +1,13 @@
 """Tests of the module, over the library that it loads."""
-import ctypes
 import dataclasses
 import io
 import os
 import pickle
 import random
 import re
-import subprocess
 import unittest
 import xml.etree.ElementTree as ElementTree
 from concurrent.futures import ThreadPoolExecutor
-from enum import IntEnum
-from pathlib import Path
 from unittest import mock
 
 import codespan
@@ -20,7 +16,6 @@ from codespan import (Argument, Characters, Chars, ColorMode, ColorSpec, Config,
                       DisplayStyle, File, Form, InvalidArgument, Label, LabelStyle, Line, Location,
                       Severity, Styles)
 
-HEADER = Path(__file__).resolve().parents[2] / 'include' / 'codespan.h'
 SETTINGS = File('settings.conf', 'retries = many\n')
 LINES = File('a.txt', 'one\ntwo\nthree\n')
 
@@ -288,60 +283,6 @@ class Errors(unittest.TestCase):
         label = Label(greatest, greatest, 'past the end')
         output = codespan.emit([SETTINGS], Diagnostic('m', labels=[label]))
         self.assertIn('past the end', output)
-
-
-STRUCTS = {
-    'text': _native.Text, 'line': _native.Line, 'location': _native.Location, 'file': _native.File,
-    'label': _native.Label, 'diagnostic': _native.Diagnostic, 'chars': _native.Chars,
-    'color_spec': _native.ColorSpec, 'styles': _native.Styles, 'config': _native.Config,
-    'detail': _native.Detail,
-}
-
-# the name of a constant of an enumeration in the header, after CODESPAN_
-ENUMERATIONS = {
-    codespan.Severity: '%s', codespan.LabelStyle: '%s', codespan.DisplayStyle: '%s',
-    codespan.Layout: '%s', codespan.Characters: '%s_CHARS', codespan.Form: '%s',
-    codespan.ColorMode: '%s',
-    codespan.Color: '%s', codespan.Argument: 'ARGUMENT_%s',
-}
-
-
-def struct_assertions(name, struct):
-    """Yields assertions in C that a struct is laid out as the header's."""
-    yield 'sizeof(codespan_%s) == %d' % (name, ctypes.sizeof(struct))
-    for field, _ in struct._fields_:
-        yield 'offsetof(codespan_%s, %s) == %d' % (name, field, getattr(struct, field).offset)
-
-
-def enumeration_assertions(enumeration: type[IntEnum], form):
-    """Yields assertions in C that constants are the header's."""
-    for item in enumeration:
-        special = {'Color.NONE': 'NO_COLOR', 'ColorMode.OFF': 'COLORS_OFF'}
-        key = '%s.%s' % (enumeration.__name__, item.name)
-        name = special.get(key, form % item.name)
-        yield 'CODESPAN_%s == %d' % (name, item)
-
-
-class Header(unittest.TestCase):
-
-    def test_header(self):
-        """A C compiler finds each struct and each constant of the module in the header."""
-        conditions = ['CODESPAN_ABI == %d' % _native.ABI, 'CODESPAN_OK == %d' % _native.OK,
-                      'CODESPAN_TOO_SMALL == %d' % _native.TOO_SMALL,
-                      'CODESPAN_OUT_OF_MEMORY == %d' % _native.OUT_OF_MEMORY,
-                      'CODESPAN_STATUS_TEXT_MAX == %d' % _native.STATUS_TEXT_MAX]
-        for name, struct in STRUCTS.items():
-            conditions += struct_assertions(name, struct)
-        for enumeration, form in ENUMERATIONS.items():
-            conditions += enumeration_assertions(enumeration, form)
-        program = '#include "%s"\n' % HEADER
-        program += ''.join('_Static_assert(%s, "");\n' % condition for condition in conditions)
-        subprocess.run(['cc', '-std=c11', '-fsyntax-only', '-x', 'c', '-'], input=program,
-                       text=True, check=True)
-
-    def test_no_struct_is_left_out(self):
-        declared = re.findall(r'^} codespan_(\w+);', HEADER.read_text(), re.MULTILINE)
-        self.assertEqual(sorted(declared), sorted(STRUCTS))
 
 
 if __name__ == '__main__':
