@@ -20,19 +20,21 @@ const SEVERITIES: [Severity; 5] = [
 /// Writes an output with style marks: its texts by writes, and its style marks by the calls that
 /// set a style.
 pub(crate) fn replay<W: WriteStyle + ?Sized>(output: &[u8], writer: &mut W) -> GeneralWriteResult {
-    let (text, mut rest) = output.split_at(text_length(output));
-    write_bytes(writer, text)?;
-    // The byte of a style mark is never the last one: its number follows.
-    while let [_, mark, after @ ..] = rest {
-        set_style(writer, *mark)?;
-        let (text, marks) = after.split_at(text_length(after));
+    let mut rest = output;
+    loop {
+        let (text, marks) = rest.split_at(text_length(rest));
         write_bytes(writer, text)?;
-        rest = marks;
+        // The byte of a style mark is never the last one: its number follows.
+        let [_, mark, after @ ..] = marks else {
+            return Ok(());
+        };
+        set_style(writer, *mark)?;
+        rest = after;
     }
-    Ok(())
 }
 
 /// Returns the number of bytes before the first style mark.
+#[inline]
 fn text_length(output: &[u8]) -> usize {
     const LOW: u64 = u64::from_ne_bytes([1; 8]);
     const HIGH: u64 = u64::from_ne_bytes([128; 8]);
