@@ -76,11 +76,12 @@ uint32_t codespan_position(const codespan_file *file, uint32_t encoding, size_t 
  * CODESPAN_OK; or sets it to 0, and returns CODESPAN_INVALID or CODESPAN_OUT_OF_MEMORY. It takes
  * time in proportion to the length of the source.
  *
- * A position may be at the end of its line, which is after the '\n' where lines start after those.
- * A character past it is CODESPAN_ARGUMENT_COLUMN_TOO_LARGE, with the length of the line in code
- * units as index: the protocol takes such a position as the one of that character. Of several
- * invalid arguments `detail` names the first one, in the order of codespan_position; `position` is
- * the last one. */
+ * A position may be at the end of its line, which is after the '\n' where lines start after those,
+ * and then is the start of the next line. A character past it is
+ * CODESPAN_ARGUMENT_COLUMN_TOO_LARGE, with the length of the line in code units as index; the
+ * Language Server Protocol takes such a position as the end of the line, before its '\n'. Of
+ * several invalid arguments `detail` names the first one, in the order of codespan_position;
+ * `position` is the last one. */
 uint32_t codespan_byte(const codespan_file *file, uint32_t encoding,
                        const codespan_editor_position *position, size_t *byte,
                        codespan_detail *detail);
