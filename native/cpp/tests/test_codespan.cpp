@@ -54,6 +54,9 @@ void test_texts() {
     config.display_style = codespan::DisplayStyle::Short;
     config.characters = codespan::Characters::Ascii;
     check(text_of(unknown_name(), config) == ASCII_SHORT, "short style");
+    check(codespan::detail::c_config(config).max_width == 0, "lines of any width");
+    config.max_width = 7;
+    check(codespan::detail::c_config(config).max_width == 7, "lines of a greatest width");
     const codespan::Diagnostic bare{codespan::Severity::Bug, ""};
     check(text_of(bare) == "bug: \n\n", "a diagnostic without labels");
 }

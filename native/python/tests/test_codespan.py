@@ -117,6 +117,12 @@ class Output(unittest.TestCase):
             'error: m', '  ┌─ a.txt:1:5', '  │', '1 │ 路 = 🗻é;', '  │      ^^- there',
             '  │      │  ', '  │      here', '', '']))
 
+    def test_max_width(self):
+        for width, passed in [(None, 0), (0, 0), (80, 80)]:
+            self.assertEqual(_native.config_of(Config(max_width=width)).max_width, passed)
+        with self.assertRaises(ValueError):
+            codespan.emit([LINES], odd_value(), Config(max_width=-1))
+
     def test_short(self):
         labels = [Label(5, 6, 'x'), Label(9, 10, 'y'), Label(1, 2, 'z', LabelStyle.SECONDARY)]
         diagnostic = Diagnostic('m', Severity.BUG, labels=labels, notes=['n'])

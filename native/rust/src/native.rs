@@ -243,3 +243,32 @@ pub(crate) fn label_style_number(style: LabelStyle) -> u32 {
         LabelStyle::Secondary => 1,
     }
 }
+
+#[cfg(all(test, feature = "std"))]
+mod tests {
+    use super::*;
+
+    #[test]
+    fn the_greatest_width_is_passed_on() {
+        let config = Config::default();
+        for (max_width, passed) in [(None, 0), (NonZeroUsize::new(7), 7)] {
+            let request = Request {
+                display_style: &config.display_style,
+                form: Form {
+                    spelling: Spelling::Safe,
+                    max_width,
+                },
+                characters: &config,
+                context: &config,
+                severity: Severity::Note,
+                code: "",
+                message: "m",
+                notes: &[],
+                files: &[],
+                labels: &[],
+                expected_length: 0,
+            };
+            assert_eq!(request.config().max_width, passed);
+        }
+    }
+}
