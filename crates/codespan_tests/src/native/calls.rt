@@ -91,7 +91,7 @@ pub const DIAGNOSTIC: RawDiagnostic<'static> = RawDiagnostic {
 };
 
 /// A file without text.
-const FILE: RawFile<'static> = RawFile {
+pub const FILE: RawFile<'static> = RawFile {
     name: b"f.txt",
     source: b"",
     first_byte: 0,
