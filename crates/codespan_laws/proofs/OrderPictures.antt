@@ -18,8 +18,7 @@ use Rattle.codespan_output.specs.CharMetrics.{text_without_line_end}
 use Rattle.codespan_output.specs.LineLaws.{shown_lines}
 use Rattle.codespan_output.specs.Lines.{shows, is_shown, drawn_lines, spans}
 use Rattle.codespan_output.specs.Padding.{numbered_lines}
-use Rattle.codespan_output.specs.OutputStreams.{context_of, rendered}
-use Rattle.codespan_output.specs.RowStreams.{stream_of_rows}
+use Rattle.codespan_output.specs.OutputStreams.{context_of, fitted_stream, rendered}
 use Rattle.codespan_output.specs.Rows.{Locus, HeaderText, Lanes, Line, HeaderRow, SnippetStartRow}
 use Rattle.codespan_output.specs.Rows.{EmptyRow, FinalRow}
 use Rattle.codespan_output.specs.Snippets.{LabeledFileModel, LabelInFile, labeled_file_model}
@@ -190,7 +189,8 @@ module _ {Id : Type 0} (view_config : Config) (g h : Id → LabeledFileModel)
       → rendered Rich renderer_config view_config severity header_text ps (map g ids)
       notes ≡ rendered Rich renderer_config view_config severity header_text ps (map h ids) notes
   rich-same renderer_config severity header_text ps notes ids =
-      ap₂ (λ padding rows. stream_of_rows (context_of renderer_config severity padding)
+      ap₂ (λ padding rows. fitted_stream renderer_config.max_width
+      (context_of renderer_config severity padding)
       ((HeaderRow None header_text ∷ rows) ++ note_rows notes ++ (FinalRow ∷ [])))
       (ap (fold max 0) (digits-same ids)) (snippets-same (has_any notes) ps ids)
 

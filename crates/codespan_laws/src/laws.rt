@@ -19,7 +19,7 @@ ghost use Rattle.codespan_laws.specs.ColorLaws.{ColorsChangeNoText, NoColorIsPla
 ghost use Rattle.codespan_output.specs.CaretLaws.{CaretsAreCells, PointersAreCells};
 ghost use Rattle.codespan_output.specs.CaretLaws.{StartsHaveCells};
 ghost use Rattle.codespan_output.specs.RichLaws.{MeansLabels, NoneReversed};
-ghost use Rattle.codespan_output.specs.FittedLineLaws.{LinesFitWidths};
+ghost use Rattle.codespan_output.specs.FittedLineLaws.{CanFit, LinesFitWidths};
 ghost use Rattle.codespan_output.specs.FittingLaws.{WiderRadiusHasMoreCells};
 ghost use Rattle.codespan_output.specs.LaneLaws.{BarsAreLabels, LanesJoinCorners, LanesAreShown};
 ghost use Rattle.codespan_output.specs.LineLaws.{BreaksHaveBars, BreaksReplaceLines};
@@ -40,10 +40,12 @@ ghost use Rattle.codespan_output.specs.Snippets.{LabeledFileModel, empty_row_aft
 
 /// States that a rich output means its labels, whatever the loci in it: its rows keep the laws of
 /// lines, breaks, carets, pointers, lanes, messages and padding together, each with its own
-/// premises, where ids are compared by an equivalence and each file has a line.
+/// premises, where ids are compared by an equivalence, each file has a line, and the files are
+/// lawful if lines have to fit a width.
 pub fn outputs_mean_labels<Id>()
     ensures { (renderer_config view_config : Config) (files : FileDatabase Id) (d : Diagnostic Id)
         → IsEquivalence files.same → ((id : Id) → 0 < line_count (files.file id))
+        → CanFit renderer_config files
         → (loci : List Locus) → AreLoci files d Rich loci
         → MeansLabels renderer_config view_config files d loci
         (output Rich renderer_config view_config files d loci) }
@@ -128,10 +130,12 @@ pub fn lanes_take_two_characters()
 // ---- messages
 
 /// States that each label with a message has it exactly once in a rich output, and that no other
-/// message is in it, where ids are compared by an equivalence and each file has a line.
+/// message is in it, where ids are compared by an equivalence, each file has a line, and the files
+/// are lawful if lines have to fit a width.
 pub fn messages_appear_once<Id>()
     ensures { (renderer_config view_config : Config) (files : FileDatabase Id) (d : Diagnostic Id)
         → IsEquivalence files.same → ((id : Id) → 0 < line_count (files.file id))
+        → CanFit renderer_config files
         → (loci : List Locus) → AreLoci files d Rich loci
         → MessagesAppearOnce renderer_config view_config files d loci
         (output Rich renderer_config view_config files d loci) }

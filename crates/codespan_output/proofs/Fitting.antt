@@ -22,3 +22,5 @@ pub mod MovedSpans
 pub mod ShownGaps
 pub mod FitsOnce
 pub mod FittedLaws
+pub mod CanFit
+pub mod FittedStreams

@@ -11,3 +11,4 @@ pub mod MarkSearch
 pub mod Shown
 pub mod Ranges
 pub mod UnderlineRows
+pub mod FittedLanes

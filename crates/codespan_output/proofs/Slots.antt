@@ -12,3 +12,4 @@ pub mod RefilledLine
 pub mod RefilledOutput
 pub mod RefilledRows
 pub mod RefilledFitting
+pub mod FittedSlots

@@ -1,10 +1,13 @@
 -- The laws of lines that fit a width: what is shown of a line, where its labels are, and its rows.
 use Rattle.std.specs.Prelude.{Contains, ◌≡◌, ℕ, ◌+◌, ◌-◌, ◌<◌, ◌≤◌, max, Bool, true, false, nat_lt}
 use Rattle.std.specs.Prelude.{List, [], ◌∷◌, ◌++◌, length, map, Option, Some, if◌then◌else◌}
-use Rattle.std.specs.Prelude.{slice_index}
+use Rattle.std.specs.Prelude.{slice_index, IfSome}
 use Rattle.std.specs.List.{AllByRecursion}
 use Rattle.std.specs.Str.{chars, IsUtf8}
+use Rattle.codespan_core.specs.FileModel.{FileDatabase}
 use Rattle.codespan_core.specs.Labels.{LabelModel, LaneMark, MultiLabel, Top, Left, Bottom}
+use Rattle.codespan_core.specs.LawfulFiles.{IsLawful}
+use Rattle.codespan_output.specs.Types.{Config}
 use Rattle.codespan_output.specs.declared.char_metrics.Metrics.{Metrics}
 use Rattle.codespan_output.specs.Carets.{is_overlapping, style_of_any, style_under}
 use Rattle.codespan_output.specs.CharMetrics.{char_metrics, leading_whitespace}
@@ -24,6 +27,11 @@ pub record IsFittable (line : Line) : Type 0 where
       (λ (x : LabelModel). first_byte (length line.text) x.start
       ≤ last_byte (length line.text) x.end)
       line.labels
+
+-- where lines have to fit a width, the files are lawful: each line that is drawn is as above
+abbrev pub CanFit : {Id : Type 0} → Config → FileDatabase Id → Type 0
+CanFit {Id} renderer_config files =
+    IfSome renderer_config.max_width (λ _. (id : Id) → IsLawful (files.file id))
 
 -- ---- what is kept
 

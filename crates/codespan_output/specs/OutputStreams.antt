@@ -1,5 +1,5 @@
 -- The output of a diagnostic as a stream, in each style, by the loci in it.
-use Rattle.std.specs.Prelude.{◌≡◌, ℕ, Bool, List, ◌++◌, map, string_bytes, IfSome}
+use Rattle.std.specs.Prelude.{◌≡◌, ℕ, Bool, List, ◌++◌, map, string_bytes, IfSome, Option}
 use Rattle.std.specs.List.{AllByRecursion, AllZip}
 use Rattle.std.specs.Option.{option_map}
 use Rattle.std.specs.Str.{IsUtf8}
@@ -10,7 +10,8 @@ use Rattle.codespan_core.specs.FileModel.{FileDatabase, FileModel}
 use Rattle.codespan_core.specs.Labels.{LabelModel}
 use Rattle.codespan_core.specs.Streams.{Stream, byte_stream}
 use Rattle.codespan_output.specs.Padding.{padding_of}
-use Rattle.codespan_output.specs.Rows.{HeaderText, Locus, RowContext}
+use Rattle.codespan_output.specs.FittedLines.{fitted_row}
+use Rattle.codespan_output.specs.Rows.{HeaderText, Locus, Row, RowContext}
 use Rattle.codespan_output.specs.RowStreams.{stream_of_rows}
 use Rattle.codespan_output.specs.Snippets.{LabelInFile, LabeledFileModel, header_rows}
 use Rattle.codespan_output.specs.Snippets.{labeled_file_models, locus_byte_of, note_rows}
@@ -88,12 +89,18 @@ context_of config severity padding = record {
   padding = padding;
 }
 
+-- the stream of rows whose lines fit a width
+abbrev pub fitted_stream : Option ℕ → RowContext → List Row → Stream
+fitted_stream width context rows = stream_of_rows context (map (fitted_row width context) rows)
+
 -- what is rendered with these loci: the view's configuration chooses lines and, by its layout, the
--- padding; the renderer's the characters, the tab width and, by its layout, the shapes of lanes
+-- padding; the renderer's the characters, the tab width, the width that lines fit and, by its
+-- layout, the shapes of lanes
 abbrev pub rendered : DisplayStyle → Config → Config → Severity → HeaderText
     → List Locus → List LabeledFileModel → List (List ℕ) → Stream
 rendered Rich renderer_config view_config severity header_text loci ss notes =
-    stream_of_rows (context_of renderer_config severity (padding_of view_config ss))
+    fitted_stream renderer_config.max_width
+    (context_of renderer_config severity (padding_of view_config ss))
     (rich_rows view_config header_text loci ss notes)
 rendered Medium renderer_config view_config severity header_text loci ss notes =
     stream_of_rows (context_of renderer_config severity 0)

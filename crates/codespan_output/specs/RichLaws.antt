@@ -1,21 +1,22 @@
 -- What an output is, and what a rich one means.
 use Rattle.std.specs.Prelude.{◌≡◌, ℕ, ◌≤◌, Bool, List, [], ◌∷◌, ◌++◌, None}
-use Rattle.std.specs.Prelude.{Contains, flat_map}
-use Rattle.std.specs.List.{AllZip}
+use Rattle.std.specs.Prelude.{Contains, flat_map, Option}
+use Rattle.std.specs.List.{AllByRecursion, AllZip}
 use Rattle.codespan_output.specs.Types.{Config, Diagnostic, DisplayStyle, Rich}
 use Rattle.codespan_core.specs.FileModel.{FileDatabase}
 use Rattle.codespan_core.specs.Labels.{LabelModel}
 use Rattle.codespan_core.specs.Streams.{Stream}
-use Rattle.codespan_output.specs.Rows.{Locus, Row, RowContext, HeaderRow, FinalRow}
+use Rattle.codespan_output.specs.FittedLines.{fitted_row}
+use Rattle.codespan_output.specs.Rows.{Locus, Line, Row, RowContext, HeaderRow, FinalRow}
 use Rattle.codespan_output.specs.RowParts.{line_metrics}
-use Rattle.codespan_output.specs.RowStreams.{stream_of_rows}
-use Rattle.codespan_output.specs.Snippets.{LabeledFileModel, empty_row_after, line_at, note_rows}
+use Rattle.codespan_output.specs.Snippets.{LabeledFileModel, empty_row_after, note_rows}
 use Rattle.codespan_output.specs.Snippets.{snippet}
 use Rattle.codespan_output.specs.Padding.{padding_of}
 use Rattle.codespan_output.specs.OutputStreams.{AreLoci, files_of, context_of, header_text_of}
-use Rattle.codespan_output.specs.OutputStreams.{notes_of, output}
+use Rattle.codespan_output.specs.OutputStreams.{fitted_stream, notes_of, output}
 use Rattle.codespan_output.specs.CaretLaws.{CaretsAreCells, StartsHaveCells, PointersAreCells}
 use Rattle.codespan_output.specs.LaneLaws.{BarsAreLabels, LanesJoinCorners, LanesAreShown}
+use Rattle.codespan_output.specs.LaneLaws.{shape_in}
 use Rattle.codespan_output.specs.LineLaws.{BreaksReplaceLines, BreaksHaveBars, RowsAreOfShownLines}
 use Rattle.codespan_output.specs.LineLaws.{SourceRowsAreFew, PaddingFits}
 use Rattle.codespan_output.specs.MessageLaws.{MessagesAppearOnce}
@@ -24,9 +25,16 @@ use Rattle.codespan_output.specs.MessageLaws.{MessagesAppearOnce}
 abbrev pub NoneReversed : List LabelModel → Type 0
 NoneReversed labels = (x : LabelModel) → Contains labels x → x.start ≤ x.end
 
+-- what a row shows in each lane does not depend on the width that its line fits
+abbrev pub LanesStay : Option ℕ → RowContext → Row → Type 0
+LanesStay width context row = (lane : ℕ)
+    → shape_in context.layout (fitted_row width context row) lane
+    ≡ shape_in context.layout row lane
+
 -- what these rows of one file mean, its snippet with the empty row after it, if it has one: the
--- view's configuration chooses its lines, and the context is that of the renderer
-pub record SnippetMeansLabels (view_config : Config) (context : RowContext)
+-- view's configuration chooses its lines, and the context and the width that they fit are those of
+-- the renderer
+pub record SnippetMeansLabels (view_config : Config) (width : Option ℕ) (context : RowContext)
     (s : LabeledFileModel) (rows : List Row) : Type 0 where
   pub locus : Locus
   pub is_followed : Bool
@@ -34,12 +42,10 @@ pub record SnippetMeansLabels (view_config : Config) (context : RowContext)
   pub drawn : RowsAreOfShownLines view_config s
   pub breaks : BreaksReplaceLines view_config s rows
   pub few : SourceRowsAreFew view_config s rows
-  pub pointers : (l : ℕ) → StartsHaveCells (line_at s l).labels
-      (line_metrics context (line_at s l))
-      → PointersAreCells context (line_at s l)
   pub bars : NoneReversed s.labels → BarsAreLabels context.layout s
   pub break_bars : NoneReversed s.labels → BreaksHaveBars view_config context.layout s
   pub lanes : NoneReversed s.labels → LanesJoinCorners context.layout s rows
+  pub lanes_stay : AllByRecursion (LanesStay width context) rows
 
 module _ {Id : Type 0} (renderer_config view_config : Config) (files : FileDatabase Id)
     (d : Diagnostic Id) where
@@ -50,11 +56,16 @@ module _ {Id : Type 0} (renderer_config view_config : Config) (files : FileDatab
   -- what a rich output with these loci means, and which rows of it are each file's
   pub record MeansLabels (loci : List Locus) (stream : Stream) : Type 0 where
     pub rows : List (List Row)
-    pub stream_is : stream ≡ stream_of_rows rich_context
+    pub stream_is : stream ≡ fitted_stream renderer_config.max_width rich_context
         ((HeaderRow None (header_text_of d) ∷ flat_map (λ of_file. of_file) rows)
         ++ note_rows (notes_of d) ++ (FinalRow ∷ []))
-    pub each_file : AllZip (SnippetMeansLabels view_config rich_context) (files_of files d) rows
+    pub each_file : AllZip
+        (SnippetMeansLabels view_config renderer_config.max_width rich_context)
+        (files_of files d) rows
     pub carets : (context : RowContext) → CaretsAreCells context
+    pub pointers : (context : RowContext) (line : Line)
+        → StartsHaveCells line.labels (line_metrics context line)
+        → PointersAreCells context line
     pub lanes : (context : RowContext) → LanesAreShown context
     pub messages : MessagesAppearOnce renderer_config view_config files d loci stream
     pub padding_fits : PaddingFits view_config (files_of files d)

@@ -6,3 +6,4 @@ pub mod RangeMaps
 pub mod SnippetLineRows
 pub mod SnippetLineViews
 pub mod SpannedPadding
+pub mod Fitted

@@ -149,6 +149,7 @@ impl<'diagnostic, 'config, FileId: Copy + Eq> RichDiagnostic<'diagnostic, 'confi
     {
         let diagnostic = self.diagnostic;
         let context = renderer.context(diagnostic.severity, collected.padding.digit_count);
+        let max_width = renderer.max_width();
         let mut rows = RowWriter::new(renderer.writer, &renderer.saved);
         let mut buffers = LineBuffers::new(*diagnostic.labels.allocator(), numbers);
         let notes_follow = !diagnostic.notes.is_empty();
@@ -166,6 +167,7 @@ impl<'diagnostic, 'config, FileId: Copy + Eq> RichDiagnostic<'diagnostic, 'confi
                 source: source.as_str(),
                 num_multi_labels: labeled.num_multi_labels,
                 context,
+                max_width,
             };
             snippet.render_first_rows(&mut rows, &labeled.locus)?;
             snippet.render_lines(&mut rows, &mut buffers, own_annotations)?;

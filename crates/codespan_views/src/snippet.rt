@@ -11,9 +11,12 @@ ghost use Rattle.codespan_views.specs.Private.SnippetLines.{Break, Filled, Label
 ghost use Rattle.codespan_views.specs.Private.SnippetLines.{are_annotations_in_order};
 ghost use Rattle.codespan_views.specs.Private.SnippetLines.{are_lane_marks_in_order};
 ghost use Rattle.codespan_views.specs.Private.SnippetLines.{filled_lines_of, lines_of};
+ghost use Rattle.codespan_views.specs.Private.SnippetLines.{line_of_group};
+ghost use Rattle.codespan_output.specs.FittedLineLaws.{IsFittable};
 ghost use Rattle.codespan_views.specs.Private.SourceFiles.{model_of};
 
 use crate::annotation::{Annotation, LineInfo, count_on_line, lines_between, skip_hidden};
+use crate::snippet::fitted_line::fitted_line;
 use crate::snippet::line_buffers::{LineBuffers, fill_lane_marks};
 use crate::source_file::SourceFile;
 use codespan_core::files::{Error, Files};
@@ -25,6 +28,7 @@ use codespan_output::rows::notes::{write_break, write_snippet_empty};
 use codespan_renderer::term::renderer::row_writer::RowWriter;
 use codespan_renderer::term::renderer::{Lanes, Line, Locus};
 
+mod fitted_line;
 pub mod line_buffers;
 
 /// The snippet of a file.
@@ -38,6 +42,8 @@ pub struct Snippet<'snippet, 'files, F: Files<'files>> {
     pub num_multi_labels: usize,
     /// What all rows of the output are rendered by.
     pub context: RowContext<'snippet>,
+    /// The width that its lines have to fit, in cells.
+    pub max_width: Option<usize>,
 }
 
 impl<'snippet, 'files, F: Files<'files>> Snippet<'snippet, 'files, F> {
@@ -156,6 +162,8 @@ impl<'snippet, 'files, F: Files<'files>> Snippet<'snippet, 'files, F> {
         requires source { self.now.source.now ≡ (model_of F.database self.now.file).text }
         requires number { IfSome (slice_get (iter_rest buffers.old.numbers) 0)
             (λ known. known ≡ (model_of F.database self.now.file).line_number index) }
+        requires fittable { IsFittable (line_of_group (model_of F.database self.now.file)
+            self.now.num_multi_labels index (map annotation_view annotations.now)) }
         requires in_order { IsTrue (are_annotations_in_order self.now.num_multi_labels
             (map annotation_view annotations.now)) }
         ensures renders { RendersLines F.database self.now (iter_rest buffers.old.numbers)
@@ -191,6 +199,8 @@ impl<'snippet, 'files, F: Files<'files>> Snippet<'snippet, 'files, F> {
     ) -> Result<(), Error>
         requires source { self.now.source.now ≡ (model_of F.database self.now.file).text }
         requires line { IsLineOf (model_of F.database self.now.file) line }
+        requires fittable { IsFittable (line_of_group (model_of F.database self.now.file)
+            self.now.num_multi_labels line.index (map annotation_view annotations.now)) }
         requires in_order { IsTrue (are_annotations_in_order self.now.num_multi_labels
             (map annotation_view annotations.now)) }
         ensures renders { RendersLines F.database self.now (iter_rest buffers.old.numbers)
@@ -206,6 +216,8 @@ impl<'snippet, 'files, F: Files<'files>> Snippet<'snippet, 'files, F> {
         };
         let line = Line::new(line.number, source, buffers.single_labels.as_slice(), lanes);
         let context = self.context;
+        let alloc = *buffers.single_labels.allocator();
+        let line = fitted_line(&mut buffers.fitting, alloc, self.max_width, context, line)?;
         let cached = buffers.line_cache.cache_line(context.tab_width, line)?;
         let written = write_line(rows, context, cached.line, cached.messages, &cached);
         rows.outcome(written)

@@ -1,6 +1,6 @@
 -- For `write_colored_text`, `write_carets` and the laws of rows: the text of a source row and the
 -- carets are characters in their styles, one after another.
-use Rattle.codespan_core.proofs.Std.{◌≡◌, ℕ, List, [], ◌∷◌, ◌++◌, Option, None}
+use Rattle.codespan_core.proofs.Std.{◌≡◌, List, [], ◌∷◌, ◌++◌, Option, None}
 use Rattle.codespan_core.proofs.Std.{Some, sym, ap, refl, ◌∙◌, append_assoc, map, flat_map}
 use Rattle.std.specs.List.{zip, last_or}
 use Rattle.std.specs.Option.{option_and_then}

@@ -1,5 +1,5 @@
 -- For `source_rows_are_few`: counts of elements that pass a test.
-use Rattle.codespan_core.proofs.Std.{◌≡◌, ℕ, ◌+◌, ◌-◌, ◌≤◌, Bool, true, false}
+use Rattle.codespan_core.proofs.Std.{◌≡◌, ℕ, ◌+◌, ◌≤◌, Bool, true, false}
 use Rattle.codespan_core.proofs.Std.{cond, ◌||◌, List, [], ◌∷◌, ◌++◌, map, refl, ap}
 use Rattle.codespan_core.proofs.Std.{arith, count_by, sum_by-cons, sum_by-append}
 use Rattle.std.proofs.lemmas.List.Sums.{sum_by-le-sum_by}

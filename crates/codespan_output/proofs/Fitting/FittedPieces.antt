@@ -34,7 +34,7 @@ shortened-line cells tab line h =
     (λ _. made-line end_spans radius tab line h (ends-all (length line.text) line.labels))
 
 -- where nothing is left out all is kept
-whole-keeps : (tab : ℕ) (line : Line) → KeepsLabels tab [] line
+pub whole-keeps : (tab : ℕ) (line : Line) → KeepsLabels tab [] line
 whole-keeps tab line = record {
   short = tt;
   spell = tt;

@@ -1,5 +1,5 @@
 -- For `lanes_join_corners`: each lane is one line, by the drawn lines of the file.
-use Rattle.codespan_core.proofs.Std.{◌≡◌, ℕ, ◌+◌, ◌-◌, ◌<◌, Bool, true, false}
+use Rattle.codespan_core.proofs.Std.{◌≡◌, ℕ, ◌<◌, Bool, true, false}
 use Rattle.codespan_core.proofs.Std.{not, nat_le, List, [], ◌∷◌, ◌++◌, length, None, refl}
 use Rattle.codespan_core.proofs.Std.{arith, AllByRecursion, count_by-le-length}
 use Rattle.codespan_core.specs.FileModel.{line_of, line_count}

@@ -1,10 +1,10 @@
 -- For `each_message_trails_or_hangs`: the last label with the greatest end, by one pass.
-use Rattle.codespan_core.proofs.Std.{◌≡◌, ◌≢◌, subst, ℕ, ◌+◌, max, Bool, true}
+use Rattle.codespan_core.proofs.Std.{◌≡◌, ◌≢◌, subst, ℕ, max, Bool, true}
 use Rattle.codespan_core.proofs.Std.{false, not, ◌&&◌, ◌==◌, List, [], ◌∷◌, ◌++◌}
 use Rattle.codespan_core.proofs.Std.{filter, fold, Option, Some, None, if◌then◌else◌, refl}
 use Rattle.codespan_core.proofs.Std.{ap, arith, nat_tests}
 use Rattle.codespan_core.specs.Labels.{LabelModel, has_message}
-use Rattle.codespan_output.specs.{max_label_end, trails}
+use Rattle.codespan_output.specs.{max_label_end}
 use Rattle.codespan_output.specs.Private.{overlaps_any}
 
 -- ---- trailing and hanging labels, by a pass over the list

@@ -1,7 +1,7 @@
 -- For the clauses `value` of `codespan_native`, and for the outputs of `report`: equal
 -- configurations render the same.
 use Rattle.codespan_core.proofs.Std.{◌≡◌, ℕ, List, [], ◌∷◌, ◌++◌, refl, ap}
-use Rattle.codespan_core.proofs.Std.{◌∙◌}
+use Rattle.codespan_core.proofs.Std.{◌∙◌, Option, Some, None}
 use Rattle.codespan_core.specs.declared.term.config.chars.SnippetStart.{SnippetStart}
 use Rattle.codespan_core.specs.SnippetStarts.{start_text}
 use Rattle.codespan_core.specs.ConfigEquality.{IsEqualConfig}
@@ -14,7 +14,8 @@ use Rattle.codespan_output.specs.{EmptyRow, BreakRow, SourceRow, CaretRow, Point
 use Rattle.codespan_output.specs.{UnderlineRow, FirstNoteRow, LaterNoteRow, FinalRow, outer_gutter}
 use Rattle.codespan_output.specs.{snippet_locus, stream_of, stream_of_rows, row_definitions}
 use Rattle.codespan_output.specs.{padding_of, context_of, rendered, LabeledFileModel, header_rows}
-use Rattle.codespan_output.specs.{note_rows, rich_rows}
+use Rattle.codespan_output.specs.{note_rows, rich_rows, Line, fitted_pieces, fitted_row}
+use Rattle.codespan_output.specs.{fitted_stream, shown_line, moved_label, moved_mark}
 
 -- the configuration with this text before a locus
 abbrev with_start : Config → SnippetStart → Config
@@ -50,11 +51,46 @@ module _ (config : Config) (severity : Severity) (padding : ℕ) (start other : 
   row_equal (LaterNoteRow note_line) = refl
   row_equal FinalRow = refl
 
+  -- what fits a width is the same
+  pieces_equal : (width : Option ℕ) (line : Line)
+      → fitted_pieces width (context start) line ≡ fitted_pieces width (context other) line
+  pieces_equal None line = refl
+  pieces_equal (Some n) line = refl
+
+  fitted_equal : (width : Option ℕ) (row : Row)
+      → fitted_row width (context start) row ≡ fitted_row width (context other) row
+  fitted_equal width (HeaderRow at header_text) = refl
+  fitted_equal width (SnippetStartRow at) = refl
+  fitted_equal width (EmptyRow lanes) = refl
+  fitted_equal width (BreakRow lanes) = refl
+  fitted_equal width (SourceRow line) =
+      ap (λ ps. SourceRow (shown_line ps line)) (pieces_equal width line)
+  fitted_equal width (CaretRow line) =
+      ap (λ ps. CaretRow (shown_line ps line)) (pieces_equal width line)
+  fitted_equal width (PointerRow line) =
+      ap (λ ps. PointerRow (shown_line ps line)) (pieces_equal width line)
+  fitted_equal width (HangingRow line x) =
+      ap (λ ps. HangingRow (shown_line ps line) (moved_label ps x)) (pieces_equal width line)
+  fitted_equal width (UnderlineRow line m) =
+      ap (λ ps. UnderlineRow (shown_line ps line) (moved_mark ps m)) (pieces_equal width line)
+  fitted_equal width (FirstNoteRow note_line) = refl
+  fitted_equal width (LaterNoteRow note_line) = refl
+  fitted_equal width FinalRow = refl
+
   -- all rows are the same
   rows_equal : (rows : List Row)
       → stream_of_rows (context start) rows ≡ stream_of_rows (context other) rows
   rows_equal [] = refl
   rows_equal (row ∷ rows) = cc (row_equal row, rows_equal rows)
+
+  -- and so are all rows that fit a width
+  fitted_rows_equal : (width : Option ℕ) (rows : List Row)
+      → fitted_stream width (context start) rows ≡ fitted_stream width (context other) rows
+  fitted_rows_equal width [] = refl
+  fitted_rows_equal width (row ∷ rows) =
+      cc
+      (fitted_equal width row, row_equal (fitted_row width (context start) row),
+      fitted_rows_equal width rows)
 
 -- what is rendered is the same, in each style
 module _ (table config : Config) (equal : IsEqualConfig table config) (severity : Severity)
@@ -77,8 +113,8 @@ module _ (table config : Config) (equal : IsEqualConfig table config) (severity 
   rendered_equal Rich =
       ap (λ c. rendered Rich c c severity header_text loci ss notes)
       (is_with_start table config equal)
-      ∙ rows_equal table severity (padding_of table ss) config.chars.snippet_start
-      table.chars.snippet_start equal.chars.start
+      ∙ fitted_rows_equal table severity (padding_of table ss) config.chars.snippet_start
+      table.chars.snippet_start equal.chars.start table.max_width
       (rich_rows table header_text loci ss notes)
   rendered_equal Medium = all_equal 0 (header_rows header_text loci ++ note_rows notes)
   rendered_equal Short = all_equal 0 (header_rows header_text loci)

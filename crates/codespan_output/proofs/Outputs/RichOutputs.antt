@@ -1,18 +1,20 @@
 -- For `outputs_mean_labels`: a rich output means its labels, by the laws of its parts together.
 use Rattle.codespan_core.proofs.Std.{◌≡◌, ◌<◌, Bool, List, [], ◌∷◌, ◌++◌}
 use Rattle.codespan_core.proofs.Std.{◌||◌, None, map, flat_map, refl, sym, subst, ap, AllZip}
-use Rattle.codespan_core.proofs.Std.{IsEquivalence}
+use Rattle.codespan_core.proofs.Std.{IsEquivalence, ℕ, Option, AllByRecursion}
 use Rattle.codespan_core.specs.FileModel.{FileDatabase, line_count}
 use Rattle.codespan_core.specs.Streams.{Stream}
 use Rattle.codespan_output.specs.Types.{Config, Diagnostic, DisplayStyle, Rich}
-use Rattle.codespan_output.specs.{RowContext, LabeledFileModel, line_at, files_of, CaretsAreCells}
+use Rattle.codespan_output.specs.{RowContext, LabeledFileModel, files_of, CaretsAreCells}
 use Rattle.codespan_output.specs.{SnippetMeansLabels, MeansLabels, IsOutput, Locus, Row, HeaderRow}
 use Rattle.codespan_output.specs.{FinalRow, snippet, snippets, empty_row_after, AreLoci, IsLocus}
 use Rattle.codespan_output.specs.{output, header_text_of, notes_of, note_rows, rich_context}
-use Rattle.codespan_output.specs.{stream_of_rows}
+use Rattle.codespan_output.specs.{fitted_stream, labels_of, CanFit}
 use Rattle.codespan_output.proofs.Utf8.Texts.{text_of-append}
 use Rattle.codespan_output.proofs.Carets.Cells.{text_of-line_carets}
 use Rattle.codespan_output.proofs.DrawnLines.Filled.{rows_of_shown_lines}
+use Rattle.codespan_output.proofs.Fitting.CanFit.{FileCanFit, can-files, can-snippet}
+use Rattle.codespan_output.proofs.Lanes.FittedLanes.{all-lanes-stay}
 use Rattle.codespan_output.proofs.Lanes.Shown.{lanes_are_shown}
 use Rattle.codespan_output.specs.Private.{has_any, snippet_locus_byte}
 use Rattle.codespan_output.proofs.DrawnLines.Breaks as breaks
@@ -28,11 +30,11 @@ pub carets_are_cells : (context : RowContext) → CaretsAreCells context
 carets_are_cells context = λ line. simp (text_of-append, text_of-line_carets)
 
 -- the snippet of a file, with the empty row after it, if it has one, means the labels of the file
-pub snippet_means_labels : (view_config : Config) (context : RowContext) (locus : Locus)
-    (followed : Bool) (s : LabeledFileModel)
-    → SnippetMeansLabels view_config context s
+pub snippet_means_labels : (view_config : Config) (width : Option ℕ) (context : RowContext)
+    (locus : Locus) (followed : Bool) (s : LabeledFileModel) → FileCanFit width s
+    → SnippetMeansLabels view_config width context s
     (snippet view_config locus s ++ empty_row_after followed s)
-snippet_means_labels view_config context locus followed s = record {
+snippet_means_labels view_config width context locus followed s can = record {
   locus = locus;
   is_followed = followed;
   rows_are = refl;
@@ -40,10 +42,12 @@ snippet_means_labels view_config context locus followed s = record {
   breaks = breaks.breaks_replace_lines view_config locus followed s
       (rows_of_shown_lines view_config s);
   few = bounds.source_rows_few view_config locus followed s;
-  pointers = λ l wide. pointers.pointers_are_cells context (line_at s l) wide;
   bars = λ ordered. ranges.bars_are_labels context.layout s ordered;
   break_bars = λ ordered. ranges.breaks_have_bars view_config context.layout s ordered;
   lanes = λ ordered. runs.lanes_join_corners view_config context.layout locus followed s ordered;
+  lanes_stay =
+      all-lanes-stay width context (snippet view_config locus s ++ empty_row_after followed s)
+      (can-snippet width view_config followed locus s can);
 }
 
 -- ---- the rows of all files, by file
@@ -63,15 +67,16 @@ rows-joined config has_notes (p ∷ ps) (s ∷ ss) =
     ap (λ rows. snippet config p s ++ empty_row_after (has_any ss || has_notes) s ++ rows)
     (rows-joined config has_notes ps ss)
 
-each_file : (config : Config) (context : RowContext) (has_notes : Bool) (ss : List LabeledFileModel)
-    (ps : List Locus) → AllZip IsLocus (map snippet_locus_byte ss) ps
-    → AllZip (SnippetMeansLabels config context) ss (rows_by_file config has_notes ps ss)
-each_file config context has_notes [] [] are = tt
-each_file config context has_notes [] (p ∷ ps) are = absurd are
-each_file config context has_notes (s ∷ ss) [] are = absurd are
-each_file config context has_notes (s ∷ ss) (p ∷ ps) are = (
-  snippet_means_labels config context p (has_any ss || has_notes) s,
-  each_file config context has_notes ss ps are.1,
+each_file : (config : Config) (width : Option ℕ) (context : RowContext) (has_notes : Bool)
+    (ss : List LabeledFileModel) (ps : List Locus)
+    → AllZip IsLocus (map snippet_locus_byte ss) ps → AllByRecursion (FileCanFit width) ss
+    → AllZip (SnippetMeansLabels config width context) ss (rows_by_file config has_notes ps ss)
+each_file config width context has_notes [] [] are can = tt
+each_file config width context has_notes [] (p ∷ ps) are can = absurd are
+each_file config width context has_notes (s ∷ ss) [] are can = absurd are
+each_file config width context has_notes (s ∷ ss) (p ∷ ps) are can = (
+  snippet_means_labels config width context p (has_any ss || has_notes) s can.0,
+  each_file config width context has_notes ss ps are.1 can.1,
 )
 
 -- ---- the output
@@ -91,7 +96,8 @@ other_output loci other are = record {
 
 module _ {Id : Type 0} (renderer_config view_config : Config) (files : FileDatabase Id)
     (d : Diagnostic Id) (equal : IsEquivalence files.same)
-    (has_line : (id : Id) → 0 < line_count (files.file id)) (loci : List Locus) where
+    (has_line : (id : Id) → 0 < line_count (files.file id)) (can : CanFit renderer_config files)
+    (loci : List Locus) where
   -- the rich output with these loci means the labels of the diagnostic
   pub output_means_labels : AreLoci files d Rich loci
       → MeansLabels renderer_config view_config files d loci
@@ -102,14 +108,17 @@ module _ {Id : Type 0} (renderer_config view_config : Config) (files : FileDatab
       record {
         rows = rows_by_file view_config has_notes loci (files_of files d);
         stream_is = ap
-            (λ rows. stream_of_rows context ((HeaderRow None (header_text_of d) ∷ rows)
+            (λ rows. fitted_stream renderer_config.max_width context ((HeaderRow None (header_text_of d) ∷ rows)
             ++ note_rows (notes_of d) ++ (FinalRow ∷ [])))
             (rows-joined view_config has_notes loci (files_of files d));
-        each_file = each_file view_config context has_notes (files_of files d) loci are;
+        each_file =
+            each_file view_config renderer_config.max_width context has_notes (files_of files d)
+            loci are (can-files renderer_config files (labels_of d) can);
         carets = carets_are_cells;
+        pointers = pointers.pointers_are_cells;
         lanes = lanes_are_shown;
         messages = messages.messages_appear_once renderer_config view_config files d equal has_line
-            loci are;
+            can loci are;
         padding_fits = padding.padding_fits view_config (files_of files d);
       }
 

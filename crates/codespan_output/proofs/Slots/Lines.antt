@@ -117,7 +117,7 @@ label_slots k x = slots k x.message
 abbrev pub lane_mark_slots : ℕ → LaneMark → ℕ
 lane_mark_slots k m = multi_label_slots k m.multi_label
 
-no_message : (k : ℕ) (x : LabelModel) → has_message x ≡ false → label_slots k x ≡ 0
+pub no_message : (k : ℕ) (x : LabelModel) → has_message x ≡ false → label_slots k x ≡ 0
 no_message k x h = by_stream x.message h
   where
     by_stream : (s : Stream) → not (is_empty s) ≡ false → slots k s ≡ 0

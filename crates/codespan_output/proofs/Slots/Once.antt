@@ -6,7 +6,7 @@ use Rattle.codespan_core.proofs.Std.{map, filter, Option, Some, None, option_map
 use Rattle.codespan_core.proofs.Std.{if◌then◌else◌, refl, sym, ap, ap₂, ◌∙◌}
 use Rattle.codespan_core.proofs.Std.{append-nil, arith, sum_by, string_bytes, nat_tests}
 use Rattle.codespan_core.proofs.Std.{slice_get-map, sum_by-cons, IsEquivalence, option_map_or}
-use Rattle.codespan_core.proofs.Std.{AllZip, length-map}
+use Rattle.codespan_core.proofs.Std.{AllZip, length-map, AllByRecursion}
 use Rattle.std.proofs.lemmas.List.Sums.{sum_by-le-sum_by}
 use Rattle.codespan_core.specs.FileModel.{FileDatabase, FileModel, line_count}
 use Rattle.codespan_core.specs.Streams.{Stream, Byte, Slot, byte_stream, text_of, with_messages}
@@ -17,7 +17,8 @@ use Rattle.codespan_output.specs.{LabeledFileModel, LabelInFile, file_ids, label
 use Rattle.codespan_output.specs.{labeled_file_models, rich_rows, AreLoci, IsLocus, header_text_of}
 use Rattle.codespan_output.specs.{label_of, labels_of, context_of, notes_of, output, rendered}
 use Rattle.codespan_output.specs.{padding_of, slotted, all_slotted, message_text, slotted_output}
-use Rattle.codespan_output.specs.{MessagesAppearOnce}
+use Rattle.codespan_output.specs.{MessagesAppearOnce, CanFit, Row, fitted_row, fitted_stream}
+use Rattle.codespan_output.proofs.Fitting.CanFit.{FileCanFit, can-files, can-rich}
 use Rattle.codespan_output.proofs.Outputs.Loci.{zip_length}
 use Rattle.codespan_output.proofs.Utf8.Texts.{text_of-byte_stream}
 use Rattle.codespan_output.proofs.Slots.Rows.{slots-rows}
@@ -30,6 +31,8 @@ use Rattle.codespan_output.proofs.Slots.RefilledRows.{fill, fill-is, fill_same, 
 use Rattle.codespan_output.proofs.Slots.RefilledOutput.{rich-refilled, padding-refilled}
 use Rattle.codespan_output.proofs.Slots.RefilledOutput.{files-refilled}
 use Rattle.codespan_output.proofs.Slots.RefilledLine.{refilled_file, refilled_in}
+use Rattle.codespan_output.proofs.Slots.FittedSlots.{slots-fitted}
+use Rattle.codespan_output.proofs.Slots.RefilledFitting.{rows-refilled}
 use Rattle.codespan_output.specs.Private.{snippet_locus_byte}
 
 -- ---- a slot that no label has is in no row
@@ -204,20 +207,24 @@ filled_output : {Id : Type 0} (renderer_config view_config : Config) (same : Id 
     (file : Id → FileModel) (severity : Severity) (header_text : HeaderText) (loci : List Locus)
     (notes : List (List ℕ)) (xs : List (LabelInFile Id))
     → length loci ≡ length (labeled_file_models same file (all_slotted xs)) → IsPlain xs
+    → AllByRecursion (FileCanFit renderer_config.max_width)
+    (labeled_file_models same file (all_slotted xs))
     → fill (message_text xs)
     (rendered Rich renderer_config view_config severity header_text loci
     (labeled_file_models same file (all_slotted xs)) notes)
     ≡ rendered Rich renderer_config view_config severity header_text loci
     (labeled_file_models same file xs) notes
 filled_output {Id = Id} renderer_config view_config same file severity header_text loci notes xs
-    many plain =
+    many plain can =
     fill_same (message_text xs) (full_text xs)
     (rendered Rich renderer_config view_config severity header_text loci ss notes)
     (λ k some. by_text k (message_text xs k) refl some)
-    ∙ fill-rows (full_text xs) (full xs) context (rich_rows view_config header_text loci ss notes)
-    ∙ ap (stream_of_rows context) (rich-refilled φ kept view_config header_text loci ss notes)
+    ∙ fill-rows (full_text xs) (full xs) context (map (fitted_row width context) rows)
+    ∙ ap (stream_of_rows context) (rows-refilled φ width context rows)
+    ∙ ap (fitted_stream width context)
+    (rich-refilled φ kept view_config header_text loci ss notes)
     ∙ ap
-    (λ n. stream_of_rows (context_of renderer_config severity n)
+    (λ n. fitted_stream width (context_of renderer_config severity n)
     (rich_rows view_config header_text loci (map (refilled_file φ) ss) notes))
     (sym (padding-refilled φ kept view_config ss))
     ∙ ap (λ ts. rendered Rich renderer_config view_config severity header_text loci ts notes)
@@ -229,6 +236,12 @@ filled_output {Id = Id} renderer_config view_config same file severity header_te
 
     context : RowContext
     context = context_of renderer_config severity (padding_of view_config ss)
+
+    width : Option ℕ
+    width = renderer_config.max_width
+
+    rows : List Row
+    rows = rich_rows view_config header_text loci ss notes
 
     φ : Stream → Stream
     φ = fill (full_text xs)
@@ -257,7 +270,9 @@ filled_output {Id = Id} renderer_config view_config same file severity header_te
         absurd (omega (
           arith,
           some,
-          slots-rows k context (rich_rows view_config header_text loci ss notes),
+          slots-rows k context (map (fitted_row width context) rows),
+          slots-fitted k context width rows
+              (can-rich width view_config header_text loci ss notes can),
           rich_sum k view_config header_text loci ss notes many,
           files_zero k view_config same file (all_slotted xs) (unnamed xs plain k e),
         ))
@@ -266,22 +281,24 @@ filled_output {Id = Id} renderer_config view_config same file severity header_te
 pub messages_appear_once : {Id : Type 0} (renderer_config view_config : Config)
     (files : FileDatabase Id) (d : Diagnostic Id)
     → IsEquivalence files.same → ((id : Id) → 0 < line_count (files.file id))
+    → CanFit renderer_config files
     → (loci : List Locus) → AreLoci files d Rich loci
     → MessagesAppearOnce renderer_config view_config files d loci
     (output Rich renderer_config view_config files d loci)
-messages_appear_once {Id = Id} renderer_config view_config files d equal has_line loci are =
+messages_appear_once {Id = Id} renderer_config view_config files d equal has_line can loci are =
     let many = as_many files.same files.file (labels_of d) loci are in
+    let cans = can-files renderer_config files (all_slotted (labels_of d)) can in
     record {
-      once =
+      once = λ k x at.
           each_once
           (context_of renderer_config d.severity
           (padding_of view_config
           (labeled_file_models files.same files.file (all_slotted (labels_of d)))))
           view_config files.same files.file (header_text_of d) (notes_of d) (labels_of d) loci many
-          equal has_line;
+          equal has_line k x at renderer_config.max_width cans;
       whole =
           fill-is (message_text (labels_of d))
           (slotted_output renderer_config view_config files d loci)
           ∙ filled_output renderer_config view_config files.same files.file d.severity
-          (header_text_of d) loci (notes_of d) (labels_of d) many (plain d);
+          (header_text_of d) loci (notes_of d) (labels_of d) many (plain d) cans;
     }

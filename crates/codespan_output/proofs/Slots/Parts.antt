@@ -1,5 +1,5 @@
 -- For `messages_appear_once`: the slots in each part of a row.
-use Rattle.codespan_core.proofs.Std.{◌≡◌, ℕ, zero, suc, ◌+◌, ◌-◌, Bool, true, false}
+use Rattle.codespan_core.proofs.Std.{◌≡◌, ℕ, zero, suc, ◌+◌, Bool, true, false}
 use Rattle.codespan_core.proofs.Std.{cond, ◌==◌, List, [], ◌∷◌, ◌++◌, replicate}
 use Rattle.codespan_core.proofs.Std.{Option, Some, None, refl, ap₂, ◌∙◌, arith, count_by}
 use Rattle.codespan_core.proofs.Std.{flat_map, repeat, range_with_len, sum_by-cons, sum_by-append}

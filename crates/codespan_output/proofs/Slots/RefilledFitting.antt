@@ -1,6 +1,6 @@
 -- For `messages_appear_once`: what fits a width does not depend on messages.
 use Rattle.codespan_core.proofs.Std.{◌≡◌, ℕ, ◌-◌, max, nat_le, List, [], ◌∷◌, ◌++◌, map, flat_map}
-use Rattle.codespan_core.proofs.Std.{length, Option, Some, None, refl, ap, ap₂, ◌∙◌}
+use Rattle.codespan_core.proofs.Std.{length, Option, Some, None, refl, sym, ap, ap₂, ◌∙◌}
 use Rattle.codespan_core.proofs.Std.{if◌then◌else◌, nat_lt, chars, ◌+◌, false}
 use Rattle.codespan_core.specs.Labels.{LabelModel, LaneMark, MultiLabel, Top, Left, Bottom}
 use Rattle.codespan_core.specs.Streams.{Stream}
@@ -125,7 +125,7 @@ module _ (φ : Stream → Stream) where
       ∙ shown-refilled (fitted_pieces width context line) line
 
   -- a row that fits has the messages of the row
-  pub row-refilled : (width : Option ℕ) (context : RowContext) (row : Row)
+  row-refilled : (width : Option ℕ) (context : RowContext) (row : Row)
       → fitted_row width context (refilled_row φ row)
       ≡ refilled_row φ (fitted_row width context row)
   row-refilled width context (HeaderRow locus header_text) = refl
@@ -146,3 +146,12 @@ module _ (φ : Stream → Stream) where
   row-refilled width context (FirstNoteRow note_line) = refl
   row-refilled width context (LaterNoteRow note_line) = refl
   row-refilled width context FinalRow = refl
+
+  -- and so have all rows
+  pub rows-refilled : (width : Option ℕ) (context : RowContext) (rows : List Row)
+      → map (refilled_row φ) (map (fitted_row width context) rows)
+      ≡ map (fitted_row width context) (map (refilled_row φ) rows)
+  rows-refilled width context [] = refl
+  rows-refilled width context (row ∷ rows) =
+      ap₂ (λ r rs. r ∷ rs) (sym (row-refilled width context row))
+      (rows-refilled width context rows)

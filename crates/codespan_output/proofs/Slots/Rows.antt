@@ -1,5 +1,5 @@
 -- For `messages_appear_once`: the slots in each row.
-use Rattle.codespan_core.proofs.Std.{◌≡◌, ℕ, ◌+◌, ◌-◌, List, [], ◌∷◌}
+use Rattle.codespan_core.proofs.Std.{◌≡◌, ℕ, List, [], ◌∷◌}
 use Rattle.codespan_core.proofs.Std.{◌++◌, Option, Some, None, ◌∙◌, arith, sum_by}
 use Rattle.codespan_core.proofs.Std.{sum_by-cons}
 use Rattle.codespan_core.specs.Streams.{newline}

@@ -3,14 +3,16 @@ use Rattle.codespan_core.proofs.Std.{◌≡◌, ℕ, zero, suc, ◌+◌, ◌<◌
 use Rattle.codespan_core.proofs.Std.{not, cond, ◌||◌, ◌==◌, List, [], ◌∷◌, map}
 use Rattle.codespan_core.proofs.Std.{filter, Some, slice_get, length, if◌then◌else◌, refl, ap}
 use Rattle.codespan_core.proofs.Std.{◌∙◌, arith, sum_by, count_by, list_any, enumerate_from}
-use Rattle.codespan_core.proofs.Std.{nat_tests, sum_by-cons, IsEquivalence}
+use Rattle.codespan_core.proofs.Std.{nat_tests, sum_by-cons, IsEquivalence, Option, AllByRecursion}
 use Rattle.codespan_core.specs.FileModel.{FileModel, line_count}
 use Rattle.codespan_core.specs.Streams.{Slot}
 use Rattle.codespan_core.specs.Labels.{has_message, is_empty, first_seen}
 use Rattle.codespan_output.specs.Types.{Config}
-use Rattle.codespan_output.specs.{HeaderText, Locus, RowContext, stream_of_rows, LabelInFile}
+use Rattle.codespan_output.specs.{HeaderText, Locus, RowContext, LabelInFile, fitted_row}
 use Rattle.codespan_output.specs.{labeled_file_model, labeled_file_models, rich_rows, is_slot}
-use Rattle.codespan_output.specs.{slotted, all_slotted}
+use Rattle.codespan_output.specs.{slotted, all_slotted, fitted_stream}
+use Rattle.codespan_output.proofs.Fitting.CanFit.{FileCanFit, can-rich}
+use Rattle.codespan_output.proofs.Slots.FittedSlots.{slots-fitted}
 use Rattle.codespan_output.proofs.Slots.Rows.{slots-rows}
 use Rattle.codespan_output.proofs.Slots.Parts.{slots, slots-is}
 use Rattle.codespan_output.proofs.Slots.Lines.{sum-ext, sum-zero, sum-map, sum-filter}
@@ -200,14 +202,18 @@ pub each_once : {Id : Type 0} (context : RowContext) (config : Config) (same : I
     → IsEquivalence same → ((id : Id) → 0 < line_count (file id))
     → (k : ℕ) (x : LabelInFile Id)
     → slice_get xs k ≡ Some x
+    → (width : Option ℕ)
+    → AllByRecursion (FileCanFit width) (labeled_file_models same file (all_slotted xs))
     → count_by (is_slot k)
-    (stream_of_rows context
+    (fitted_stream width context
     (rich_rows config header_text ps (labeled_file_models same file (all_slotted xs)) notes))
     ≡ (if has_message x.label then 1 else 0)
-each_once context config same file header_text notes xs ps as_many law some k x at =
+each_once context config same file header_text notes xs ps as_many law some k x at width can =
     let ss = labeled_file_models same file (all_slotted xs) in
-    slots-is k (stream_of_rows context (rich_rows config header_text ps ss notes))
-    ∙ slots-rows k context (rich_rows config header_text ps ss notes)
+    let rows = rich_rows config header_text ps ss notes in
+    slots-is k (fitted_stream width context rows)
+    ∙ slots-rows k context (map (fitted_row width context) rows)
+    ∙ slots-fitted k context width rows (can-rich width config header_text ps ss notes can)
     ∙ rich_sum k config header_text ps ss notes as_many
     ∙ files_sum same law k config file some (all_slotted xs)
     ∙ one_here k 0 k xs x (omega arith) at

@@ -1,5 +1,5 @@
 -- For `outputs_are_utf8`: the rows of an output are texts.
-use Rattle.codespan_core.proofs.Std.{◌+◌, ◌-◌, List, [], ◌∷◌, ◌++◌, map, filter}
+use Rattle.codespan_core.proofs.Std.{List, [], ◌∷◌, ◌++◌, map, filter}
 use Rattle.codespan_core.proofs.Std.{Option, Some, None, IfSome, string_bytes, AllByRecursion}
 use Rattle.codespan_core.proofs.Std.{option_map, IsUtf8}
 use Rattle.std.specs.Prelude.{String}
@@ -12,13 +12,15 @@ use Rattle.codespan_output.specs.{padding_of, NamesAreUtf8, files_of, header_tex
 use Rattle.codespan_output.specs.{labels_of, context_of, notes_of, output, locus_bytes, stated_loci}
 use Rattle.codespan_output.specs.{headers, Locus, Row, HeaderRow, FinalRow, LabelInFile}
 use Rattle.codespan_output.specs.{header_rows, labeled_file_model, note_rows, rich_rows, snippets}
+use Rattle.codespan_output.specs.{fitted_row}
 use Rattle.codespan_output.specs.{CharsAreScalars, StreamIsUtf8, OutputIsUtf8, PictureIsUtf8}
 use Rattle.codespan_output.proofs.Lanes.LineLemmas.{each_all, each_map}
 use Rattle.codespan_output.proofs.Outputs.Loci.{each_start, stated_texts}
 use Rattle.codespan_output.proofs.Utf8.Streams.{text-byte_stream}
 use Rattle.codespan_output.proofs.Utf8.Lanes.{RowIsUtf8}
 use Rattle.codespan_output.proofs.Utf8.Rows.{text-rows}
-use Rattle.codespan_output.proofs.Utf8.ListElements.{all-append, all-filter}
+use Rattle.codespan_output.proofs.Utf8.ListElements.{all-append, all-filter, all-weaker}
+use Rattle.codespan_output.proofs.Utf8.FittedRows.{row-fitted}
 use Rattle.codespan_output.proofs.Utf8.DrawnLines.{rows-notes}
 use Rattle.codespan_output.specs.Private.{has_any}
 use Rattle.codespan_output.proofs.Utf8.OutputRows.{HasTextMessage, FileIsUtf8, rows-snippets}
@@ -95,10 +97,14 @@ module _ {Id : Type 0} (files : FileDatabase Id) (d : Diagnostic Id)
       → (loci : List Locus) → NamesAreUtf8 loci
       → StreamIsUtf8 (output style renderer_config view_config files d loci)
   text-output Rich renderer_config view_config ok loci named =
-      text-rows (context_of renderer_config d.severity (padding_of view_config (files_of files d)))
-      ok
-      (rich_rows view_config (header_text_of d) loci (files_of files d) (notes_of d))
-      (rows-rich view_config loci named)
+      let context = context_of renderer_config d.severity
+      (padding_of view_config (files_of files d)) in
+      let width = renderer_config.max_width in
+      let rows = rich_rows view_config (header_text_of d) loci (files_of files d) (notes_of d) in
+      text-rows context ok (map (fitted_row width context) rows)
+      (each_map RowIsUtf8 (fitted_row width context) rows
+      (all-weaker RowIsUtf8 (λ row. RowIsUtf8 (fitted_row width context row))
+      (row-fitted width context) rows (rows-rich view_config loci named)))
   text-output Medium renderer_config view_config ok loci named =
       text-rows (context_of renderer_config d.severity 0) ok
       (header_rows (header_text_of d) loci ++ note_rows (notes_of d))

@@ -106,6 +106,14 @@ impl<'writer, 'config, W: WriteStyle> Renderer<'writer, 'config, W> {
         }
     }
 
+    /// Returns the width that lines of the source have to fit, by the renderer's configuration. The
+    /// views shorten lines; [`Renderer::render_snippet_source`] renders the line that it gets.
+    pub fn max_width(&self) -> Option<usize>
+        ensures { result ≡ (config_of self.now).max_width }
+    {
+        self.config.max_width
+    }
+
     /// Writes a header: locus, severity, code in brackets and message. An empty code is left out.
     ///
     /// # Errors

@@ -21,6 +21,7 @@ use Rattle.codespan_views.specs.Private.{shows_line, annotation_view, IsCollecte
 use Rattle.codespan_views.specs.Private.{all_annotations, lane_marks_in, lines_of, single_labels_in}
 use Rattle.codespan_views.specs.Private.{line_of_group, rows_of_lines, filled_lines_of}
 use Rattle.codespan_views.specs.Private.{drawn_lines_of, are_lane_marks_in_order, is_line_in_order}
+use Rattle.codespan_views.specs.Private.{IsLineFittable}
 use Rattle.codespan_views.proofs.Annotations.Groups.{are_shown, lines_after, snippet_lines-by_line}
 use Rattle.codespan_views.proofs.Annotations.Groups.{all-on_line}
 use Rattle.codespan_views.proofs.Labels.OfFile.{HasFileIndex, is_of_range}
@@ -40,6 +41,8 @@ use Rattle.codespan_output.proofs.Order.SortedLists.{Rises, rises-filter, rises-
 use Rattle.codespan_output.proofs.Order.SortedFilters.{Falls, filter-reverse, filter-sorted_climbs}
 use Rattle.codespan_output.proofs.Order.SortedFilters.{filter-sorted_falls}
 use Rattle.codespan_views.proofs.Lines.SnippetLineRows.{snippet_lines-rows, snippet_lines-fit}
+use Rattle.codespan_views.proofs.Lines.SnippetLineRows.{snippet_lines-fittable}
+use Rattle.codespan_output.proofs.Fitting.DrawnLines.{line_at-fittable}
 use Rattle.codespan_views.proofs.Lines.SnippetLineRows.{snippet_lines-lines, snippet_lines-fills}
 use Rattle.codespan_views.proofs.Annotations.OfGroup.{single_labels-of_range, range-rank}
 use Rattle.codespan_views.proofs.Annotations.OfGroup.{lane_marks-rank, lane_marks-of_annotations}
@@ -273,6 +276,13 @@ module _ {Id : Type 0} {database : FileDatabase Id} (lawful : AreFiles database)
   lane_marks-fit : (l : ℕ) → are_lane_marks_in_order (num_multi_labels s) (own_on_line l)
       ≡ true
   lane_marks-fit l = rw (lane_marks-are l) (lane_marks-ascend s l)
+
+  -- each snippet line can be fitted to a width
+  pub snippet-fittable : AllByRecursion (IsLineFittable s.file (num_multi_labels s)) (lines_of own)
+  snippet-fittable =
+      rw snippet_lines-are
+      (snippet_lines-fittable (file id) (num_multi_labels s) own_on_line
+      (λ l. rw (line-is l) (line_at-fittable s (lawful.lawful id) l)) None shown)
 
   -- so do those of each snippet line
   pub snippet-fits : AllByRecursion

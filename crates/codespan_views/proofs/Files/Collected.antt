@@ -14,6 +14,7 @@ use Rattle.codespan_output.specs.Padding.{numbered_lines, padding_of}
 use Rattle.codespan_output.specs.Snippets.{LabelInFile, LabeledFileModel, file_ids}
 use Rattle.codespan_output.specs.Snippets.{labeled_file_model, labeled_file_models, rows_of_drawn}
 use Rattle.codespan_views.specs.Private.{Collected, RustFile, Annotation, annotation_view}
+use Rattle.codespan_views.specs.Private.{IsLineFittable}
 use Rattle.codespan_views.specs.Private.{all_digit_counts, IsCollected, IsLookedUpEarly}
 use Rattle.codespan_views.specs.Private.{KeepsLabels, digits_of_files, early_failure}
 use Rattle.codespan_views.specs.Private.{early_number_lookups, known_numbers}
@@ -24,6 +25,7 @@ use Rattle.codespan_views.specs.Private.{HasLocus, locus_lookups_of_files, AreIn
 use Rattle.codespan_views.specs.Private.{drawn_lines_of, filled_lines_of, rows_of_lines}
 use Rattle.codespan_views.specs.Private.{IsLocusOfFile}
 use Rattle.codespan_views.proofs.Annotations.Output.{snippet-fills, snippet-fits, snippet-lines}
+use Rattle.codespan_views.proofs.Annotations.Output.{snippet-fittable}
 use Rattle.codespan_views.proofs.Annotations.Output.{snippet-rows}
 use Rattle.codespan_views.proofs.Errors.Early.{later_failure, locus_lookups_of_labels}
 use Rattle.codespan_views.proofs.Errors.Early.{number_lookups_of_labels}
@@ -48,6 +50,7 @@ pub record AreLinesOfSnippet (config : Config) (s : LabeledFileModel)
   pub rows : rows_of_lines s.file (num_multi_labels s) snippet_lines ≡ rows_of_drawn s None
       (drawn_lines config s.file s.labels)
   pub in_order : AreInOrder (num_multi_labels s) snippet_lines
+  pub fittable : AllByRecursion (IsLineFittable s.file (num_multi_labels s)) snippet_lines
 
 -- nothing of each is nothing
 abbrev pub none_of : {Id A : Type 0} → Id → List A
@@ -90,6 +93,7 @@ module _ {Id : Type 0} {database : FileDatabase Id} (lawful : AreFiles database)
     lines = snippet-lines lawful all k id at;
     rows = snippet-rows lawful all k id at;
     in_order = snippet-fits lawful all k id at;
+    fittable = snippet-fittable lawful all k id at;
   }
 
   -- what is made of the snippet lines of each file is made of its labels

@@ -18,7 +18,6 @@ use Rattle.codespan_views.specs.Private.{annotations_of_next, annotations_after,
 use Rattle.codespan_output.proofs.Utf8.ListElements.{filter-nothing}
 use Rattle.codespan_views.proofs.Files.Indices.{has}
 use Rattle.codespan_views.proofs.Labels.LocusBytes.{start-others, start-own, start-unknown}
-use Rattle.codespan_output.specs.Private.LineRows.{num_multi_labels}
 
 -- the file database is lawful: sameness of ids is an equivalence, the same ids name one file, and
 -- each file has a line
@@ -26,6 +25,7 @@ pub record AreFiles {Id : Type 0} (database : FileDatabase Id) : Type 0 where
   pub equivalence : IsEquivalence database.same
   pub one_file : (i j : Id) → database.same i j ≡ true → database.file i ≡ database.file j
   pub has_line : (i : Id) → 0 < line_count (database.file i)
+  pub lawful : (i : Id) → IsLawful (database.file i)
 
 -- a lawful database, whose equality of ids is this one, has such files
 pub are-files : {Id : Type 0} {database : FileDatabase Id} {same : Id → Id → Bool}

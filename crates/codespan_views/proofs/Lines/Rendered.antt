@@ -1,18 +1,19 @@
 -- Snippet lines that are rendered one after another, what is written and what is looked up, for the
 -- clauses of `render_lines`.
 use Rattle.codespan_core.proofs.Std.{map-append, ◌≡◌, ℕ, List, [], ◌∷◌, ◌++◌}
-use Rattle.codespan_core.proofs.Std.{length, drop, Option, Ok, Err, refl, ◌∙◌, drop-drop}
-use Rattle.codespan_core.proofs.Std.{flat_map-append, append-nil, arith, common_steps}
+use Rattle.codespan_core.proofs.Std.{length, drop, Option, Ok, Err, refl, sym, ap, ◌∙◌, drop-drop}
+use Rattle.codespan_core.proofs.Std.{append-nil, arith, common_steps}
 use Rattle.codespan_core.specs.FileModel.{FileDatabase, or_failure}
 use Rattle.codespan_core.specs.Streams.{Stream}
 use Rattle.codespan_core.specs.WriterLaw.{Sink}
 use Rattle.codespan_output.specs.Types.{Error}
-use Rattle.codespan_output.specs.RowStreams.{stream_of_rows}
+use Rattle.codespan_output.specs.OutputStreams.{fitted_stream}
 use Rattle.codespan_output.specs.Private.LineViews.{context_view}
 use Rattle.codespan_views.specs.declared.snippet.Snippet.{Snippet}
 use Rattle.codespan_views.specs.Private.{lookups_with, HasLines, RendersLines, SnippetLine, Labeled}
 use Rattle.codespan_views.specs.Private.{Filled, Break, filled_lines_of, rows_of_lines, failure_of}
-use Rattle.codespan_views.specs.Private.{model_of}
+use Rattle.codespan_views.specs.Private.{model_of, rows_of_line}
+use Rattle.codespan_output.proofs.Fitting.FittedStreams.{fitted-append}
 use Rattle.codespan_views.proofs.Errors.First.{first_error-append}
 use Rattle.codespan_views.proofs.Errors.LookupRuns.{IsLeft, left_after, left_as, left_cut}
 use Rattle.codespan_views.proofs.Errors.LookupRuns.{run_of_lookup}
@@ -22,7 +23,7 @@ module _ {F Id Name Source : Type 0} (database : F → FileDatabase Id)
   -- the rows of these snippet lines
   abbrev rows : List SnippetLine → Stream
   rows xs =
-      stream_of_rows (context_view snippet.context)
+      fitted_stream snippet.max_width (context_view snippet.context)
       (rows_of_lines (model_of database snippet.file) snippet.num_multi_labels xs)
 
   -- what the lookups of the filled ones fail with, where these are their known numbers
@@ -46,7 +47,13 @@ module _ {F Id Name Source : Type 0} (database : F → FileDatabase Id)
   -- the rows of a line, and then of others
   rows-cons : (x : SnippetLine) (ys : List SnippetLine)
       → rows (x ∷ ys) ≡ rows (x ∷ []) ++ rows ys
-  rows-cons x ys = grind (arith, common_steps, flat_map-append, append-nil)
+  rows-cons x ys =
+      let f = model_of database snippet.file in
+      let own = rows_of_line f snippet.num_multi_labels x in
+      let context = context_view snippet.context in
+      fitted-append snippet.max_width context own
+      (rows_of_lines f snippet.num_multi_labels ys)
+      ∙ ap (λ rs. fitted_stream snippet.max_width context rs ++ rows ys) (sym (append-nil own))
 
   -- the lookups
   lookups-cons : (left : List ℕ) (x : SnippetLine) (ys : List SnippetLine)

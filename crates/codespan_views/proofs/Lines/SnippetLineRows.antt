@@ -13,7 +13,8 @@ use Rattle.codespan_views.specs.Private.{Annotation, SnippetLine, Labeled, Fille
 use Rattle.codespan_views.specs.Private.{line_of_group, rows_of_line, rows_of_lines, filled_line_of}
 use Rattle.codespan_views.specs.Private.{filled_lines_of, drawn_line_of, drawn_lines_of}
 use Rattle.codespan_views.specs.Private.{are_annotations_in_order, are_lane_marks_in_order}
-use Rattle.codespan_views.specs.Private.{is_line_in_order}
+use Rattle.codespan_views.specs.Private.{is_line_in_order, IsLineFittable}
+use Rattle.codespan_output.specs.FittedLineLaws.{IsFittable}
 use Rattle.codespan_output.proofs.DrawnLines.Filling.{given, is_drawn_among, lines-shown}
 use Rattle.codespan_output.proofs.Utf8.Sequences.{all-gap, all-sequence, flat_map-gap}
 use Rattle.codespan_output.proofs.Utf8.Sequences.{flat_map-sequence, sequence-flat}
@@ -70,6 +71,14 @@ pub snippet_lines-fit : (count : ℕ) (m : ℕ → List Annotation)
     (lines_after m previous ds)
 snippet_lines-fit count m fit lane_marks_fit previous ds = search
     (rules, all-sequence, all-gap, fit, lane_marks_fit)
+
+-- each snippet line can be fitted to a width
+pub snippet_lines-fittable : (f : FileModel) (count : ℕ) (m : ℕ → List Annotation)
+    → ((l : ℕ) → IsFittable (line_of_group f count l (m l)))
+    → (previous : Option ℕ) (ds : List ℕ)
+    → AllByRecursion (IsLineFittable f count) (lines_after m previous ds)
+snippet_lines-fittable f count m fittable previous ds = search
+    (rules, all-sequence, all-gap, fittable)
 
 -- ---- the lines of snippet lines
 

@@ -2,11 +2,10 @@
 use Rattle.codespan_core.proofs.Std.{List, AllZip, arith, common_steps}
 use Rattle.codespan_core.specs.FileModel.{FileDatabase}
 use Rattle.codespan_output.specs.Types.{Rich, Diagnostic}
-use Rattle.codespan_output.specs.OutputStreams.{AreLoci, IsLocus, NamesAreUtf8, files_of}
+use Rattle.codespan_output.specs.OutputStreams.{AreLoci, NamesAreUtf8, files_of}
 use Rattle.codespan_output.specs.Rows.{Locus}
 use Rattle.codespan_views.specs.Private.{IsLocusOfFile}
 use Rattle.codespan_output.proofs.Outputs.Loci.{zip_map, zip_texts, zip_weaker}
-use Rattle.codespan_output.specs.Private.LocusBytes.{snippet_locus_byte}
 
 module _ {Id : Type 0} (files : FileDatabase Id) (d : Diagnostic Id) (loci : List Locus)
     (are : AllZip IsLocusOfFile (files_of files d) loci) where

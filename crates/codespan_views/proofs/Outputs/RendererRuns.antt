@@ -1,14 +1,14 @@
 -- Calls that render by a renderer, one after another: for the clauses of the views' `render`, of
 -- `render_snippets`, `render_notes`, `render_closing` and `render_headers`.
 use Rattle.codespan_core.proofs.Std.{◌≡◌, List, [], ◌++◌, Option, Result, Ok, Err, refl}
-use Rattle.codespan_core.proofs.Std.{ap, arith, common_steps}
+use Rattle.codespan_core.proofs.Std.{ap, arith, common_steps, ℕ}
 use Rattle.std.specs.Borrow.{GName}
 use Rattle.std.specs.Result.{IsErrAnd}
 use Rattle.codespan_core.specs.Streams.{Stream}
 use Rattle.codespan_core.specs.WriterLaw.{Sink, is_known, with_written}
 use Rattle.codespan_output.specs.Types.{Error, Config}
 use Rattle.codespan_output.specs.Rows.{Row, RowContext}
-use Rattle.codespan_output.specs.RowStreams.{stream_of_rows}
+use Rattle.codespan_output.specs.OutputStreams.{fitted_stream}
 use Rattle.codespan_renderer.specs.declared.term.renderer.Renderer.{Renderer}
 use Rattle.codespan_renderer.specs.Private.RowWriters.{inner_reference, inner_writer}
 use Rattle.codespan_renderer.specs.Private.RowWriters.{row_writer_sink}
@@ -66,12 +66,12 @@ through-run o n m s items (Err e) t p =
 -- the writer comes back from the row writer that has written rows, with lookups on the way, and has
 -- received them
 pub rows-rendered : {W : Type 0} (sink : W → Sink) {o : Option Error} {context other : RowContext}
-    (rows : List Row) (before after : RowWriter W) {name : GName} {old new : W}
+    {width wide : Option ℕ} (rows : List Row) (before after : RowWriter W) {name : GName} {old new : W}
     {r : Result (Unit {0}) Error}
-    → context ≡ other → inner_reference before ≡ name → inner_writer before ≡ old
-    → WritesWithLookups o (row_writer_sink sink before) (stream_of_rows context rows) r
+    → width ≡ wide → context ≡ other → inner_reference before ≡ name → inner_writer before ≡ old
+    → WritesWithLookups o (row_writer_sink sink before) (fitted_stream width context rows) r
     (row_writer_sink sink after)
     → (name ≡ inner_reference after → new ≡ inner_writer after)
-    → WritesWithLookups o (sink old) (stream_of_rows other rows) r (sink new)
-rows-rendered sink {o} {context} rows before after {r = r} equal called previous writes back =
+    → WritesWithLookups o (sink old) (fitted_stream wide other rows) r (sink new)
+rows-rendered sink {o} {context} {width = width} rows before after {r = r} same equal called previous writes back =
     grind (arith, common_steps, through-run)

@@ -19,6 +19,7 @@ use Rattle.codespan_views.specs.Private.{late_failure}
 use Rattle.codespan_core.proofs.Chains.{WrotePrefix}
 use Rattle.codespan_core.proofs.KnownBytes.{extended-nil}
 use Rattle.codespan_output.proofs.Outputs.Loci.{stated_are_loci}
+use Rattle.codespan_output.proofs.Fitting.FittedStreams.{lawful-can}
 use Rattle.codespan_output.proofs.Outputs.RichOutputs.{rich_output}
 use Rattle.codespan_views.proofs.Errors.Emit.{some_fails}
 use Rattle.codespan_views.proofs.Errors.First.{first_error-some, first_error-none, all_succeed}
@@ -62,7 +63,7 @@ module _ {Id : Type 0} {renderer_config view_config : Config} {files : FileDatab
       → IsRichOutput renderer_config view_config files d items
   output_with loci lawful are is = record {
     is_output = rich_output renderer_config view_config files d lawful.equivalence lawful.has_line
-        loci (file_loci files d loci are) is;
+        (lawful-can renderer_config files lawful.lawful) loci (file_loci files d loci are) is;
     names_are_utf8 = file_texts files d loci are;
   }
 
@@ -74,6 +75,7 @@ module _ {Id : Type 0} {renderer_config view_config : Config} {files : FileDatab
   failed_early {s} {e} lawful some known = record {
     stream = _;
     is_output = rich_output renderer_config view_config files d lawful.equivalence lawful.has_line
+        (lawful-can renderer_config files lawful.lawful)
         (stated_loci files d Rich) (stated_are_loci files d Rich) refl;
     received = λ are_known. PrefixWritten-none s _ s refl;
     on_end = record {

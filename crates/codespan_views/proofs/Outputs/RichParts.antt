@@ -3,19 +3,20 @@
 use Rattle.codespan_core.proofs.Std.{◌≡◌, ◌≢◌, ◌<◌, ℕ, List, [], ◌∷◌}
 use Rattle.codespan_core.proofs.Std.{◌++◌, length, map, None, Some, Result, Ok, Err, inl, refl}
 use Rattle.codespan_core.proofs.Std.{sym, subst, ap, ◌∙◌, arith, IfErr, Option, AllZip}
-use Rattle.codespan_core.proofs.Std.{flat_map-append, append_assoc, nil_from_length, common_steps}
+use Rattle.codespan_core.proofs.Std.{append_assoc, nil_from_length, common_steps}
 use Rattle.codespan_core.specs.Errors.{IsIo}
 use Rattle.codespan_core.specs.FileModel.{FileDatabase}
-use Rattle.codespan_core.specs.Streams.{Stream, newline}
+use Rattle.codespan_core.specs.Streams.{Stream}
 use Rattle.codespan_core.specs.WriterLaw.{Sink, Writes}
 use Rattle.codespan_output.specs.Types.{Config, Rich, Diagnostic, Label, Error, FormatError}
 use Rattle.codespan_output.specs.Types.{OutOfMemory}
 use Rattle.codespan_output.specs.Lookups.{early_lookups, first_error, late_lookups}
 use Rattle.codespan_output.specs.OutputStreams.{header_text_of, label_of, labels_of, context_of}
-use Rattle.codespan_output.specs.OutputStreams.{notes_of}
+use Rattle.codespan_output.specs.OutputStreams.{fitted_stream, notes_of}
+use Rattle.codespan_output.proofs.Fitting.FittedStreams.{closing-same, fitted-append}
 use Rattle.codespan_output.specs.Padding.{padding_of}
 use Rattle.codespan_output.specs.Rows.{FinalRow, HeaderRow, Row}
-use Rattle.codespan_output.specs.RowStreams.{stream_of, stream_of_rows}
+use Rattle.codespan_output.specs.RowStreams.{stream_of_rows}
 use Rattle.codespan_output.specs.Snippets.{LabelInFile, labeled_file_models, note_rows}
 use Rattle.codespan_views.specs.Private.{Collected, IsLookedUpEarly, loci_view, labels_failure}
 use Rattle.codespan_views.specs.Private.{WritesWithLookups, IsLocusOfFile, RendersSnippets}
@@ -61,7 +62,11 @@ bare-whole {renderer_config = renderer_config} {view_config = view_config} {file
     (output_with [] lawful
     (subst (λ (xs : List (LabelInFile _)). AllZip IsLocusOfFile
     (labeled_file_models files.same files.file xs) []) (sym none) tt)
-    (ap (λ (xs : List (LabelInFile _)). stream_of_rows
+    (ap (λ rows. header_row_with_newline d None ++ stream_of_rows
+    (context_of renderer_config d.severity 0) rows)
+    (sym (closing-same renderer_config.max_width (context_of renderer_config d.severity 0)
+    (notes_of d)))
+    ∙ ap (λ (xs : List (LabelInFile _)). fitted_stream renderer_config.max_width
     (context_of renderer_config d.severity
     (padding_of view_config (labeled_file_models files.same files.file xs)))
     (HeaderRow None (header_text_of d) ∷ (note_rows (notes_of d) ++ (FinalRow ∷ []))))
@@ -142,7 +147,13 @@ module _ {Id : Type 0} (renderer_config : Config) {view_config : Config}
     (ready : IsReady view_config database d numbers collected) where
   -- rows of the output, as a configuration renders them
   abbrev rows_by : Config → List Row → Stream
-  rows_by k = stream_of_rows (context_of k d.severity collected.padding.digit_count)
+  rows_by k =
+      fitted_stream k.max_width (context_of k d.severity collected.padding.digit_count)
+
+  -- the rows after the snippets
+  abbrev end_by : Config → Stream
+  end_by k =
+      stream_of_rows (context_of k d.severity collected.padding.digit_count) (closing_rows d)
 
   -- the header
   abbrev header : Stream
@@ -154,24 +165,30 @@ module _ {Id : Type 0} (renderer_config : Config) {view_config : Config}
 
   -- the notes and the empty line
   abbrev end : Stream
-  end = rows_by renderer_config (closing_rows d)
+  end = end_by renderer_config
 
   -- all of these are an output
   output-is : IsRichOutput renderer_config view_config database d ((header ++ middle) ++ end)
   output-is =
       let rows = snippet_rows view_config database d collected in
       let context = context_of renderer_config d.severity collected.padding.digit_count in
+      let width = renderer_config.max_width in
       output_with (loci_view collected.files.items) ready.lawful
       (loci-of_all ready.lawful ready.looked_up.collected_is ready.looked_up.loci)
       (sym
       (ap
-      (λ n. stream_of_rows (context_of renderer_config d.severity n)
+      (λ n. fitted_stream width (context_of renderer_config d.severity n)
       ((HeaderRow None (header_text_of d) ∷ rows) ++ note_rows (notes_of d) ++ (FinalRow ∷ [])))
       (sym ready.looked_up.padding_is)
-      ∙ ap (stream_of_rows context) (append_assoc (HeaderRow None (header_text_of d) ∷ rows)
-      (note_rows (notes_of d)) (FinalRow ∷ []))
-      ∙ flat_map-append (λ row. stream_of context row ++ newline)
-      (HeaderRow None (header_text_of d) ∷ rows) (note_rows (notes_of d) ++ (FinalRow ∷ []))))
+      ∙ ap (fitted_stream width context)
+      (append_assoc (HeaderRow None (header_text_of d) ∷ rows) (note_rows (notes_of d))
+      (FinalRow ∷ []))
+      ∙ fitted-append width context (HeaderRow None (header_text_of d) ∷ rows)
+      (note_rows (notes_of d) ++ (FinalRow ∷ []))
+      ∙ ap
+      (λ rs. fitted_stream width context (HeaderRow None (header_text_of d) ∷ rows)
+      ++ stream_of_rows context rs)
+      (closing-same width context (notes_of d))))
 
   -- the whole was rendered, with the lookups after the header, however that ended
   whole : {old new : Sink} (r : Result (Unit {0}) Error)
@@ -208,7 +225,7 @@ module _ {Id : Type 0} (renderer_config : Config) {view_config : Config}
     -- the snippets have been written, and then the notes were written
     pub rendered-whole : {third : Config} {last new : Sink} (r : Result (Unit {0}) Error)
         → RendersSnippets view_config database d collected second mid (Ok tt) last
-        → third ≡ renderer_config → Writes last (rows_by third (closing_rows d)) r new
+        → third ≡ renderer_config → Writes last (end_by third) r new
         → IfErr r IsIo
         → WritesStyled Rich renderer_config view_config database d old r new
     rendered-whole {third} {last} {new} r part equal_end writes io =
@@ -216,4 +233,4 @@ module _ {Id : Type 0} (renderer_config : Config) {view_config : Config}
         (run_as (or_failure-none _) refl
         (run_then (both part)
         (run_of_writes r
-        (subst (λ k. Writes last (rows_by k (closing_rows d)) r new) equal_end writes) io)))
+        (subst (λ k. Writes last (end_by k) r new) equal_end writes) io)))

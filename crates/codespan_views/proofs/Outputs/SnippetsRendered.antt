@@ -3,7 +3,7 @@
 use Rattle.codespan_core.proofs.Std.{common_steps, ◌≡◌, ℕ, ◌+◌, ◌≤◌, Bool}
 use Rattle.codespan_core.proofs.Std.{◌||◌, List, [], ◌∷◌, ◌++◌, length, drop, map}
 use Rattle.codespan_core.proofs.Std.{Option, None, Ok, refl, sym, subst, ap, ◌∙◌, arith}
-use Rattle.codespan_core.proofs.Std.{flat_map, nat_lt, if◌then◌else◌, flat_map-append}
+use Rattle.codespan_core.proofs.Std.{flat_map, nat_lt, if◌then◌else◌}
 use Rattle.codespan_core.proofs.Std.{append_assoc}
 use Rattle.codespan_core.specs.FileModel.{FileDatabase, FileModel, Lookup, or_failure}
 use Rattle.codespan_core.specs.Streams.{Stream}
@@ -13,9 +13,8 @@ use Rattle.codespan_output.specs.Types.{Diagnostic, Error, Layout, Classic, Unbr
 use Rattle.codespan_output.specs.Arguments.{locus_view}
 use Rattle.codespan_output.specs.Lookups.{filled_lines, first_error, lookups_of_file}
 use Rattle.codespan_output.specs.Lookups.{snippet_lookups}
-use Rattle.codespan_output.specs.OutputStreams.{labels_of, notes_of}
+use Rattle.codespan_output.specs.OutputStreams.{fitted_stream, labels_of, notes_of}
 use Rattle.codespan_output.specs.Rows.{Locus, Row, RowContext}
-use Rattle.codespan_output.specs.RowStreams.{stream_of_rows}
 use Rattle.codespan_output.specs.Lines.{drawn_lines}
 use Rattle.codespan_output.specs.Snippets.{rows_of_drawn, empty_row_after, LabeledFileModel}
 use Rattle.codespan_output.specs.Snippets.{labeled_file_model, snippets}
@@ -25,6 +24,7 @@ use Rattle.codespan_views.specs.Private.{ids_view, loci_view, WritesWithLookups,
 use Rattle.codespan_views.specs.Private.{filled_lines_of, rows_of_lines, first_rows}
 use Rattle.codespan_views.specs.Private.{snippet_empty_row, late_failure, snippet_rows}
 use Rattle.codespan_core.proofs.Chains.{WroteStream}
+use Rattle.codespan_output.proofs.Fitting.FittedStreams.{fitted-append}
 use Rattle.codespan_views.proofs.Files.Collected.{IsFileOfLabels, nothing-of_each}
 use Rattle.codespan_views.proofs.Files.InOrder.{ids-of_labels, drop-end, followed-at, id-at}
 use Rattle.codespan_views.proofs.Files.InOrder.{id-inside, ids-count, locus-at, locus-inside}
@@ -66,23 +66,31 @@ module _ {Id : Type 0} (database : FileDatabase Id) (view_config : Config) (d : 
     failure_left k = failure_of_all (drop k (ids_view collected.files.items))
 
     -- the snippets from this index on are left of all
-    pub record SnippetsLeft (context : RowContext) (k : ℕ) (old now : Sink) : Type 0 where
+    pub record SnippetsLeft (width : Option ℕ) (context : RowContext) (k : ℕ) (old now : Sink)
+      : Type 0 where
       pub left : IsLeft (late_failure view_config database d) old
-          (stream_of_rows context (snippet_rows view_config database d collected))
-          (failure_left k) now (stream_of_rows context (rows_left k))
+          (fitted_stream width context (snippet_rows view_config database d collected))
+          (failure_left k) now (fitted_stream width context (rows_left k))
 
 -- the streams of rows, one after the other
-rows-four : (context : RowContext) (start lines end rest : List Row)
-    → stream_of_rows context (start ++ ((lines ++ end) ++ rest))
-    ≡ stream_of_rows context start ++ (stream_of_rows context lines
-    ++ (stream_of_rows context end ++ stream_of_rows context rest))
-rows-four context start lines end rest = simp (flat_map-append, append_assoc)
+rows-four : (width : Option ℕ) (context : RowContext) (start lines end rest : List Row)
+    → fitted_stream width context (start ++ ((lines ++ end) ++ rest))
+    ≡ fitted_stream width context start ++ (fitted_stream width context lines
+    ++ (fitted_stream width context end ++ fitted_stream width context rest))
+rows-four width context start lines end rest =
+    let shown = fitted_stream width context in
+    fitted-append width context start ((lines ++ end) ++ rest)
+    ∙ ap (λ s. shown start ++ s)
+    (fitted-append width context (lines ++ end) rest
+    ∙ ap (λ s. s ++ shown rest) (fitted-append width context lines end)
+    ∙ append_assoc (shown lines) (shown end) (shown rest))
 
 -- at first all are left
 pub left-start : {Id : Type 0} {database : FileDatabase Id} {view_config : Config}
-    {d : Diagnostic Id} {context : RowContext} {collected : Collected Id} {numbers : List ℕ}
-    {s : Sink} → IsLookedUpEarly database view_config (labels_of d) numbers collected
-    → SnippetsLeft database view_config d collected context 0 s s
+    {d : Diagnostic Id} {width : Option ℕ} {context : RowContext} {collected : Collected Id}
+    {numbers : List ℕ} {s : Sink}
+    → IsLookedUpEarly database view_config (labels_of d) numbers collected
+    → SnippetsLeft database view_config d collected width context 0 s s
 left-start looked_up = record {
   left = rw (ids-of_labels looked_up.collected_is.files)
       (record { frame = refl; finish = λ run. run });
@@ -96,8 +104,8 @@ none-later file filled Classic js = nothing-of_each js
 none-later file filled Unbroken js = tt
 
 module _ {Id : Type 0} {database : FileDatabase Id} {view_config : Config} {d : Diagnostic Id}
-    {context : RowContext} {collected : Collected Id} {k : ℕ} {old mid : Sink}
-    (left : SnippetsLeft database view_config d collected context k old mid) where
+    {width : Option ℕ} {context : RowContext} {collected : Collected Id} {k : ℕ} {old mid : Sink}
+    (left : SnippetsLeft database view_config d collected width context k old mid) where
   -- what names the files, and where they start
   abbrev ids : List Id
   ids = ids_view collected.files.items
@@ -113,7 +121,7 @@ module _ {Id : Type 0} {database : FileDatabase Id} {view_config : Config} {d : 
   pub left-end : {files : List (RustFile Id)} → files ≡ collected.files.items
       → length files ≤ k
       → WritesWithLookups (late_failure view_config database d) old
-      (stream_of_rows context (snippet_rows view_config database d collected)) (Ok tt) mid
+      (fitted_stream width context (snippet_rows view_config database d collected)) (Ok tt) mid
   left-end {files} equal past =
       let counted = subst (λ (fs : List (RustFile Id)). length fs ≤ k) equal past in
       let none : drop k ids ≡ [] = drop-end ids k (omega (arith, counted, ids-count {Id = Id})) in
@@ -205,20 +213,20 @@ module _ {Id : Type 0} {database : FileDatabase Id} {view_config : Config} {d : 
       -- the streams of its first rows, of its lines, and of what comes after these: a row, where
       -- something follows, and later files
       abbrev first_stream : Stream
-      first_stream = stream_of_rows context (first_rows f.num_multi_labels f.locus)
+      first_stream = fitted_stream width context (first_rows f.num_multi_labels f.locus)
 
       abbrev lines_stream : Stream
       lines_stream =
-          stream_of_rows context
+          fitted_stream width context
           (rows_of_lines (database.file f.file_id) f.num_multi_labels snippet_lines)
 
       abbrev end_stream : Bool → Stream
       end_stream b =
-          stream_of_rows context (if b then snippet_empty_row f.num_multi_labels ∷ [] else [])
-          ++ stream_of_rows context (rows_left database view_config d collected (k + 1))
+          fitted_stream width context (if b then snippet_empty_row f.num_multi_labels ∷ [] else [])
+          ++ fitted_stream width context (rows_left database view_config d collected (k + 1))
 
       -- what is left are these
-      stream-is : stream_of_rows context (rows_left database view_config d collected k)
+      stream-is : fitted_stream width context (rows_left database view_config d collected k)
           ≡ first_stream ++ (lines_stream ++ end_stream follows)
       stream-is =
           rw (
@@ -228,7 +236,7 @@ module _ {Id : Type 0} {database : FileDatabase Id} {view_config : Config} {d : 
             is.lines_are.rows,
             followed,
           )
-          (rows-four context (first_rows (num_multi_labels own) f.locus)
+          (rows-four width context (first_rows (num_multi_labels own) f.locus)
           (rows_of_drawn own None (drawn_lines view_config own.file own.labels))
           (empty_row_after follows own) (rows_left database view_config d collected (k + 1)))
 
@@ -237,7 +245,7 @@ module _ {Id : Type 0} {database : FileDatabase Id} {view_config : Config} {d : 
       -- these lookups and this stream are left of all
       abbrev Left : Option Error → Sink → Stream → Type 0
       Left = IsLeft (late_failure view_config database d) old
-          (stream_of_rows context (snippet_rows view_config database d collected))
+          (fitted_stream width context (snippet_rows view_config database d collected))
 
       -- its parts are left
       pub left-parts : Left (or_failure (database.failure f.file_id Source)

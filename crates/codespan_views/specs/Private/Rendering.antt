@@ -11,6 +11,7 @@ use Rattle.codespan_output.specs.declared.rows.line.RowContext.{RowContext}
 use Rattle.codespan_output.specs.Private.LineViews.{context_view}
 use Rattle.codespan_output.specs.Lookups.{first_error, late_lookups}
 use Rattle.codespan_output.specs.OutputStreams.{header_text_of, labels_of, context_of, notes_of}
+use Rattle.codespan_output.specs.OutputStreams.{fitted_stream}
 use Rattle.codespan_output.specs.declared.arguments.Locus.{Locus as RustLocus}
 use Rattle.codespan_output.specs.Arguments.{locus_view}
 use Rattle.codespan_output.specs.Rows.{EmptyRow, FinalRow, Locus, Row, SnippetStartRow}
@@ -78,4 +79,5 @@ module _ {Id : Type 0} (view_config : Config) (database : FileDatabase Id) (d : 
     abbrev pub RendersSnippets : Config → Sink → Result (Unit {0}) Error → Sink → Type 0
     RendersSnippets config old =
         WritesWithLookups late_failure old
-        (stream_of_rows (context_of config d.severity collected.padding.digit_count) snippet_rows)
+        (fitted_stream config.max_width
+        (context_of config d.severity collected.padding.digit_count) snippet_rows)

@@ -9,6 +9,7 @@ use Rattle.codespan_core.specs.FileModel.{FileModel, Lookup, line_text}
 use Rattle.codespan_core.specs.Labels.{LabelModel, LaneMark}
 use Rattle.codespan_output.specs.Arguments.{ascend_from, starts_in_order}
 use Rattle.codespan_output.specs.CharMetrics.{text_without_line_end}
+use Rattle.codespan_output.specs.FittedLineLaws.{IsFittable}
 use Rattle.codespan_output.specs.Rows.{Line, Row, BreakRow, rows_of}
 use Rattle.codespan_output.specs.Sequences.{gap_between}
 use Rattle.codespan_views.specs.Private.Annotations.{Annotation, AnnotationKind, Single, Multi}
@@ -139,6 +140,12 @@ is_line_in_order count (Break annotations) = are_lane_marks_in_order count annot
 -- so are those of each line
 abbrev pub AreInOrder : ℕ → List SnippetLine → Type 0
 AreInOrder count xs = AllByRecursion (λ x. is_line_in_order count x ≡ true) xs
+
+-- the line can be fitted to a width
+abbrev pub IsLineFittable : FileModel → ℕ → SnippetLine → Type 0
+IsLineFittable f count (Labeled l annotations) = IsFittable (line_of_group f count l annotations)
+IsLineFittable f count (Filled l annotations) = IsFittable (line_of_group f count l annotations)
+IsLineFittable f count (Break annotations) = Unit {0}
 
 -- what is before shown line `d`, which has the annotations `next`, where so many lines are between
 -- it and the shown line before: the one line between, with the annotations `hidden`, or a break

@@ -10,6 +10,7 @@ ghost use Rattle.codespan_views.specs.Private.SnippetLines.{lane_marks_in, singl
 use crate::annotation::{Annotation, AnnotationKind, drawn_range, multi_label};
 use codespan_core::diagnostic::LabelStyle;
 use codespan_core::files::Error;
+use codespan_fitting::FittingBuffers;
 use codespan_renderer::term::renderer::cached::LineCache;
 use codespan_renderer::term::renderer::{MultiLabel, SingleLabel};
 use std::alloc::Global;
@@ -27,6 +28,8 @@ pub struct LineBuffers<'numbers, 'd> {
     pub lane_marks: Vec<(usize, LabelStyle, MultiLabel<'d>)>,
     /// The characters of the line and the pointers under them, as far as its rows reach.
     pub line_cache: LineCache,
+    /// The memory in which lines are shortened, once one had to be.
+    pub fitting: Option<FittingBuffers<'d>>,
     /// The numbers of the filled lines that are rendered next, where they were looked up before the
     /// header.
     pub numbers: Iter<'numbers, usize>,
@@ -43,6 +46,7 @@ impl<'numbers, 'd> LineBuffers<'numbers, 'd> {
             single_labels: Vec::new(alloc),
             lane_marks: Vec::new(alloc),
             line_cache: LineCache::new(alloc),
+            fitting: None,
             numbers: numbers.iter(),
         }
     }

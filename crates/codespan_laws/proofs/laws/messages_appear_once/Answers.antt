@@ -3,5 +3,5 @@ use Rattle.codespan_laws.proofs.laws.messages_appear_once.Goals as goal
 
 pub returns : goal.returns
 returns g c =
-    λ renderer_config view_config files d equal has_line loci are. messages.messages_appear_once
-    renderer_config view_config files d equal has_line loci are
+    λ renderer view files d equal has_line can loci are.
+    messages.messages_appear_once renderer view files d equal has_line can loci are

@@ -3,6 +3,5 @@ use Rattle.codespan_laws.proofs.laws.outputs_mean_labels.Goals as goal
 
 pub returns : goal.returns
 returns g c =
-    λ renderer view files d equal has_line loci are. output_means_labels renderer view files d
-    equal
-    has_line loci are
+    λ renderer view files d equal has_line can loci are.
+    output_means_labels renderer view files d equal has_line can loci are

@@ -24,7 +24,9 @@ use Rattle.codespan_views.proofs.collected.collect.Goals as goal
 -- the files are lawful, and equal ids name one file
 are_files : (g : Over) (κs : Lfts 8) → g.claim κs → (files : g.row.F.Denot)
     → AreFiles (g.F.Files.database files)
-are_files g κs claim files = grind (arith, common_steps, are-files)
+are_files g κs claim files =
+    let laws = g.met.F.Files κs claim in
+    are-files (laws.same_is_eq files) (search rules) (laws.same_file files) (laws.lawful files)
 
 -- which ids are equal
 equal_ids : (g : Over) (κs : Lfts 8) → g.claim κs → (files : g.row.F.Denot)

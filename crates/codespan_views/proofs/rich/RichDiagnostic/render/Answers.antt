@@ -1,5 +1,4 @@
 use Rattle.codespan_core.proofs.Std.{Err, rules, refl, sym, ◌∙◌, arith, nat_tests}
-use Rattle.codespan_core.proofs.Std.{common_steps}
 use contract.Lifetimes.{Lfts}
 use Rattle.codespan_output.specs.OutputStreams.{context_of}
 use Rattle.codespan_output.specs.RowStreams.{stream_of_rows}
@@ -19,7 +18,10 @@ use Rattle.codespan_views.proofs.rich.RichDiagnostic.render.Goals as goal
 -- the files are lawful
 are_lawful : (g : Over) (κs : Lfts 12) → g.claim κs → (files : g.row.F.Denot)
     → AreFiles (g.F.Files.database files)
-are_lawful g κs claim files = grind (arith, common_steps, are-files)
+are_lawful g κs claim files =
+    let laws = g.met.F.Files κs claim in
+    are-files (laws.same_is_eq files) g.met.FileId.Eq.laws (laws.same_file files)
+    (laws.lawful files)
 
 -- what the header waits for has been looked up
 is_ready : (g : Over) (c : In_ok-numbers g)

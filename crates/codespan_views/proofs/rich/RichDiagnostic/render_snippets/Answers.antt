@@ -89,6 +89,7 @@ render_lines-requires g c κs =
     let lines = own_lines (turn g place) c.deref-in-loop-index.ensures.value
     (g.F.Files.database c.args.files.now).file c.requires.collected_is.lines in
     let in_order = rw (sym own.lanes_are) at own.lines_are.in_order in
+    let fittable = rw (sym own.lanes_are) at own.lines_are.fittable in
     let numbers = own-numbers was.rendered (turn g place).here own was.numbers in
     ((refl, (refl, tt)), (lines, search rules))
 
@@ -101,7 +102,7 @@ returns-in_err-render_first_rows-clause-renders g c =
     let first = c.in_err-render_first_rows.ensures in
     rw (exit_is _ c.from_residual-in_err-render_first_rows.ensures.1)
     (rows-rendered g.W.WriteStyle.sink _ c.new-rows.result c.render_first_rows.new.rows
-    c.context-context.ensures c.new-rows.ensures.reference c.new-rows.ensures.writer
+    c.max_width-max_width.ensures c.context-context.ensures c.new-rows.ensures.reference c.new-rows.ensures.writer
     (left_cut _ _ (run_of_writes (Err _) first.writes first.io)
     (left-source was.rendered (turn g place).here (own-file g place) was.numbers
     c.in_ok-source.ensures.failed)) (search rules))
@@ -137,7 +138,7 @@ returns-in_err-render_empty_row-clause-renders g c =
     let row = c.in_err-render_empty_row.ensures in
     rw (exit_is _ c.from_residual-in_err-render_empty_row.ensures.1)
     (rows-rendered g.W.WriteStyle.sink _ c.new-rows.result c.render_empty_row.new.rows
-    c.context-context.ensures c.new-rows.ensures.reference c.new-rows.ensures.writer
+    c.max_width-max_width.ensures c.context-context.ensures c.new-rows.ensures.reference c.new-rows.ensures.writer
     (left_cut _ _ (run_of_writes (Err _) row.writes row.io)
     (left-row was.rendered at.here own was.numbers c.in_ok-source.ensures.failed
     c.in_ok-render_first_rows.ensures.writes true

@@ -20,7 +20,7 @@ invariant-loop-index g l = record {
       ≡ known_numbers_of_labels (view_config_of l.self) (g.F.Files.database l.files)
       (labels_of (diagnostic_of l.self)) (drop l.index (ids_view l.collected.files.items));
   rendered : SnippetsLeft (g.F.Files.database l.files) (view_config_of l.self)
-      (diagnostic_of l.self) l.collected (context_view l.context) l.index
+      (diagnostic_of l.self) l.collected l.max_width (context_view l.context) l.index
       (row_writer_sink g.W.WriteStyle.sink l.initial.rows)
       (row_writer_sink g.W.WriteStyle.sink l.rows);
 }

@@ -120,7 +120,7 @@ render_line-requires g c κs =
         c.requires.drawn.source,
         (
           first-of (next g at) (OfFile g at) c.loop-first.invariant.lines,
-          before.left.has.in_order.0,
+          (before.left.has.fittable.0, before.left.has.in_order.0),
         ),
       ),
     )
