@@ -10,7 +10,7 @@ def text(content):
 def request(times, case):
     """The input of both programs, for a case: its files, labels, notes, code and message."""
     files, labels, notes = case.get('files', [('f', 'abc\n')]), case.get('labels', []), case.get('notes', [])
-    parts = [b'%d\n%s\n%d\n' % (times, case.get('made', 'once').encode(), len(files))]
+    parts = [b'%d\n%s\n%d\n%d\n' % (times, case.get('made', 'once').encode(), case.get('width', 0), len(files))]
     parts += [text(name) + text(source) for name, source in files]
     parts += [text(case.get('code', '')), text(case.get('message', '')), b'%d\n' % len(labels)]
     parts += [b'%s\n%d\n%d\n%d\n%s' % (style.encode(), file, start, end, text(message)) for style, file, start, end, message in labels]

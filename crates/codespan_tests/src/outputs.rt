@@ -2,6 +2,7 @@
 
 mod endless;
 pub mod failures;
+mod fitted;
 mod flushing;
 mod label_orders;
 mod listing;

@@ -13,8 +13,8 @@ pub fn are_same_chars(left: &Chars<'_>, right: &Chars<'_>) -> bool {
     characters_of(left) == characters_of(right)
 }
 
-/// Returns all fields but the characters: the display style, the layout, the greatest width, and the
-/// numbers.
+/// Returns all fields but the characters: the display style, the layout, the greatest width, and
+/// the numbers.
 fn settings_of(config: &Config<'_>) -> (DisplayStyle, Layout, Option<usize>, [usize; 5]) {
     let Config {
         display_style,

@@ -1,12 +1,13 @@
 //! The input: fields, one after another.
 //!
 //! They are, in this order: how many times to render; `once` or `anew`, whether the file database
-//! is made once, before the first time, or for each time; the number of files, and of each its name
-//! and its source; the code; the message; the number of labels, and of each `primary` or
-//! `secondary`, its file, its start, its end and its message; the number of notes, and each note. A
-//! number is a line. A text is a line with its length in bytes, and then that many bytes and a
-//! newline. With an empty code the diagnostic has none. Files are numbered from 0; starts and ends
-//! are byte indices in the source, the end exclusive.
+//! is made once, before the first time, or for each time; the width that lines have to fit, in
+//! cells, 0 for none; the number of files, and of each its name and its source; the code; the
+//! message; the number of labels, and of each `primary` or `secondary`, its file, its start, its
+//! end and its message; the number of notes, and each note. A number is a line. A text is a line
+//! with its length in bytes, and then that many bytes and a newline. With an empty code the
+//! diagnostic has none. Files are numbered from 0; starts and ends are byte indices in the source,
+//! the end exclusive.
 
 use std::str;
 

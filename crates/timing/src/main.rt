@@ -33,14 +33,18 @@ fn main(rt: HostRuntime) -> Result<(), TimingError> {
 fn run(rt: &HostRuntime, mut fields: Fields<'_>) -> Result<(), TimingError> {
     let times = fields.number()?;
     let making = read_making(&mut fields)?;
+    let config = Config {
+        max_width: Some(fields.number()?).filter(|width| *width != 0),
+        ..Config::default()
+    };
     let files = read_files(rt.alloc(), &mut fields)?;
     let diagnostic = read_diagnostic(rt.alloc(), &mut fields)?;
     let made = database(rt.alloc(), &files)?;
 
     let start = Instant::now(rt)?;
     let output = match making {
-        Making::Once => render(times, &made, &diagnostic)?,
-        Making::Anew => render_anew(times, &files, &diagnostic)?,
+        Making::Once => render(&config, times, &made, &diagnostic)?,
+        Making::Anew => render_anew(&config, times, &files, &diagnostic)?,
     };
     let nanos = start.elapsed(rt)?.as_nanos();
 
@@ -49,20 +53,21 @@ fn run(rt: &HostRuntime, mut fields: Fields<'_>) -> Result<(), TimingError> {
 
 /// Renders this many times over one file database, and returns the last output.
 fn render(
+    config: &Config<'_>,
     times: usize,
     files: &SimpleFiles<&str, &str>,
     diagnostic: &Diagnostic<usize>,
 ) -> Result<String, Error> {
-    let config = Config::default();
     let mut output = String::new(*diagnostic.labels.allocator());
     for _ in 0..times {
-        output = emit_into_string(&config, files, diagnostic)?;
+        output = emit_into_string(config, files, diagnostic)?;
     }
     Ok(output)
 }
 
 /// Renders this many times, each over a file database of its own, and returns the last output.
 fn render_anew(
+    config: &Config<'_>,
     times: usize,
     files: &[File<'_>],
     diagnostic: &Diagnostic<usize>,
@@ -70,7 +75,7 @@ fn render_anew(
     let alloc = *diagnostic.labels.allocator();
     let mut output = String::new(alloc);
     for _ in 0..times {
-        output = render(1, &database(alloc, files)?, diagnostic)?;
+        output = render(config, 1, &database(alloc, files)?, diagnostic)?;
     }
     Ok(output)
 }

@@ -90,6 +90,8 @@ fn main() -> io::Result<()> {
     let mut fields = Fields(&input);
     let times = fields.number();
     let is_made_anew = read_is_made_anew(&mut fields);
+    let width = fields.number();
+    assert_eq!(width, 0, "the crate has no width");
     let files = read_files(&mut fields);
     let diagnostic = read_diagnostic(&mut fields);
     let mut made = database(&files);

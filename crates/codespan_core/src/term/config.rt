@@ -20,8 +20,8 @@ use crate::term::config::chars::Chars;
 /// The configuration of the output. `'chars` is the lifetime of the text before a locus, where that
 /// text is borrowed.
 ///
-/// The fields and their defaults are the Rust crate's, but for `layout` and `max_width`. All numbers
-/// of lines are minima, as there: other labels may show more.
+/// The fields and their defaults are the Rust crate's, but for `layout` and `max_width`. All
+/// numbers of lines are minima, as there: other labels may show more.
 ///
 /// # Examples
 ///
@@ -58,10 +58,11 @@ pub struct Config<'chars> {
     /// The padding width and the lanes. By default [`Layout::Classic`], the Rust crate's.
     pub layout: Layout,
     /// The greatest width of a line of the source and of its carets, in cells of the terminal, with
-    /// the gutter. A line that is wider is shortened: `...` stands for text that is left out, and the
-    /// carets stay under the characters of their labels. Where it is too small for the first and last
-    /// characters of the labels, these are shown all the same. Messages and all other rows are whole.
-    /// By default `None`: all lines are whole.
+    /// the gutter. A line that is wider is shortened: `...` stands for text that is left out, and
+    /// the
+    /// carets stay under the characters of their labels. Where it is too small for the first and
+    /// last characters of the labels, these are shown all the same. Messages and all other rows are
+    /// whole. By default `None`: all lines are whole.
     pub max_width: Option<usize>,
 }
 

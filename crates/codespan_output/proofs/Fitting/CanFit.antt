@@ -12,7 +12,8 @@ use Rattle.codespan_output.specs.{UnderlineRow, LaterNoteRow, FinalRow, rows_of}
 use Rattle.codespan_output.specs.{hanging_labels, has_underline, leading_whitespace, line_of_row}
 use Rattle.codespan_output.specs.{IsFittable, LabeledFileModel, LabelInFile, line_at, Locus}
 use Rattle.codespan_output.specs.{HeaderText, rows_of_drawn, drawn_lines, snippet, snippets}
-use Rattle.codespan_output.specs.{empty_lanes, empty_row_after, note_rows, note_line_rows, rich_rows}
+use Rattle.codespan_output.specs.{empty_lanes, empty_row_after, note_rows, note_line_rows}
+use Rattle.codespan_output.specs.{rich_rows}
 use Rattle.codespan_output.specs.{file_ids, labeled_file_model, labeled_file_models, break_between}
 use Rattle.codespan_output.specs.{CanFit}
 use Rattle.codespan_output.specs.Private.{caret_rows, pointer_and_hanging_rows, underline_rows}

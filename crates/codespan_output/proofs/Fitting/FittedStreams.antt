@@ -1,6 +1,7 @@
--- For the clauses `renders` of `codespan_views`: the stream of rows whose lines fit a width, and the
--- labels of a line that fits.
-use Rattle.codespan_core.proofs.Std.{◌≡◌, ℕ, ◌+◌, ◌≤◌, true, ◌&&◌, nat_le, nat_lt, List, [], ◌∷◌, ◌++◌}
+-- For the clauses `renders` of `codespan_views`: the stream of rows whose lines fit a width, and
+-- the labels of a line that fits.
+use Rattle.codespan_core.proofs.Std.{◌≡◌, ℕ, ◌+◌, ◌≤◌, true, ◌&&◌, nat_le, nat_lt, List, [], ◌∷◌}
+use Rattle.codespan_core.proofs.Std.{◌++◌}
 use Rattle.codespan_core.proofs.Std.{map, Option, Some, None, refl, ap, ap₂, ◌∙◌, IfSome}
 use Rattle.codespan_core.proofs.Std.{map-append, flat_map-append, arith, nat_tests, common_steps}
 use Rattle.std.specs.Str.Lines.{lines}

@@ -88,9 +88,11 @@ module _ (config : Config) (severity : Severity) (padding : ℕ) (start other : 
       → fitted_stream width (context start) rows ≡ fitted_stream width (context other) rows
   fitted_rows_equal width [] = refl
   fitted_rows_equal width (row ∷ rows) =
-      cc
-      (fitted_equal width row, row_equal (fitted_row width (context start) row),
-      fitted_rows_equal width rows)
+      cc (
+        fitted_equal width row,
+        row_equal (fitted_row width (context start) row),
+        fitted_rows_equal width rows,
+      )
 
 -- what is rendered is the same, in each style
 module _ (table config : Config) (equal : IsEqualConfig table config) (severity : Severity)

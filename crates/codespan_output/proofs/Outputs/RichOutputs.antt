@@ -108,7 +108,8 @@ module _ {Id : Type 0} (renderer_config view_config : Config) (files : FileDatab
       record {
         rows = rows_by_file view_config has_notes loci (files_of files d);
         stream_is = ap
-            (λ rows. fitted_stream renderer_config.max_width context ((HeaderRow None (header_text_of d) ∷ rows)
+            (λ rows. fitted_stream renderer_config.max_width context
+            ((HeaderRow None (header_text_of d) ∷ rows)
             ++ note_rows (notes_of d) ++ (FinalRow ∷ [])))
             (rows-joined view_config has_notes loci (files_of files d));
         each_file =

@@ -66,12 +66,14 @@ through-run o n m s items (Err e) t p =
 -- the writer comes back from the row writer that has written rows, with lookups on the way, and has
 -- received them
 pub rows-rendered : {W : Type 0} (sink : W → Sink) {o : Option Error} {context other : RowContext}
-    {width wide : Option ℕ} (rows : List Row) (before after : RowWriter W) {name : GName} {old new : W}
+    {width wide : Option ℕ} (rows : List Row) (before after : RowWriter W) {name : GName}
+    {old new : W}
     {r : Result (Unit {0}) Error}
     → width ≡ wide → context ≡ other → inner_reference before ≡ name → inner_writer before ≡ old
     → WritesWithLookups o (row_writer_sink sink before) (fitted_stream width context rows) r
     (row_writer_sink sink after)
     → (name ≡ inner_reference after → new ≡ inner_writer after)
     → WritesWithLookups o (sink old) (fitted_stream wide other rows) r (sink new)
-rows-rendered sink {o} {context} {width = width} rows before after {r = r} same equal called previous writes back =
+rows-rendered sink {o} {context} {width = width} rows before after {r = r} same equal called
+    previous writes back =
     grind (arith, common_steps, through-run)

@@ -67,7 +67,7 @@ module _ {Id : Type 0} (database : FileDatabase Id) (view_config : Config) (d : 
 
     -- the snippets from this index on are left of all
     pub record SnippetsLeft (width : Option ℕ) (context : RowContext) (k : ℕ) (old now : Sink)
-      : Type 0 where
+        : Type 0 where
       pub left : IsLeft (late_failure view_config database d) old
           (fitted_stream width context (snippet_rows view_config database d collected))
           (failure_left k) now (fitted_stream width context (rows_left k))

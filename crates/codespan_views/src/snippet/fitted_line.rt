@@ -17,7 +17,7 @@ use std::alloc::Global;
 /// `OutOfMemory`: an allocation fails.
 #[inline(always)]
 pub fn fitted_line<'row, 'd>(
-    buffers: &'row mut Option<FittingBuffers<'d>>,
+    buffers: &'row mut Option<Box<FittingBuffers<'d>>>,
     alloc: Global,
     max_width: Option<usize>,
     context: RowContext<'_>,
@@ -30,7 +30,10 @@ pub fn fitted_line<'row, 'd>(
     match max_width {
         None => Ok(line),
         Some(width) => {
-            let buffers = buffers.get_or_insert(FittingBuffers::new(alloc));
+            let buffers = match buffers {
+                Some(made) => made,
+                None => buffers.insert(Box::new(alloc, FittingBuffers::new(alloc))?),
+            };
             shortened_line(buffers, width, context, line)
         }
     }

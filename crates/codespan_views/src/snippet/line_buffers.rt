@@ -29,7 +29,7 @@ pub struct LineBuffers<'numbers, 'd> {
     /// The characters of the line and the pointers under them, as far as its rows reach.
     pub line_cache: LineCache,
     /// The memory in which lines are shortened, once one had to be.
-    pub fitting: Option<FittingBuffers<'d>>,
+    pub fitting: Option<Box<FittingBuffers<'d>>>,
     /// The numbers of the filled lines that are rendered next, where they were looked up before the
     /// header.
     pub numbers: Iter<'numbers, usize>,

@@ -102,7 +102,8 @@ returns-in_err-render_first_rows-clause-renders g c =
     let first = c.in_err-render_first_rows.ensures in
     rw (exit_is _ c.from_residual-in_err-render_first_rows.ensures.1)
     (rows-rendered g.W.WriteStyle.sink _ c.new-rows.result c.render_first_rows.new.rows
-    c.max_width-max_width.ensures c.context-context.ensures c.new-rows.ensures.reference c.new-rows.ensures.writer
+    c.max_width-max_width.ensures c.context-context.ensures c.new-rows.ensures.reference
+    c.new-rows.ensures.writer
     (left_cut _ _ (run_of_writes (Err _) first.writes first.io)
     (left-source was.rendered (turn g place).here (own-file g place) was.numbers
     c.in_ok-source.ensures.failed)) (search rules))
@@ -138,7 +139,8 @@ returns-in_err-render_empty_row-clause-renders g c =
     let row = c.in_err-render_empty_row.ensures in
     rw (exit_is _ c.from_residual-in_err-render_empty_row.ensures.1)
     (rows-rendered g.W.WriteStyle.sink _ c.new-rows.result c.render_empty_row.new.rows
-    c.max_width-max_width.ensures c.context-context.ensures c.new-rows.ensures.reference c.new-rows.ensures.writer
+    c.max_width-max_width.ensures c.context-context.ensures c.new-rows.ensures.reference
+    c.new-rows.ensures.writer
     (left_cut _ _ (run_of_writes (Err _) row.writes row.io)
     (left-row was.rendered at.here own was.numbers c.in_ok-source.ensures.failed
     c.in_ok-render_first_rows.ensures.writes true

@@ -34,7 +34,8 @@ returns-clause-renders g c = record {
   rendered =
       run_as refl
       (fitted-rows c.args.self.now.max_width (context_view c.args.self.now.context) _ _
-      (ap line_view c.in_ok-cached.ensures.line ∙ c.in_ok-line.ensures.fitted) (grind (arith, common_steps)) c.requires.fittable)
+      (ap line_view c.in_ok-cached.ensures.line ∙ c.in_ok-line.ensures.fitted)
+      (grind (arith, common_steps)) c.requires.fittable)
       (run_of_writes c.outcome.result
       (writes_as _ _ _ _ _ c.outcome.ensures.same c.write_line-written.ensures)
       c.outcome.ensures.io);

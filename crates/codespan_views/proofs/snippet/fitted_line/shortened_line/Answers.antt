@@ -36,12 +36,14 @@ as_returned width context line same h =
 pub returns-in-None-clause-fitted : goal.returns-in-None-clause-fitted
 returns-in-None-clause-fitted c =
     whole-fits c.args.width (context_view c.args.context) (line_view c.args.line)
-    (as_returned c.args.width c.args.context c.args.line c.in-None.is c.in_ok-fit_line.ensures c.args.line.number)
+    (as_returned c.args.width c.args.context c.args.line c.in-None.is c.in_ok-fit_line.ensures
+    c.args.line.number)
 
 pub invariant_of-result : goal.invariant_of-result
 invariant_of-result c =
     let context = context_view c.args.context in
-    let is = (as_returned c.args.width c.args.context c.args.line c.in-Some.is c.in_ok-fit_line.ensures c.args.line.number context).1 in
+    let is = (as_returned c.args.width c.args.context c.args.line c.in-Some.is
+    c.in_ok-fit_line.ensures c.args.line.number context).1 in
     let count = c.args.line.lanes.count in
     let marks = map lane_mark_view c.args.line.lanes.lane_marks.now in
     record {
@@ -54,5 +56,6 @@ invariant_of-result c =
 
 pub returns-in-Some-clause-fitted : goal.returns-in-Some-clause-fitted
 returns-in-Some-clause-fitted c =
-    (as_returned c.args.width c.args.context c.args.line c.in-Some.is c.in_ok-fit_line.ensures c.args.line.number
+    (as_returned c.args.width c.args.context c.args.line c.in-Some.is c.in_ok-fit_line.ensures
+    c.args.line.number
     (context_view c.args.context)).1
