@@ -15,7 +15,7 @@ abbrev shown : List (Bor (List ℕ)) → List (List ℕ)
 shown = map (λ x. x.now)
 
 -- the rows of lines that begin differently, by the number of lines in common at their end
-to-end : (xs ys : List (Bor (List ℕ))) (n : ℕ) → n ≡ common_end (shown xs) (shown ys)
+pub to-end : (xs ys : List (Bor (List ℕ))) (n : ℕ) → n ≡ common_end (shown xs) (shown ys)
     → rows_with Removed (shown (take (length xs - n) xs))
     ++ (rows_with Added (shown (take (length ys - n) ys))
     ++ rows_with Kept (shown (drop (length xs - n) xs)))
@@ -138,7 +138,7 @@ pub same_change : (a b c d : List ℕ) → a ≡ b → c ≡ d
 same_change a b c d p q = rw (p, q) refl
 
 -- the rows of what is held at the end
-last-rows : (a b : List ℕ) → block_rows (record { old = a; new = b })
+pub last-rows : (a b : List ℕ) → block_rows (record { old = a; new = b })
     ≡ flat_map block_rows (last_block (record { old = a; new = b }))
 last-rows [] [] = refl
 last-rows (x ∷ a) b = by_test (length (x ∷ a) + length b == 0) refl where

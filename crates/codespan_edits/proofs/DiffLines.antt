@@ -244,7 +244,7 @@ blocks-new ps =
     (λ p h. (both (is_whole p.old) (is_whole p.new) h).1) no_change ps
 
 -- a part, and what follows it
-part-rest : (text : List ℕ) (a b : ℕ) → a ≤ b → slice_range text a b ++ drop b text ≡
+pub part-rest : (text : List ℕ) (a b : ℕ) → a ≤ b → slice_range text a b ++ drop b text ≡
     drop a text
 part-rest text a b h =
     let sum : b ≡ a + (b - a) = omega (arith, h) in

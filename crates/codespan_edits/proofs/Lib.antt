@@ -20,5 +20,12 @@ pub mod NumberLemmas
 pub mod HunkLemmas
 pub mod HunkPatches
 pub mod DrawnExactly
+pub mod GapLemmas
+pub mod RunLemmas
+pub mod HunkSteps
+pub mod LineBlocks
+pub mod ChangedBlocks
+pub mod CutLast
+pub mod BlockLemmas
 pub mod HunkRuns
 pub mod PatchesBack

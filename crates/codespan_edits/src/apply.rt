@@ -90,7 +90,7 @@ fn edited_len<FileId>(
 }
 
 /// Returns the sum of two lengths; fails with `OutOfMemory` where it does not fit.
-fn add_len(left: usize, right: usize) -> Result<usize, EditError>
+pub(crate) fn add_len(left: usize, right: usize) -> Result<usize, EditError>
     ensures sum { IfOk result (λ sum. sum ≡ left + right) }
     ensures failed { OnErr result (IsErrOf result EditError.OutOfMemory) }
 {

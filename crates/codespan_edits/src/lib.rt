@@ -6,6 +6,7 @@
 #![tactic(auto)]
 
 mod apply;
+mod blocks;
 mod edit;
 mod error;
 mod hunks;

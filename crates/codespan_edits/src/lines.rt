@@ -37,7 +37,7 @@ pub(crate) fn lines_of<'a>(alloc: Global, text: &'a str) -> Result<Vec<&'a str>,
 }
 
 /// Returns where the lines of a text start.
-fn starts_of(alloc: Global, text: &str) -> Result<Vec<usize>, EditError>
+pub(crate) fn starts_of(alloc: Global, text: &str) -> Result<Vec<usize>, EditError>
     ensures starts { IfOk result (λ starts. starts.items ≡ line_starts_of text.now) }
     ensures failed { OnErr result (IsErrOf result EditError.OutOfMemory) }
 {

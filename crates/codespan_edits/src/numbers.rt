@@ -1,9 +1,11 @@
 //! The numbers of the rows of a diff.
 
-ghost use Rattle.std.specs.Prelude.{◌≡◌, ◌+◌, ◌<◌, ◌^◌};
+ghost use Rattle.std.specs.Prelude.{◌≡◌, ◌+◌, ◌<◌, ◌^◌, IfOk, OnErr, IsErrOf};
 ghost use Rattle.codespan_edits.specs.Numbers.{number_of, next_number, numbered};
 ghost use Rattle.codespan_edits.specs.RowViews.{rows_view, numbered_view};
 
+use crate::apply::add_len;
+use crate::error::EditError;
 use crate::rows::DiffRow;
 
 /// Gives each row its numbers.
@@ -30,4 +32,18 @@ fn take_number(count: &mut usize, has_number: bool) -> Option<usize>
     }
     *count += 1;
     Some(*count)
+}
+
+/// Returns the number of the next line, from 1, if it has one, and counts it.
+pub(crate) fn next_line(count: &mut usize, has_number: bool) -> Result<Option<usize>, EditError>
+    ensures number { IfOk result (λ number. number ≡ number_of has_number (count.old + 1)) }
+    ensures next { IfOk result (λ _. count.new + 1 ≡ next_number has_number (count.old + 1)) }
+    ensures failed { OnErr result (IsErrOf result EditError.OutOfMemory) }
+{
+    if !has_number {
+        return Ok(None);
+    }
+    let number = add_len(*count, 1)?;
+    *count = number;
+    Ok(Some(number))
 }

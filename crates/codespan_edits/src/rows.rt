@@ -269,7 +269,7 @@ fn push_row(
 }
 
 /// Returns how many lines two lists have in common at the start.
-fn count_start(old: &[&str], new: &[&str]) -> usize
+pub(crate) fn count_start(old: &[&str], new: &[&str]) -> usize
     ensures of_old { result ≤ length old.now }
     ensures of_new { result ≤ length new.now }
     ensures count { result
@@ -285,7 +285,7 @@ fn count_start(old: &[&str], new: &[&str]) -> usize
 }
 
 /// Returns how many lines two lists have in common at the end.
-fn count_end(old: &[&str], new: &[&str]) -> usize
+pub(crate) fn count_end(old: &[&str], new: &[&str]) -> usize
     ensures of_old { result ≤ length old.now }
     ensures of_new { result ≤ length new.now }
     ensures count { result ≡ common_end (map (λ l. l.now) old.now) (map (λ l. l.now) new.now) }
