@@ -3,7 +3,7 @@ use Rattle.std.specs.Prelude.{ℕ, ◌-◌, ◌+◌, Bool, ◌&&◌, ◌==◌, i
 use Rattle.std.specs.Prelude.{true, List, [], ◌∷◌, ◌++◌, map, take, drop, length}
 use Rattle.std.specs.Prelude.{slice_range, reverse}
 use Rattle.std.specs.List.{flat_map, common_prefix_len}
-use Rattle.std.specs.Str.{bytes_eq}
+use Rattle.std.specs.Str.{byte, bytes_eq}
 use Rattle.codespan_edits.specs.Edits.{TextEdit, ListedEdit, listed, in_order}
 use Rattle.codespan_edits.specs.declared.rows.RowSign.{RowSign}
 use Rattle.codespan_edits.specs.declared.rows.RowSign.TheVariants.{Kept, Removed, Added}
@@ -16,12 +16,12 @@ byte_before b (l ∷ ls) = (b ∷ l) ∷ ls
 -- the lines of a text, which is cut after each newline
 abbrev pub lines : List ℕ → List (List ℕ)
 lines [] = []
-lines (b ∷ bs) = if b == 10 then (b ∷ []) ∷ lines bs else byte_before b (lines bs)
+lines (b ∷ bs) = if b == byte "\n" then (b ∷ []) ∷ lines bs else byte_before b (lines bs)
 
 -- whether a text is empty or ends with a newline
 abbrev pub is_whole : List ℕ → Bool
 is_whole [] = true
-is_whole (b ∷ []) = b == 10
+is_whole (b ∷ []) = b == byte "\n"
 is_whole (b ∷ (c ∷ cs)) = is_whole (c ∷ cs)
 
 -- a part of the old text, and what it is in the new one

@@ -1,12 +1,13 @@
 -- The message of a diagnostic that a language server sends.
 use Rattle.std.specs.Prelude.{ℕ, ◌==◌, if◌then◌else◌, List, ◌∷◌, ◌++◌, length}
 use Rattle.std.specs.Prelude.{map, flat_map, string_bytes}
+use Rattle.std.specs.Str.{byte}
 use Rattle.codespan_base.specs.declared.diagnostic.Label.{Label}
 use Rattle.codespan_base.specs.declared.diagnostic.Diagnostic.{Diagnostic}
 
 -- a text on the next line
 abbrev pub next_line : List ℕ → List ℕ
-next_line text = 10 ∷ text
+next_line text = byte "\n" ∷ text
 
 -- the diagnostic's message, and that of the label on the next line, if it is not empty
 abbrev pub joined_messages : {FileId : Type 0} → Diagnostic FileId → Label FileId → List ℕ

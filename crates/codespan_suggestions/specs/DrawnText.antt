@@ -3,6 +3,7 @@ use Rattle.std.specs.Prelude.{ℕ, ◌+◌, ◌-◌, ◌==◌, if◌then◌else�
 use Rattle.std.specs.Prelude.{◌∷◌, ◌++◌, drop, take, length, replicate, flat_map, codes}
 use Rattle.std.specs.List.{suffix_len}
 use Rattle.std.specs.Char.{encode_utf8}
+use Rattle.std.specs.Str.{byte}
 use Rattle.codespan_core.specs.Lines.{begins_char}
 use Rattle.codespan_core.specs.declared.files.Location.{Location}
 use Rattle.codespan_output.specs.CharMetrics.{is_line_end, text_without_line_end, char_metrics}
@@ -11,7 +12,7 @@ use Rattle.codespan_edits.specs.Diffs.{lines}
 
 -- a character as a row shows it: a tab as spaces up to its next stop
 abbrev pub shown_char : Metrics → List ℕ
-shown_char c = if c.ch == 9 then replicate c.unicode_width 32 else encode_utf8 c.ch
+shown_char c = if c.ch == byte "\t" then replicate c.unicode_width (byte " ") else encode_utf8 c.ch
 
 -- the text of a line as a row shows it, without the line's end
 abbrev pub shown_text : ℕ → List ℕ → List ℕ
@@ -29,11 +30,11 @@ first_line (l ∷ ls) = l
 
 -- the usual end of a text's lines: that of the first one, or a newline where it has none
 abbrev pub usual_end : List ℕ → List ℕ
-usual_end text = if length text == 0 then 10 ∷ [] else line_end (first_line (lines text))
+usual_end text = if length text == 0 then byte "\n" ∷ [] else line_end (first_line (lines text))
 
 -- a byte of a line's end by its escape
 abbrev pub escaped : ℕ → List ℕ
-escaped b = if b == 10 then codes "\\n" else if b == 13 then codes "\\r" else codes "\\0"
+escaped b = if b == byte "\n" then codes "\\n" else if b == byte "\r" then codes "\\r" else codes "\\0"
 
 -- what is stated of an end
 abbrev pub end_text : List ℕ → List ℕ
@@ -44,7 +45,7 @@ end_text (b ∷ bs) = codes "ends with " ++ flat_map escaped (b ∷ bs)
 -- character is a column
 abbrev pub location_after : Location → ℕ → Location
 location_after at b =
-    if b == 10 then record { line_number = at.line_number + 1; column_number = 1 }
+    if b == byte "\n" then record { line_number = at.line_number + 1; column_number = 1 }
     else if begins_char b then record at { column_number = at.column_number + 1 }
     else at
 

@@ -6,6 +6,7 @@ use Rattle.std.specs.Option.{option_map_or, is_some}
 use Rattle.std.specs.List.{prefix_len}
 use Rattle.std.specs.Str.Parse.{digits_value}
 use Rattle.std.specs.Char.{encode_utf8}
+use Rattle.std.specs.Str.{byte}
 use Rattle.codespan_core.specs.SnippetStarts.{start_text}
 use Rattle.codespan_output.specs.Types.{Chars}
 use Rattle.codespan_edits.specs.Diffs.{byte_before}
@@ -18,7 +19,7 @@ use Rattle.codespan_edits.specs.declared.rows.RowSign.TheVariants.{Kept, Removed
 -- the rows of a text: what is before each newline, and what is after the last one
 abbrev pub text_rows : List ℕ → List (List ℕ)
 text_rows [] = []
-text_rows (b ∷ bs) = if b == 10 then [] ∷ text_rows bs else byte_before b (text_rows bs)
+text_rows (b ∷ bs) = if b == byte "\n" then [] ∷ text_rows bs else byte_before b (text_rows bs)
 
 -- what follows these bytes in a text that begins with them
 abbrev pub after_bytes : List ℕ → List ℕ → Option (List ℕ)
@@ -31,7 +32,7 @@ abbrev pub is_digit : ℕ → Bool
 is_digit b = nat_le 48 b && nat_le b 57
 
 abbrev pub is_gutter : ℕ → Bool
-is_gutter b = is_digit b || b == 32
+is_gutter b = is_digit b || b == byte " "
 
 -- the digits and spaces that a row begins with, and what follows them
 abbrev pub gutter_of : List ℕ → List ℕ
@@ -67,11 +68,11 @@ pub data RowRead : Type 0 where
 
 -- the sign of a byte
 abbrev pub sign_of_byte : ℕ → RowSign
-sign_of_byte b = if b == 45 then Removed else if b == 43 then Added else Kept
+sign_of_byte b = if b == byte "-" then Removed else if b == byte "+" then Added else Kept
 
 -- the byte of an escape, after its backslash
 abbrev pub escaped_by : ℕ → ℕ
-escaped_by b = if b == 110 then 10 else if b == 114 then 13 else 0
+escaped_by b = if b == byte "n" then byte "\n" else if b == byte "r" then byte "\r" else 0
 
 -- the bytes of escapes
 abbrev pub unescaped : List ℕ → List ℕ
@@ -87,7 +88,7 @@ end_stated text = option_map_or unescaped (after_bytes (codes "ends with ") text
 -- left half of the gutter, and the new one in the right half
 abbrev pub signed_read : List ℕ → ℕ → List ℕ → RowRead
 signed_read gutter sign text =
-    if sign == 92 then EndStated (end_stated text)
+    if sign == byte "\\" then EndStated (end_stated text)
     else
     LineShown
     (record {

@@ -2,6 +2,7 @@
 use Rattle.std.specs.Prelude.{ℕ, ◌+◌, ◌-◌, ◌==◌, Bool, if◌then◌else◌, List, [], ◌∷◌}
 use Rattle.std.specs.Prelude.{◌++◌, slice_index_or}
 use Rattle.std.specs.Str.Parse.{digits_value}
+use Rattle.std.specs.Str.{byte}
 use Rattle.codespan_edits.specs.Numbers.{NumberedRow, is_old, is_new, number_of, next_number}
 use Rattle.codespan_edits.specs.declared.rows.RowSign.{RowSign}
 use Rattle.codespan_suggestions.specs.ReadOutput.{text_rows, is_digit, sign_of_byte}
@@ -50,13 +51,13 @@ abbrev pub patch_lines : ℕ → ℕ → List (List ℕ) → List PatchLine
 patch_lines old new [] = []
 patch_lines old new ([] ∷ ls) = OtherLine ∷ patch_lines old new ls
 patch_lines old new ((b ∷ bs) ∷ ls) =
-    if b == 92 then NewlineMark ∷ patch_lines old new ls
+    if b == byte "\\" then NewlineMark ∷ patch_lines old new ls
     else if old + new == 0 then
-    (if b == 64 then
+    (if b == byte "@" then
     HunkStart (first_number (head_number bs 0) (head_number bs 1))
     (first_number (head_number bs 2) (head_number bs 3))
     ∷ patch_lines (head_number bs 1) (head_number bs 3) ls
-    else if b == 45 then FileStart ∷ patch_lines 0 0 ls else OtherLine ∷ patch_lines 0 0 ls)
+    else if b == byte "-" then FileStart ∷ patch_lines 0 0 ls else OtherLine ∷ patch_lines 0 0 ls)
     else
     RowShown (sign_of_byte b) bs
     ∷ patch_lines (one_less (is_old (sign_of_byte b)) old)
@@ -65,7 +66,7 @@ patch_lines old new ((b ∷ bs) ∷ ls) =
 -- a line by its text: it has a newline, unless a mark follows
 abbrev pub line_before : List ℕ → List PatchLine → List ℕ
 line_before text (NewlineMark ∷ xs) = text
-line_before text _ = text ++ 10 ∷ []
+line_before text _ = text ++ byte "\n" ∷ []
 
 -- the rows of hunks up to the next start of a file, each with its numbers, where these come next
 abbrev pub hunk_rows_read : ℕ → ℕ → List PatchLine → List NumberedRow

@@ -3,13 +3,14 @@ use Rattle.std.specs.Prelude.{◌≡◌, ℕ, ◌==◌, Bool, true, false, if◌
 use Rattle.std.specs.Prelude.{◌∷◌}
 use Rattle.std.specs.List.{AllByRecursion}
 use Rattle.std.specs.Char.{encode_utf8}
+use Rattle.std.specs.Str.{byte}
 use Rattle.codespan_core.specs.SnippetStarts.{start_text}
 use Rattle.codespan_output.specs.Types.{Chars}
 use Rattle.codespan_suggestions.specs.ReadOutput.{is_gutter}
 
 -- a text has no newline
 abbrev pub IsOneRow : List ℕ → Type 0
-IsOneRow = AllByRecursion (λ b. (b == 10) ≡ false)
+IsOneRow = AllByRecursion (λ b. (b == byte "\n") ≡ false)
 
 -- a text does not begin with a digit or a space
 abbrev pub EndsGutter : List ℕ → Type 0

@@ -3,7 +3,7 @@ use Rattle.std.specs.Prelude.{◌≡◌, ◌⊎◌, ◌==◌, ◌+◌, ◌^◌, 
 use Rattle.std.specs.Prelude.{filter, length, Some, None, string_bytes, flat_map, Option}
 use Rattle.std.specs.List.{AllByRecursion, AllZip}
 use Rattle.std.specs.Option.{option_map}
-use Rattle.std.specs.Str.{IsUtf8}
+use Rattle.std.specs.Str.{byte, IsUtf8}
 use Rattle.codespan_core.specs.Characters.{box_drawing, ascii}
 use Rattle.codespan_core.specs.ConfigEquality.{IsEqualChars}
 use Rattle.codespan_core.specs.FileModel.{FileDatabase, FileModel, name_text}
@@ -28,7 +28,7 @@ use Rattle.codespan_suggestions.specs.declared.suggestion.Suggestion.{Suggestion
 
 -- a text has no tab
 abbrev pub HasNoTab : List ℕ → Type 0
-HasNoTab = AllByRecursion (λ b. (b == 9) ≡ false)
+HasNoTab = AllByRecursion (λ b. (b == byte "\t") ≡ false)
 
 -- a line as rows show it: its text with spaces for tabs, and its end
 abbrev pub shown_line : ℕ → List ℕ → List ℕ

@@ -5,6 +5,7 @@ use Rattle.std.specs.Prelude.{List, [], ◌∷◌, ◌++◌, flat_map, length, s
 use Rattle.std.specs.Prelude.{codes}
 use Rattle.std.specs.List.{filter_map, list_any}
 use Rattle.std.specs.Fmt.{decimal}
+use Rattle.std.specs.Str.{byte}
 use Rattle.codespan_core.specs.FileModel.{FileDatabase}
 use Rattle.codespan_edits.specs.Diffs.{Row, is_whole}
 use Rattle.codespan_edits.specs.DrawnRows.{Context, diff_hunks}
@@ -22,11 +23,12 @@ patch_context = record { before = 3; after = 3 }
 
 -- whether a name has a control character, a quotation mark or a backslash
 abbrev pub needs_quotes : List ℕ → Bool
-needs_quotes = list_any (λ b. nat_lt b 32 || (b == 127 || (b == 34 || b == 92)))
+needs_quotes = list_any (λ b.
+    nat_lt b (byte " ") || (b == 127 || (b == byte "\"" || b == byte "\\")))
 
 -- whether a name has a space
 abbrev pub has_space : List ℕ → Bool
-has_space = list_any (λ b. b == 32)
+has_space = list_any (λ b. b == byte " ")
 
 -- a path, between quotation marks where its name needs them, and before a tab where that has a
 -- space
@@ -61,9 +63,9 @@ hunk_header rows =
 
 -- the byte of a sign
 abbrev pub sign_byte : RowSign → ℕ
-sign_byte Kept = 32
-sign_byte Removed = 45
-sign_byte Added = 43
+sign_byte Kept = byte " "
+sign_byte Removed = byte "-"
+sign_byte Added = byte "+"
 
 -- what follows a line that has no newline
 abbrev pub newline_mark : List ℕ → List ℕ
