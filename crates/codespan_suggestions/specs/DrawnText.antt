@@ -34,7 +34,8 @@ usual_end text = if length text == 0 then byte "\n" ∷ [] else line_end (first_
 
 -- a byte of a line's end by its escape
 abbrev pub escaped : ℕ → List ℕ
-escaped b = if b == byte "\n" then codes "\\n" else if b == byte "\r" then codes "\\r" else codes "\\0"
+escaped b =
+    if b == byte "\n" then codes "\\n" else if b == byte "\r" then codes "\\r" else codes "\\0"
 
 -- what is stated of an end
 abbrev pub end_text : List ℕ → List ℕ
