@@ -1,18 +1,23 @@
--- UTF-8 has bytes alone: for the field `runs_are` of `AreRuns`, in the clause of `styled_text`,
--- where no byte of a text may be taken for the number of a style.
+-- UTF-8 has bytes alone: for the clause `runs` of `Recorder::into_text`, where no byte of a text
+-- may be taken for the number of a style.
 use Rattle.std.proofs.Common.{◌≡◌, ℕ, ◌+◌, ◌/◌, ◌%◌, ◌<◌, true, List, []}
 use Rattle.std.proofs.Common.{◌∷◌, ◌++◌, ⊎_elim, subst, arith, encode_utf8_all, map}
 use Rattle.std.proofs.Common.{string_bytes}
 use Rattle.std.specs.Prelude.{nat_lt, ◌&&◌, Bool}
 use Rattle.std.specs.Char.{IsScalar, encode_utf8}
+use Rattle.std.specs.List.{AllByRecursion}
 use Rattle.std.specs.Str.{IsUtf8, all_scalars}
 use Rattle.std.proofs.Math.Utf8.{scalar, scalar_cases}
 use Rattle.std.proofs.lemmas.Bool.{cond_both}
 use Rattle.std.proofs.lemmas.Bool.Decides.{nat_tests}
 use Rattle.std.proofs.lemmas.Str.{IsUtf8-string_bytes}
 use Rattle.codespan_styled.specs.declared.text.Run.{Run}
-use Rattle.codespan_styled.specs.Private.Recorded.{TextsAreBytes, AreBytes}
-use Rattle.codespan_styled.specs.Runs.{run_view}
+use Rattle.codespan_styled.specs.Recorders.{AreBytes}
+use Rattle.codespan_styled.specs.Runs.{RunView, run_view}
+
+-- the texts of the runs are bytes
+abbrev pub TextsAreBytes : List RunView → Type 0
+TextsAreBytes runs = AllByRecursion (λ (run : RunView). AreBytes run.text) runs
 
 -- bytes, one list after another
 AreBytes-append : (xs bs : List ℕ) → AreBytes xs → AreBytes bs → AreBytes (xs ++ bs)

@@ -1,5 +1,5 @@
--- What the writer of runs holds, read back as runs: for the fields `runs_are` and `text_is` of
--- `AreRuns`, in the clause of `styled_text`.
+-- What the writer of runs holds, read back as runs: for the clause `runs` of `Recorder::into_text`,
+-- and for the field `text_is` of `AreRuns`, in the clause of `styled_text`.
 use Rattle.std.proofs.Common.{◌≡◌, ℕ, ◌-◌, ◌<◌, true, List, [], ◌∷◌, ◌++◌}
 use Rattle.std.proofs.Common.{get_or, refl, sym, ap, ◌∙◌, append_assoc, append-nil, arith}
 use Rattle.std.specs.Prelude.{Bool, nat_lt, if◌then◌else◌}
@@ -15,9 +15,10 @@ use Rattle.codespan_base.specs.declared.term.config.style_mark.StyleMark.TheVari
 use Rattle.codespan_base.specs.declared.term.config.style_mark.StyleMark.TheVariants.{SourceBorder}
 use Rattle.codespan_base.specs.declared.term.config.style_mark.StyleMark.TheVariants.{Label, Reset}
 use Rattle.codespan_base.specs.Streams.{Stream, Byte, Mark, Slot, spelled, text_of}
-use Rattle.codespan_styled.specs.Private.Recorded.{TextsAreBytes, AreBytes, recorded_runs}
-use Rattle.codespan_styled.specs.Private.Recorded.{style_number, style_spelling}
+use Rattle.codespan_styled.specs.Recorders.{AreBytes, recorded_runs}
+use Rattle.codespan_styled.specs.Recorders.{style_number, style_spelling}
 use Rattle.codespan_styled.specs.Runs.{RunView, joined, runs_from, runs_of}
+use Rattle.codespan_styled.proofs.Bytes.{TextsAreBytes}
 
 -- a run
 abbrev run_of : StyleMark → List ℕ → RunView

@@ -27,4 +27,5 @@ mod AnsiStreams
 pub mod Bytes
 pub mod Decoding
 pub mod Recording
+pub mod Received
 pub mod Rendering

@@ -8,8 +8,8 @@ use Rattle.codespan_base.specs.WriterLaw.{PrefixAppended, extended, AppendsBytes
 use Rattle.codespan_base.specs.declared.term.config.style_mark.StyleMark.{StyleMark}
 use Rattle.codespan_styled.specs.declared.recorder.Recorder.{Recorder}
 use Rattle.codespan_styled.specs.declared.text.Run.{Run}
-use Rattle.codespan_styled.specs.Private.Recorded.{ended_runs, recorded_run, recorded_runs}
-use Rattle.codespan_styled.specs.Private.Recorded.{recorded, style_number}
+use Rattle.codespan_styled.specs.Recorders.{ended_runs, recorded_run, recorded_runs}
+use Rattle.codespan_styled.specs.Recorders.{recorded, style_number}
 use Rattle.codespan_styled.specs.Runs.{run_view}
 
 -- bytes that the last run takes are recorded last

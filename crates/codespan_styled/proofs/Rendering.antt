@@ -1,9 +1,9 @@
 -- The runs that a writer received are those of the output, and which errors are of lookups: for
 -- `styled_text`.
-use Rattle.std.proofs.Common.{◌≡◌, ℕ, true, false, List, [], ◌∷◌, ◌++◌, Some}
+use Rattle.std.proofs.Common.{◌≡◌, ℕ, true, false, List, [], ◌∷◌, ◌++◌}
 use Rattle.std.proofs.Common.{Result, Ok, Err, inl, inr, ⊎_elim, sym, ap, subst, ◌∙◌}
 use Rattle.std.proofs.Common.{true≢false}
-use Rattle.std.specs.Prelude.{IfErr, IfOk, MatchResult}
+use Rattle.std.specs.Prelude.{IfErr, IfOk}
 use Rattle.std.specs.Str.{IsUtf8}
 use Rattle.codespan_base.specs.declared.diagnostic.Diagnostic.{Diagnostic}
 use Rattle.codespan_base.specs.declared.files.Error.{Error}
@@ -11,9 +11,8 @@ use Rattle.codespan_base.specs.declared.files.Error.TheVariants.{OutOfMemory}
 use Rattle.codespan_base.specs.declared.term.config.Config.{Config}
 use Rattle.codespan_base.specs.FileModel.{FileDatabase}
 use Rattle.codespan_base.specs.LawfulFiles.{IsLawful}
-use Rattle.codespan_base.specs.Streams.{Stream, Byte, Mark, Slot, Spelling, spelled, text_of}
-use Rattle.codespan_base.specs.WriterLaw.{Frame, Sink, are_known, extended, is_known, with_written}
-use Rattle.codespan_base.specs.Writers.{fresh_sink}
+use Rattle.codespan_base.specs.Streams.{Stream, Byte, Mark, Slot, text_of}
+use Rattle.codespan_base.specs.WriterLaw.{Frame, Sink, are_known, is_known, with_written}
 use Rattle.codespan_base.specs.declared.term.config.style_mark.StyleMark.{StyleMark}
 use Rattle.codespan_base.specs.declared.term.config.style_mark.StyleMark.TheVariants.{Reset}
 use Rattle.codespan_output.specs.Utf8Laws.{CharsAreScalars, AreUtf8After}
@@ -21,63 +20,52 @@ use Rattle.codespan_views.specs.Output.{IsEmitError}
 use Rattle.codespan_views.specs.WriteCalls.{WritesStyled}
 use Rattle.codespan_output.proofs.Utf8.Outputs.{text-output}
 use Rattle.codespan_styled.specs.declared.text.StyledText.{StyledText}
-use Rattle.codespan_styled.specs.Private.Recorded.{recorded_runs, style_number, style_spelling}
-use Rattle.codespan_styled.specs.Runs.{TextsAreUtf8, joined, runs_from, styled_runs}
-use Rattle.codespan_styled.proofs.Bytes.{runs-bytes, utf8-bytes}
-use Rattle.codespan_styled.proofs.Decoding.{joined_runs, runs_of_recorded}
+use Rattle.codespan_styled.specs.Recorders.{AreBytes, new_recorder_sink}
+use Rattle.codespan_styled.specs.Runs.{RunView, TextsAreUtf8, joined, runs_from, runs_of}
+use Rattle.codespan_styled.specs.Runs.{styled_runs}
+use Rattle.codespan_styled.proofs.Bytes.{utf8-bytes}
+use Rattle.codespan_styled.proofs.Decoding.{joined_runs}
 use Rattle.codespan_styled.specs.Outputs.{AreRuns, RunsAreUtf8, output_at}
 
--- a fresh writer that received a stream holds its bytes last
-bytes_after : (spelling : Spelling) (old new : Sink) (s : Stream) (first last : List ℕ)
-    → old ≡ fresh_sink spelling (Some first) → new.contents ≡ Some last
-    → (is_known old ≡ true → new ≡ with_written old s)
-    → last ≡ first ++ spelled spelling s
-unfolding is_known are_known with_written extended
-bytes_after spelling old new s first last fresh contents written =
-    let now = written (ap is_known fresh) ∙ ap (λ (x : Sink). with_written x s) fresh in
-    let whole : Some last ≡ Some (first ++ spelled spelling s) =
-    sym contents ∙ ap (λ (x : Sink). x.contents) now in
-    cc
-
 module _ {Id : Type 0} {config : Config} {files : FileDatabase Id} {d : Diagnostic Id} where
-  -- the runs of what was rendered to a fresh writer are those of the output
-  pub runs_rendered : {old new : Sink} {last : List ℕ} (text : StyledText)
+  -- the runs of what was rendered to a new writer are those of the output
+  pub runs_rendered : {old new : Sink} (runs : List RunView)
       → WritesStyled config.display_style config config files d old (Ok tt) new
-      → old ≡ fresh_sink style_spelling (Some (style_number Reset ∷ []))
-      → new.contents ≡ Some last
+      → old ≡ new_recorder_sink
       → CharsAreScalars config.chars → ((id : Id) → IsLawful (files.file id))
-      → recorded_runs (styled_runs text) ≡ last → AreRuns config files d (styled_runs text)
-  runs_rendered {old} {new} {last} text rendered fresh contents characters lawful are =
+      → ((s : Stream) → new ≡ with_written new_recorder_sink s → AreBytes (text_of s)
+      → runs ≡ runs_of s)
+      → AreRuns config files d runs
+  unfolding is_known are_known
+  runs_rendered {old} {new} runs rendered fresh characters lawful are =
       let stream : Stream = rendered.stream in
       let utf8 : IsUtf8 (text_of stream) = subst (λ s. IsUtf8 (text_of s))
       (sym rendered.is_output.stream_is)
       (text-output files d lawful config.display_style config config characters
       rendered.is_output.loci rendered.on_end.1.names_are_utf8).utf8 in
-      let whole =
-      bytes_after style_spelling old new stream (style_number Reset ∷ []) last fresh contents
-      rendered.received in
-      let runs = runs_of_recorded (styled_runs text) stream (runs-bytes text.runs.items)
-      (utf8-bytes _ utf8) (are ∙ whole) in
+      let received : new ≡ with_written new_recorder_sink stream =
+      rendered.received (ap is_known fresh) ∙ ap (λ (x : Sink). with_written x stream) fresh in
+      let same : runs ≡ runs_of stream = are stream received (utf8-bytes _ utf8) in
       record {
         stream = stream;
         is_output = rendered.is_output;
-        runs_are = runs;
-        text_is = ap joined runs ∙ joined_runs stream;
+        runs_are = same;
+        text_is = ap joined same ∙ joined_runs stream;
         succeeds = rendered.on_end.1;
       }
 
   -- the same of what the writer returns
-  pub runs_emitted : {old new : Sink} {last : List ℕ} (r : Result StyledText Error)
+  pub runs_emitted : {old new : Sink} (r : Result StyledText Error)
       → WritesStyled config.display_style config config files d old (Ok tt) new
-      → old ≡ fresh_sink style_spelling (Some (style_number Reset ∷ []))
-      → new.contents ≡ Some last
+      → old ≡ new_recorder_sink
       → CharsAreScalars config.chars → ((id : Id) → IsLawful (files.file id))
-      → MatchResult r (λ text. recorded_runs (styled_runs text) ≡ last)
-      (λ e. e ≡ OutOfMemory)
+      → IfOk r
+      (λ text. (s : Stream) → new ≡ with_written new_recorder_sink s → AreBytes (text_of s)
+      → styled_runs text ≡ runs_of s)
       → IfOk r (λ text. AreRuns config files d (styled_runs text))
-  runs_emitted (Ok text) rendered fresh contents characters lawful are =
-      runs_rendered text rendered fresh contents characters lawful are
-  runs_emitted (Err e) rendered fresh contents characters lawful is = tt
+  runs_emitted (Ok text) rendered fresh characters lawful are =
+      runs_rendered (styled_runs text) rendered fresh characters lawful are
+  runs_emitted (Err e) rendered fresh characters lawful are = tt
 
   -- an error of a writer that has not failed is one of lookups
   pub error_emitted : {old new : Sink} (e : Error)
@@ -90,11 +78,10 @@ module _ {Id : Type 0} {config : Config} {files : FileDatabase Id} {d : Diagnost
 
 -- where it returns an error instead, that is `OutOfMemory`, which is one of emitting
 pub memory_error : {Id : Type 0} (config : Config) (files : FileDatabase Id) (d : Diagnostic Id)
-    (last : List ℕ) (r : Result StyledText Error)
-    → MatchResult r (λ text. recorded_runs (styled_runs text) ≡ last) (λ e. e ≡ OutOfMemory)
-    → IfErr r (IsEmitError config files d)
-memory_error config files d last (Ok text) are = tt
-memory_error config files d last (Err e) is = inl is
+    (r : Result StyledText Error)
+    → IfErr r (λ e. e ≡ OutOfMemory) → IfErr r (IsEmitError config files d)
+memory_error config files d (Ok text) is = tt
+memory_error config files d (Err e) is = inl is
 
 -- ---- texts
 

@@ -1,5 +1,6 @@
--- text in runs
+-- text in runs, and the writer that keeps it
 pub mod Runs
+pub mod Recorders
 -- the cells of characters, and which characters are shown
 pub mod Cells
 pub mod SafeText
@@ -16,5 +17,3 @@ pub mod SvgReading
 pub mod Terminal
 -- the runs of a diagnostic
 pub mod Outputs
--- definitions that private calls and proofs use
-pub mod Private

@@ -2,12 +2,13 @@
 //! safe text for a terminal.
 //!
 //! [`styled_text`] renders a diagnostic to a [`StyledText`]; [`to_html`] makes an element of it,
-//! [`to_svg`] a document, and [`to_terminal`] a text that is safe to print.
+//! [`to_svg`] a document, and [`to_terminal`] a text that is safe to print. A [`Recorder`] makes a
+//! [`StyledText`] of anything that is written to it with style marks, as a suggestion.
 #![tactic(auto)]
 
 mod cells;
 pub mod html;
-mod recorder;
+pub mod recorder;
 pub mod render;
 mod safe;
 pub mod style_sheet;
@@ -17,6 +18,7 @@ pub mod text;
 
 pub use codespan_base::term::config::style_mark::StyleMark;
 pub use html::to_html;
+pub use recorder::Recorder;
 pub use render::styled_text;
 pub use style_sheet::html_styles;
 pub use svg::to_svg;

@@ -1,13 +1,11 @@
 //! A writer of styles that keeps what it receives as runs of text, each in one style.
 
-ghost use Rattle.std.specs.Prelude.{◌≡◌, ◌∷◌, [], MatchResult, OnOk, Some};
+ghost use Rattle.std.specs.Prelude.{◌≡◌, ◌∷◌, [], false, IfOk, IfErr, OnOk, Some};
 ghost use Rattle.codespan_base.specs.Streams.{style_mark};
-ghost use Rattle.codespan_base.specs.declared.term.config.style_mark.StyleMark.TheVariants.{Reset};
 ghost use Rattle.codespan_base.specs.WriterLaw.{Writes, AppendsBytes};
-ghost use Rattle.codespan_base.specs.Writers.{fresh_sink};
 ghost use Rattle.codespan_styled.specs.Runs.{styled_runs};
-ghost use Rattle.codespan_styled.specs.Private.Recorded.{recorded_runs, style_number};
-ghost use Rattle.codespan_styled.specs.Private.Recorded.{style_spelling};
+ghost use Rattle.codespan_styled.specs.Recorders.{recorded_runs, style_number};
+ghost use Rattle.codespan_styled.specs.Recorders.{new_recorder_sink, AreRunsReceived};
 
 use crate::text::{Run, StyledText};
 use codespan_base::diagnostic::{LabelStyle, Severity};
@@ -18,10 +16,22 @@ use std::alloc::Global;
 use std::io::{ErrorKind, Write};
 use std::{io, str};
 
-/// A writer of styles that starts a run at each style mark.
+/// A writer of styles that keeps what is written to it, for [`to_html`](crate::to_html),
+/// [`to_svg`](crate::to_svg) and [`to_terminal`](crate::to_terminal).
 ///
-/// It fails where an allocation does, and at a style mark where the bytes of the last run are not
-/// UTF-8, as inside a character.
+/// It starts a run at each style mark. It fails where an allocation does, and at a style mark where
+/// the bytes of the last run are not UTF-8, as inside a character. Several outputs can be written
+/// to it, one after another.
+///
+/// # Example
+///
+/// A suggestion as an HTML element:
+///
+/// ```rust
+/// let mut recorder = Recorder::new(alloc);
+/// emit_suggestion_to_write_style(&mut recorder, &config, &files, &suggestion)?;
+/// let element = to_html(alloc, &recorder.into_text()?)?;
+/// ```
 #[derive(Debug, Drop)]
 pub struct Recorder {
     /// The runs before the last one.
@@ -30,18 +40,17 @@ pub struct Recorder {
     style: StyleMark,
     /// The bytes of the last run.
     text: Vec<u8>,
-    /// Whether a style mark or a `put` has failed.
+    /// Whether a call has failed.
     failed: bool,
 }
 
 impl Recorder {
-    ghost use Rattle.codespan_styled.specs.Private.Recorded.{ended_runs, has_failed, recorded};
-    ghost use Rattle.codespan_styled.specs.Private.Recorded.{recorder_sink};
+    ghost use Rattle.codespan_styled.specs.Recorders.{ended_runs, has_failed, recorded};
+    ghost use Rattle.codespan_styled.specs.Recorders.{recorder_sink};
 
     /// Returns a writer that has received nothing. Its first run is plain.
     pub fn new(alloc: Global) -> Recorder
-        ensures { recorder_sink result
-            ≡ fresh_sink style_spelling (Some (style_number Reset ∷ [])) }
+        ensures { recorder_sink result ≡ new_recorder_sink }
     {
         Recorder {
             runs: Vec::new(alloc),
@@ -51,23 +60,29 @@ impl Recorder {
         }
     }
 
-    /// Returns whether a style mark or a `put` has failed.
+    /// Returns whether a call has failed.
     pub fn has_failed(&self) -> bool
         ensures { result ≡ has_failed self.now }
     {
         self.failed
     }
 
-    /// Returns all runs.
+    /// Returns the runs of all that was written: the first one is plain, each style mark starts a
+    /// run of its style, and a reset a plain one. Their texts, one after another, are the bytes
+    /// that were written.
     ///
     /// # Errors
     ///
-    /// [`Error::OutOfMemory`]: an allocation fails, or the last run is not UTF-8.
+    /// [`Error::OutOfMemory`]: an allocation fails, a call has failed before, or the last run is
+    /// not UTF-8.
     pub fn into_text(mut self) -> Result<StyledText, Error>
-        ensures { MatchResult result
-            (λ text. recorded_runs (styled_runs text) ≡ recorded self)
-            (λ error. error ≡ Error.OutOfMemory) }
+        ensures runs { IfOk result (λ text. AreRunsReceived self (styled_runs text)) }
+        ensures complete { OnOk result (has_failed self ≡ false) }
+        ensures error { IfErr result (λ error. error ≡ Error.OutOfMemory) }
     {
+        if self.failed {
+            return Err(Error::OutOfMemory);
+        }
         match self.push_run(StyleMark::Reset) {
             Ok(()) => Ok(StyledText { runs: self.runs }),
             Err(_) => Err(Error::OutOfMemory),
@@ -116,16 +131,18 @@ impl Recorder {
     }
 }
 
-/// Leaves [`has_failed`](Recorder::has_failed) unchanged where a `write` fails.
 impl Write for Recorder {
-    ghost use Rattle.codespan_styled.specs.Private.Recorded.{recorded};
+    ghost use Rattle.codespan_styled.specs.Recorders.{recorded};
 
     ghost contents = { λ recorder. Some (recorded recorder) };
 
     fn write(&mut self, buf: &[u8]) -> io::Result<usize> {
         match self.text.extend_from_slice(buf) {
             Ok(()) => Ok(buf.len()),
-            Err(_) => Err(io::Error::from(ErrorKind::OutOfMemory)),
+            Err(_) => {
+                self.failed = true;
+                Err(io::Error::from(ErrorKind::OutOfMemory))
+            }
         }
     }
 
@@ -136,7 +153,7 @@ impl Write for Recorder {
 
 impl WriteStyle for Recorder {
     ghost use Rattle.std.specs.Prelude.{refl};
-    ghost use Rattle.codespan_styled.specs.Private.Recorded.{recorder_sink};
+    ghost use Rattle.codespan_styled.specs.Recorders.{recorder_sink};
 
     ghost sink = { recorder_sink };
 

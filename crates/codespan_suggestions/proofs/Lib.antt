@@ -14,6 +14,7 @@ pub mod RowLoops
 pub mod LocationLemmas
 pub mod DrawnLemmas
 pub mod EmitLemmas
+pub mod OutputTexts
 pub mod ShownRows
 pub mod StatedNames
 pub mod ReadBack

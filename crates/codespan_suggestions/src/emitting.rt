@@ -1,7 +1,8 @@
 //! The two calls that emit a suggestion.
 
-ghost use Rattle.std.specs.Prelude.{◌≡◌, IfOk, string_bytes};
+ghost use Rattle.std.specs.Prelude.{◌≡◌, IfOk, OnOk, string_bytes};
 ghost use Rattle.codespan_core.specs.Streams.{text_of};
+ghost use Rattle.codespan_output.specs.Utf8Laws.{StreamIsUtf8};
 ghost use Rattle.codespan_suggestions.specs.DrawnFiles.{NamesAreStated};
 ghost use Rattle.codespan_suggestions.specs.SuggestionOutput.{WritesSuggestion, suggestion_stream};
 ghost use Rattle.codespan_suggestions.specs.SuggestionOutput.{rendering_fault};
@@ -15,6 +16,7 @@ use crate::suggestion::Suggestion;
 use codespan_core::files::{Error, Files};
 use codespan_core::term::{Config, PlainWriter, WriteStyle};
 use codespan_edits::DiffContext;
+use codespan_output::scalar_chars::chars_are_scalars;
 
 /// Returns the output of a suggestion as plain text, in the style of the configuration.
 ///
@@ -72,7 +74,7 @@ pub fn emit_suggestion_into_string<'files, F: Files<'files>>(
 }
 
 /// Writes the output of a suggestion to a writer of styles, in the style of the configuration. It
-/// does not flush.
+/// does not flush. The text of the output is UTF-8, and no style mark is inside a character.
 ///
 /// # Errors
 ///
@@ -85,9 +87,14 @@ pub fn emit_suggestion_to_write_style<'files, F: Files<'files>, W: WriteStyle>(
     files: &'files F,
     suggestion: &Suggestion<F::FileId>,
 ) -> Result<(), SuggestionError>
-    ensures { WritesSuggestion config.now (F.database files.now) suggestion.now
+    ensures written { WritesSuggestion config.now (F.database files.now) suggestion.now
         (W.sink writer.old) result (W.sink writer.new) }
+    ensures utf8 { NamesAreStated (F.database files.now) suggestion.now.edits.items
+        → OnOk result
+        (StreamIsUtf8 (suggestion_stream config.now (F.database files.now) suggestion.now)) }
 {
+    // Does nothing: shows the prover that the characters are Unicode scalar values.
+    chars_are_scalars(&config.chars);
     let context = DiffContext {
         before: config.before_label_lines,
         after: config.after_label_lines,

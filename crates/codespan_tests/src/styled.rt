@@ -2,6 +2,7 @@
 
 mod hostile;
 mod html;
+mod recorder;
 mod style_sheet;
 mod svg;
 mod terminal;

@@ -1,4 +1,4 @@
-use Rattle.std.proofs.Common.{rules, refl, inl, subst, sym, ◌∙◌}
+use Rattle.std.proofs.Common.{rules, inl, subst, sym, ◌∙◌}
 use Rattle.codespan_base.specs.declared.files.Error.{Error}
 use Rattle.codespan_base.specs.LawfulFiles.{IsLawful}
 use Rattle.codespan_views.specs.Output.{IsEmitError}
@@ -12,13 +12,13 @@ returns-in-Ok-clause-ok g c =
     let claim : g.claim c.lifetimes = search rules in
     let lawful : (id : g.row.F-FileId.Denot) → IsLawful (file id) =
     λ id. (g.met.F.Files c.lifetimes claim).lawful c.args.files.now id in
-    runs_emitted c.into_text.result c.in-Ok.ensures c.new-recorder.ensures refl
-    c.chars_are_scalars.ensures lawful c.into_text.ensures
+    runs_emitted c.into_text.result c.in-Ok.ensures c.new-recorder.ensures
+    c.chars_are_scalars.ensures lawful c.into_text.ensures.runs
 
 pub returns-in-Ok-clause-err : goal.returns-in-Ok-clause-err
 returns-in-Ok-clause-err g c =
-    memory_error c.args.config.now (g.F.Files.database c.args.files.now) c.args.diagnostic.now _
-    c.into_text.result c.into_text.ensures
+    memory_error c.args.config.now (g.F.Files.database c.args.files.now) c.args.diagnostic.now
+    c.into_text.result c.into_text.ensures.error
 
 -- the error is `OutOfMemory` where the writer has failed, and else one of lookups
 pub returns-after-has_failed-clause-err : goal.returns-after-has_failed-clause-err

@@ -12,7 +12,7 @@ returns-in-Ok-from_utf8-clause-text g c = λ stated.
     received-text _
     (c.new-plain.ensures.begins
     ∙ ap (λ ys. fresh_sink plain_spelling (Some ys)) c.new.ensures.items)
-    (search rules) (c.in-Ok.ensures.received stated)
+    (search rules) (c.in-Ok.ensures.written.received stated)
 
 -- so it reads back
 pub returns-in-Ok-from_utf8-clause-gives : goal.returns-in-Ok-from_utf8-clause-gives

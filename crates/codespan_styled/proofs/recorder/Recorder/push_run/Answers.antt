@@ -1,6 +1,6 @@
 use Rattle.std.proofs.Common.{rules, ◌≡◌, ◌++◌, map, refl, ap, ◌∙◌, string_bytes}
 use Rattle.codespan_styled.specs.declared.text.Run.{Run}
-use Rattle.codespan_styled.specs.Private.Recorded.{recorded_run, recorded_runs}
+use Rattle.codespan_styled.specs.Recorders.{recorded_run, recorded_runs}
 use Rattle.codespan_styled.specs.Runs.{run_view}
 use Rattle.codespan_styled.proofs.Recording.{contents-ended, nothing_appended, recorded-failed}
 use Rattle.codespan_styled.proofs.Recording.{recorded-started}

@@ -2,7 +2,7 @@ use Rattle.std.proofs.Common.{[], Ok, Err, refl, ap}
 use Rattle.codespan_base.specs.WriterLaw.{Frame}
 use Rattle.codespan_base.proofs.StyleMarks.{Writes-style_mark, is_known_contents, appended_written}
 use Rattle.codespan_base.proofs.StyleMarks.{prefix_written}
-use Rattle.codespan_styled.specs.Private.Recorded.{recorder_sink, style_spelling}
+use Rattle.codespan_styled.specs.Recorders.{recorder_sink, style_spelling}
 use Rattle.codespan_styled.proofs.recorder.Recorder.start.Goals as goal
 
 -- the spelling of a style mark is its number

@@ -1,7 +1,7 @@
--- How the law of writers, which knows only bytes, sees a `Recorder`: as a writer that holds, for
--- each run, a number above 255 that stands for its style mark, and then the run's bytes. Only
--- contracts of `Recorder` and proofs use these definitions.
-use Rattle.std.specs.Prelude.{ℕ, ◌+◌, ◌<◌, Bool, List, [], ◌∷◌, ◌++◌, map, Some}
+-- What a `Recorder` has received. The law of writers, which knows only bytes, sees it as a writer
+-- that holds, for each run, a number above 255 that stands for its style mark, and then the run's
+-- bytes.
+use Rattle.std.specs.Prelude.{◌≡◌, ℕ, ◌+◌, ◌<◌, Bool, List, [], ◌∷◌, ◌++◌, map, Some}
 use Rattle.std.specs.List.{AllByRecursion, flat_map}
 use Rattle.codespan_base.specs.declared.diagnostic.LabelStyle.TheVariants.{Primary, Secondary}
 use Rattle.codespan_base.specs.declared.diagnostic.Severity.{Severity}
@@ -14,20 +14,17 @@ use Rattle.codespan_base.specs.declared.term.config.style_mark.StyleMark.TheVari
 use Rattle.codespan_base.specs.declared.term.config.style_mark.StyleMark.TheVariants.{NoteBullet}
 use Rattle.codespan_base.specs.declared.term.config.style_mark.StyleMark.TheVariants.{SourceBorder}
 use Rattle.codespan_base.specs.declared.term.config.style_mark.StyleMark.TheVariants.{Label, Reset}
-use Rattle.codespan_base.specs.Streams.{Spelling}
-use Rattle.codespan_base.specs.WriterLaw.{Sink}
+use Rattle.codespan_base.specs.Streams.{Spelling, Stream, text_of}
+use Rattle.codespan_base.specs.WriterLaw.{Sink, with_written}
+use Rattle.codespan_base.specs.Writers.{fresh_sink}
 use Rattle.codespan_styled.specs.declared.recorder.Recorder.{Recorder}
-use Rattle.codespan_styled.specs.Runs.{RunView, run_view}
+use Rattle.codespan_styled.specs.Runs.{RunView, run_view, runs_of}
 
 -- ---- bytes
 
 -- each number is a byte
 abbrev pub AreBytes : List ℕ → Type 0
 AreBytes bs = AllByRecursion (λ b. b < 256) bs
-
--- the texts of the runs are bytes
-abbrev pub TextsAreBytes : List RunView → Type 0
-TextsAreBytes runs = AllByRecursion (λ (run : RunView). AreBytes run.text) runs
 
 -- ---- numbers of style marks
 
@@ -74,7 +71,7 @@ recorded r =
     recorded_runs (ended_runs r)
     ++ recorded_run (record { style = r.style; text = r.text.items })
 
--- a style mark or a `put` of the writer has failed
+-- a call of the writer has failed
 abbrev pub has_failed : Recorder → Bool
 has_failed r = r.failed
 
@@ -84,3 +81,16 @@ recorder_sink r = record {
   frame = record { spelling = style_spelling; failed = r.failed; borrows = [] };
   contents = Some (recorded r);
 }
+
+-- a writer that has received nothing
+abbrev pub new_recorder_sink : Sink
+new_recorder_sink = fresh_sink style_spelling (Some (style_number Reset ∷ []))
+
+-- the writer has received this stream: it is what a new one is after it was written
+abbrev pub HasReceived : Recorder → Stream → Type 0
+HasReceived r s = recorder_sink r ≡ with_written new_recorder_sink s
+
+-- the runs are those of what the writer has received
+abbrev pub AreRunsReceived : Recorder → List RunView → Type 0
+AreRunsReceived r runs =
+    (s : Stream) → HasReceived r s → AreBytes (text_of s) → runs ≡ runs_of s
