@@ -2,11 +2,16 @@
 import pathlib
 import re
 import subprocess
+import sys
 import unicodedata
 
 from inks import document, glyphs
 
 ROOT = pathlib.Path(__file__).resolve().parents[2]
+sys.path.append(str(ROOT / 'tools/edits'))
+
+import suggestions as model  # noqa: E402
+
 PICTURES = ROOT / 'docs/pictures'
 PAGE = PICTURES / 'gallery.html'
 GALLERY = ROOT / 'crates/gallery'
@@ -63,7 +68,10 @@ class Case:
         self.name, self.database, self.files, self.numbers = name, 'several', [], []
         self.settings = {'style': 'rich', 'layout': 'classic', 'colors': 'none'}
         self.config = {'tab': 4, 'chars': 'box', 'start': 3, 'end': 1, 'before': 0, 'after': 0}
+        self.width = None
         self.severity, self.code, self.message, self.labels, self.notes = 'error', None, '', [], []
+        # The suggestions: of each its message and its edits, which are a file, a start, an end and a replacement.
+        self.suggestions = []
 
     def apply(self, word, rest):
         """Applies a line."""
@@ -79,6 +87,8 @@ class Case:
             self.settings[word] = rest
         elif word == 'tab':
             self.config['tab'] = int(rest)
+        elif word == 'width':
+            self.width = int(rest)
         elif word == 'context':
             self.config.update(zip(CONTEXT, map(int, rest.split(' '))))
         elif word == 'characters':
@@ -94,8 +104,25 @@ class Case:
             self.labels.append((word, int(at), int(start), int(end), unescaped(text[:-1])))
         elif word == 'note':
             self.notes.append(unescaped(rest))
+        elif word == 'suggestion':
+            self.suggestions.append((unescaped(rest), []))
+        elif word == 'replace':
+            at, start, end, text = (rest + ' ').split(' ', 3)
+            self.suggestions[-1][1].append((int(at), int(start), int(end), unescaped(text[:-1]).encode()))
         else:
             raise ValueError(word)
+
+    def suggested(self):
+        """The outputs of the suggestions, by the model of tools/edits."""
+        files = [(name, source.encode()) for name, source in self.files]
+        for message, edits in self.suggestions:
+            settings = (self.config['tab'], self.config['before'], self.config['after'], self.config['chars'] == 'ascii')
+            suggestion = model.Case(files, edits, message, None, *settings)
+            changed = model.files_of(suggestion)
+            assert not isinstance(changed, str), (self.name, changed)
+            colored = self.settings['colors'] != 'none'
+            assert self.settings['style'] == 'rich' or not colored, self.name
+            yield model.rich(suggestion, changed, colored) if self.settings['style'] == 'rich' else model.short(suggestion, changed)
 
     def rows(self):
         """The case as the comparison program reads it."""
@@ -143,9 +170,12 @@ def outcomes(oracle, cases):
 
 
 def written(case, kind, texts):
-    """An output under its name, as the gallery writes it: of `ok` and the output, or of `err`, the error and what was written before it."""
+    """An output under its name, as the gallery writes it: of `ok` and the output of the diagnostic, or of `err`, the error and what was written before
+    it. Below the first are those of the suggestions."""
     colors = case.settings['colors']
     rendered = texts[0] if kind == 'ok' else texts[1] if colors == 'ansi' else ''
+    if kind == 'ok':
+        rendered += ''.join(case.suggested())
     if colors == 'svg' and kind == 'ok':
         rendered = document(list(glyphs(rendered)))
     shown = ''.join(SHOWN.get(c, c) for c in rendered)

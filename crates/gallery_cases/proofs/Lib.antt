@@ -7,7 +7,8 @@ pub mod WrongLines
 pub mod CaseByCase
 -- what holds over the file database of a case
 pub mod OneFile
--- the runs of a case are those of its output
+-- the outputs of suggestions, and the runs of a case are those of its output
+pub mod SuggestionOutputs
 pub mod Runs
 -- what the outcome of a run says
 pub mod Outcomes

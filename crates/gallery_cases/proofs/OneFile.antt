@@ -15,7 +15,7 @@ use Rattle.gallery_cases.specs.Database.{BorrowedFile, IsOnlyFile, borrowed_view
 pub over_several : (case : Case) (files : List BorrowedFile) (Holds : Property)
     → case.database_kind ≡ Several
     → map borrowed_view files ≡ map file_view case.files.items
-    → Holds ℕ (several_database files) case.diagnostic
+    → Holds ℕ (several_database files) case.diagnostic case.suggestions.items
     → HoldsOfCase case.database_kind case Holds
 over_several case files Holds kind same holds =
     let among : HoldsOfAllFiles case Holds = record { files = files; same = same; holds = holds } in
@@ -25,7 +25,7 @@ module _ (case : Case) (name source : List ℕ) (diagnostic : Diagnostic (Unit {
     (only_file : IsOnlyFile case name source diagnostic) (Holds : Property) where
   -- it holds over such a database of its only file
   over_one_file : (database : List ℕ → List ℕ → FileDatabase (Unit {0}))
-      → Holds (Unit {0}) (database name source) diagnostic → HoldsOfOnlyFile database case Holds
+      → Holds (Unit {0}) (database name source) diagnostic [] → HoldsOfOnlyFile database case Holds
   over_one_file database holds =
       record {
         name =
@@ -36,12 +36,13 @@ module _ (case : Case) (name source : List ℕ) (diagnostic : Diagnostic (Unit {
             diagnostic;
         only = only_file.only;
         same = only_file.same;
+        no_suggestions = only_file.no_suggestions;
         holds = holds;
       }
 
   -- it holds over a simple file
   pub over_one : case.database_kind ≡ One
-      → Holds (Unit {0}) (simple_database name source) diagnostic
+      → Holds (Unit {0}) (simple_database name source) diagnostic []
       → HoldsOfCase case.database_kind case Holds
   over_one kind holds =
       subst (λ k. HoldsOfCase k case Holds) (sym kind) (over_one_file simple_database holds)
@@ -49,7 +50,7 @@ module _ (case : Case) (name source : List ℕ) (diagnostic : Diagnostic (Unit {
   -- it holds over a file whose line numbers are set
   pub over_mapped : case.database_kind ≡ Mapped → (set_numbers : List (ℕ × ℕ))
       → set_numbers ≡ with_set_numbers [] case.set_numbers.items
-      → Holds (Unit {0}) (mapped_database set_numbers name source) diagnostic
+      → Holds (Unit {0}) (mapped_database set_numbers name source) diagnostic []
       → HoldsOfCase case.database_kind case Holds
   over_mapped kind set_numbers set holds =
       subst (λ k. HoldsOfCase k case Holds) (sym kind)

@@ -7,6 +7,8 @@ use Rattle.codespan_base.specs.declared.diagnostic.Severity.TheVariants as sever
 use Rattle.codespan_base.specs.Defaults.{default_config}
 use Rattle.codespan_base.specs.Diagnostics.{diagnostic_view}
 use Rattle.codespan_base.specs.ConfigEquality.{IsEqualChars, IsEqualConfig}
+use Rattle.codespan_suggestions.specs.Views.{EditView, SuggestionView, edit_view, suggestion_view}
+use Rattle.codespan_suggestions.specs.declared.suggestion.Applicability.TheVariants.{Unspecified}
 use Rattle.gallery_cases.specs.declared.case.Case.{Case}
 use Rattle.gallery_cases.specs.declared.case.ColorChoice.TheVariants.{Plain}
 use Rattle.gallery_cases.specs.declared.case.File.{File}
@@ -14,7 +16,8 @@ use Rattle.gallery_cases.specs.declared.case.DatabaseKind.TheVariants.{Several}
 use Rattle.gallery_cases.specs.declared.errors.GalleryError.{GalleryError}
 use Rattle.gallery_cases.specs.declared.errors.GalleryError.TheVariants as gallery_errors
 use Rattle.gallery_cases.specs.declared.errors.LineError.{LineError}
-use Rattle.gallery_cases.specs.declared.errors.LineError.TheVariants.{NoCase, NoFile, OutOfMemory}
+use Rattle.gallery_cases.specs.declared.errors.LineError.TheVariants.{NoCase, NoFile, NoSuggestion}
+use Rattle.gallery_cases.specs.declared.errors.LineError.TheVariants.{OutOfMemory}
 use Rattle.gallery_cases.specs.declared.statement.Line.{Line}
 use Rattle.gallery_cases.specs.declared.statement.Line.TheVariants.{Ignored, NewCase, OfLastCase}
 use Rattle.gallery_cases.specs.declared.statement.Statement.{Statement}
@@ -40,6 +43,7 @@ pub record IsNew (name : List ℕ) (case : Case) : Type 0 where
   pub colors : case.colors ≡ Plain
   pub diagnostic : diagnostic_view case.diagnostic
       ≡ record { severity = severities.Error; code = None; message = []; labels = []; notes = [] }
+  pub suggestions : case.suggestions.items ≡ []
 
 -- the text continues the source of the last file
 pub record ContinuesSource (text : List ℕ) (old new : List (List ℕ × List ℕ)) : Type 0 where
@@ -48,6 +52,18 @@ pub record ContinuesSource (text : List ℕ) (old new : List (List ℕ × List �
   pub source : List ℕ
   pub was : old ≡ front ++ (name, source) ∷ []
   pub is : new ≡ front ++ (name, source ++ text) ∷ []
+
+-- a suggestion with this message, and without edits
+abbrev pub new_suggestion : List ℕ → SuggestionView ℕ
+new_suggestion message =
+    record { message = message; applicability = Unspecified; edits = [] }
+
+-- the edit is added to the last suggestion
+pub record AddsEdit (edit : EditView ℕ) (old new : List (SuggestionView ℕ)) : Type 0 where
+  pub front : List (SuggestionView ℕ)
+  pub last : SuggestionView ℕ
+  pub was : old ≡ front ++ last ∷ []
+  pub is : new ≡ front ++ record last { edits = last.edits ++ edit ∷ [] } ∷ []
 
 -- the new case is the old one, with the statement applied
 abbrev pub Applies : Statement → Case → Case → Type 0
@@ -78,6 +94,8 @@ Applies (statements.Context context) old new = new ≡ record old {
     after_label_lines = context.after;
   };
 }
+Applies (statements.Width width) old new =
+    new ≡ record old { config = record old.config { max_width = Some width } }
 Applies (statements.Characters set) old new =
     (new ≡ record old { config = record old.config { chars = new.config.chars } })
     × IsEqualChars (chars_of set) new.config.chars
@@ -94,11 +112,33 @@ Applies (statements.Label label) old new =
 Applies (statements.Note note) old new =
     (new ≡ record old { diagnostic = record old.diagnostic { notes = new.diagnostic.notes } })
     × (new.diagnostic.notes.items ≡ old.diagnostic.notes.items ++ note ∷ [])
+Applies (statements.Suggestion message) old new =
+    (new ≡ record old { suggestions = new.suggestions })
+    × (map suggestion_view new.suggestions.items
+    ≡ map suggestion_view old.suggestions.items ++ new_suggestion (string_bytes message) ∷ [])
+Applies (statements.Replace edit) old new =
+    (new ≡ record old { suggestions = new.suggestions })
+    × AddsEdit (edit_view edit) (map suggestion_view old.suggestions.items)
+    (map suggestion_view new.suggestions.items)
 
 -- the statement continues a source
 abbrev pub IsSource : Statement → Type 0
 IsSource (statements.Source text) = Unit {0}
 IsSource _ = ⊥
+
+-- the statement is an edit
+abbrev pub IsReplace : Statement → Type 0
+IsReplace (statements.Replace edit) = Unit {0}
+IsReplace _ = ⊥
+
+-- why a statement cannot be applied to a case: it has no file whose source could be continued, or
+-- no suggestion that could have the edit, or an allocation failed
+abbrev pub FailsToApply : Statement → Case → LineError → Type 0
+FailsToApply statement case NoFile = IsSource statement × (case.files.items ≡ [])
+FailsToApply statement case NoSuggestion =
+    IsReplace statement × (case.suggestions.items ≡ [])
+FailsToApply statement case OutOfMemory = Unit {0}
+FailsToApply statement case _ = ⊥
 
 -- ---- all cases
 
@@ -135,15 +175,13 @@ AppliesLines [] before after = after ≡ before
 AppliesLines (line ∷ lines) before after =
     (between : List Case) × AppliesLine line before between × AppliesLines lines between after
 
--- why a statement cannot be applied to the last case: there is none, it has no file whose source
--- could be continued, or an allocation failed
+-- why a statement cannot be applied to the last case: there is none, or why it cannot be applied to
+-- that
 abbrev pub FailsAtLast : Statement → List Case → LineError → Type 0
 FailsAtLast statement before NoCase = before ≡ []
-FailsAtLast statement before NoFile = IsSource statement
-    × ((front : List Case) × (old : Case) × (before ≡ front ++ old ∷ [])
-    × (old.files.items ≡ []))
-FailsAtLast statement before OutOfMemory = Unit {0}
-FailsAtLast statement before _ = ⊥
+FailsAtLast statement before line_error =
+    (front : List Case) × (last : Case) × (before ≡ front ++ last ∷ [])
+    × FailsToApply statement last line_error
 
 -- what is wrong with a line after these cases: an allocation failed, the line is wrong, or it
 -- cannot be applied to them

@@ -45,11 +45,12 @@ abbrev pub borrowed_view : BorrowedFile → List ℕ × List ℕ
 borrowed_view file = (file.0.now, file.1.now)
 
 -- the only file of a case has this name and this source, and the diagnostic is that of the case,
--- with the file id `()`
+-- with the file id `()`; the case has no suggestions
 pub record IsOnlyFile (case : Case) (name source : List ℕ)
     (diagnostic : Diagnostic (Unit {0})) : Type 0 where
   pub only : map file_view case.files.items ≡ (name, source) ∷ []
   pub same : diagnostic_view diagnostic ≡ with_unit_ids (diagnostic_view case.diagnostic)
+  pub no_suggestions : case.suggestions.items ≡ []
 
 -- the file database is that of the case
 abbrev pub IsDatabaseOf : Case → Database → Type 0

@@ -1,5 +1,5 @@
 -- Documents: the output of a case in colors, as SVG, as an HTML element or as text for a terminal.
-use Rattle.std.specs.Prelude.{◌≡◌, ℕ, List, ◌++◌}
+use Rattle.std.specs.Prelude.{◌≡◌, ℕ, List, ◌++◌, flat_map}
 use Rattle.codespan_base.specs.declared.term.config.Config.{Config}
 use Rattle.codespan_base.specs.declared.diagnostic.Diagnostic.{Diagnostic}
 use Rattle.codespan_base.specs.FileModel.{FileDatabase}
@@ -11,22 +11,32 @@ use Rattle.codespan_styled.specs.Html.{html_element}
 use Rattle.codespan_styled.specs.Runs.{RunView, runs_of}
 use Rattle.codespan_styled.specs.Svg.{svg_document}
 use Rattle.codespan_styled.specs.Terminal.{terminal_text}
+use Rattle.codespan_suggestions.specs.SuggestionOutput.{suggestion_stream}
+use Rattle.codespan_suggestions.specs.declared.suggestion.Suggestion.{Suggestion}
 use Rattle.gallery_cases.specs.declared.case.Case.{Case}
 use Rattle.gallery_cases.specs.declared.request.Format.{Format}
 use Rattle.gallery_cases.specs.declared.request.Format.TheVariants.{Html, Svg, Terminal}
 use Rattle.gallery_cases.specs.CaseOutputs.{HoldsOfCase}
 
--- the runs are those of an output; no lookup fails
+-- the runs of the outputs of suggestions, one below the other
+abbrev pub suggestion_runs : {Id : Type 0} → Config → FileDatabase Id
+    → List (Suggestion Id) → List RunView
+suggestion_runs config files suggestions =
+    flat_map (λ (s : Suggestion _). runs_of (suggestion_stream config files s)) suggestions
+
+-- the runs are those of the output of a diagnostic, no lookup of which fails, and then those of the
+-- outputs of suggestions
 pub record AreRunsOver {Id : Type 0} (config : Config) (files : FileDatabase Id)
-    (d : Diagnostic Id) (runs : List RunView) : Type 0 where
+    (d : Diagnostic Id) (suggestions : List (Suggestion Id)) (runs : List RunView) : Type 0 where
   pub lookups_succeed : AllSucceed files.failure (lookups_in config.display_style config files d)
   pub are : runs ≡ runs_of (picture config.display_style config config files d)
+      ++ suggestion_runs config files suggestions
 
 -- the runs are those of the output of a case
 abbrev pub AreRunsOf : Case → List RunView → Type 0
 AreRunsOf case runs =
-    HoldsOfCase case.database_kind case (λ Id database diagnostic.
-    AreRunsOver case.config database diagnostic runs)
+    HoldsOfCase case.database_kind case (λ Id database diagnostic suggestions.
+    AreRunsOver case.config database diagnostic suggestions runs)
 
 -- a document of runs, in the default styles
 abbrev pub document_of : Format → List RunView → List ℕ

@@ -2,8 +2,8 @@
 use Rattle.std.specs.Prelude.{◌≡◌, ℕ, ◌==◌, List, [], ◌∷◌, ◌++◌, codes}
 use Rattle.std.specs.Prelude.{Result, Ok, Err, IfSome, OnOk, if◌then◌else◌}
 use Rattle.std.specs.List.{flat_map}
-use Rattle.codespan_base.specs.declared.files.Error.{Error}
-use Rattle.codespan_base.specs.ErrorText.{error_text}
+use Rattle.codespan_suggestions.specs.Errors.{error_text}
+use Rattle.codespan_suggestions.specs.declared.error.SuggestionError.{SuggestionError}
 use Rattle.gallery_cases.specs.declared.case.Case.{Case}
 use Rattle.gallery_cases.specs.declared.case.ColorChoice.TheVariants.{Plain, Svg}
 use Rattle.gallery_cases.specs.CaseOutputs.{IsCaseOutput}
@@ -28,7 +28,7 @@ abbrev pub with_escapes : List ℕ → List ℕ
 with_escapes output = flat_map escaped_byte output
 
 -- the line of a case that failed: nothing if it did not, else a line with the error's text
-abbrev pub IsErrorLine : Result (Unit {0}) Error → List ℕ → Type 0
+abbrev pub IsErrorLine : Result (Unit {0}) SuggestionError → List ℕ → Type 0
 IsErrorLine (Ok done) error_line = error_line ≡ []
 IsErrorLine (Err error) error_line =
     IfSome (error_text error) (λ text. error_line ≡ codes "failed: " ++ text ++ 10 ∷ [])
@@ -37,7 +37,7 @@ IsErrorLine (Err error) error_line =
 -- with the error; in plain text the output is the rendered case, and as SVG the document that shows
 -- it
 pub record IsSection (case : Case) (text : List ℕ) : Type 0 where
-  pub rendered : Result (Unit {0}) Error
+  pub rendered : Result (Unit {0}) SuggestionError
   pub output : List ℕ
   pub error_line : List ℕ
   pub is : text ≡ with_escapes output ++ error_line

@@ -5,10 +5,12 @@ use Rattle.std.specs.Result.{result_ok}
 use Rattle.codespan_base.specs.declared.diagnostic.Label.{Label}
 use Rattle.codespan_base.specs.declared.diagnostic.LabelStyle.{LabelStyle}
 use Rattle.codespan_base.specs.declared.diagnostic.LabelStyle.TheVariants as styles
+use Rattle.codespan_edits.specs.declared.edit.Edit.{Edit}
 use Rattle.gallery_cases.specs.declared.errors.LineError.{LineError}
 use Rattle.gallery_cases.specs.declared.errors.LineError.TheVariants.{UnknownWord, UnknownName}
 use Rattle.gallery_cases.specs.declared.errors.LineError.TheVariants.{BadNumber, BadEscape, NoCase}
-use Rattle.gallery_cases.specs.declared.errors.LineError.TheVariants.{NoFile, OutOfMemory}
+use Rattle.gallery_cases.specs.declared.errors.LineError.TheVariants.{NoFile, NoSuggestion}
+use Rattle.gallery_cases.specs.declared.errors.LineError.TheVariants.{OutOfMemory}
 use Rattle.gallery_cases.specs.declared.statement.ContextLines as context_lines
 use Rattle.gallery_cases.specs.declared.statement.Line.{Line}
 use Rattle.gallery_cases.specs.declared.statement.Line.TheVariants.{Ignored, NewCase, OfLastCase}
@@ -19,6 +21,7 @@ use Rattle.gallery_cases.specs.declared.words.Word.TheVariants.{Database, File, 
 use Rattle.gallery_cases.specs.declared.words.Word.TheVariants.{Style, Layout, Tab, Context}
 use Rattle.gallery_cases.specs.declared.words.Word.TheVariants.{Characters, Colors, Severity, Code}
 use Rattle.gallery_cases.specs.declared.words.Word.TheVariants.{Message, Primary, Secondary, Note}
+use Rattle.gallery_cases.specs.declared.words.Word.TheVariants.{Width, Suggestion, Replace}
 use Rattle.program_io.specs.Escapes.{unescaped}
 use Rattle.program_io.specs.Fields.{field_of, past_space, is_ignored_text}
 use Rattle.program_io.specs.Names.{severity_named, display_style_named}
@@ -64,6 +67,13 @@ pub record IsLabel (rest : List ℕ) (label : Label ℕ) : Type 0 where
   pub end : IsNumber (field_of (past_two_spaces rest)) label.range.end
   pub message : UnescapesTo (past_three_spaces rest) (string_bytes label.message)
 
+-- the rest has an edit: its file, where it starts, where it ends, and its replacement
+pub record IsEdit (rest : List ℕ) (edit : Edit ℕ) : Type 0 where
+  pub file : IsNumber (field_of rest) edit.file_id
+  pub start : IsNumber (field_of (past_space rest)) edit.range.start
+  pub end : IsNumber (field_of (past_two_spaces rest)) edit.range.end
+  pub replacement : UnescapesTo (past_three_spaces rest) (string_bytes edit.replacement)
+
 -- what a line states, by its word and its rest
 abbrev pub States : Option Word → List ℕ → Statement → Type 0
 States word rest (statements.Database kind) =
@@ -81,6 +91,7 @@ States word rest (statements.Layout layout) =
 States word rest (statements.Tab width) = (word ≡ Some Tab) × IsNumber rest width
 States word rest (statements.Context context) =
     (word ≡ Some Context) × AreContextLines rest context
+States word rest (statements.Width width) = (word ≡ Some Width) × IsNumber rest width
 States word rest (statements.Characters set) =
     (word ≡ Some Characters) × (characters_named rest ≡ Some set)
 States word rest (statements.Colors colors) =
@@ -95,6 +106,9 @@ States word rest (statements.Label label) =
     (word ≡ Some (label_style_word label.style)) × IsLabel rest label
 States word rest (statements.Note note) =
     (word ≡ Some Note) × UnescapesTo rest (string_bytes note)
+States word rest (statements.Suggestion message) =
+    (word ≡ Some Suggestion) × UnescapesTo rest (string_bytes message)
+States word rest (statements.Replace edit) = (word ≡ Some Replace) × IsEdit rest edit
 
 -- what a line is: ignored, the first of a case of this name, or a statement of the last case
 abbrev pub ParsesTo : List ℕ → Line → Type 0
@@ -128,9 +142,11 @@ HasBadNumberOfThree rest =
 abbrev pub HasBadNumber : List ℕ → Word → Type 0
 HasBadNumber rest Number = IsBadNumber (field_of rest) ⊎ IsBadNumber (past_space rest)
 HasBadNumber rest Tab = IsBadNumber rest
+HasBadNumber rest Width = IsBadNumber rest
 HasBadNumber rest Context = HasBadNumberOfThree rest ⊎ IsBadNumber (past_three_spaces rest)
 HasBadNumber rest Primary = HasBadNumberOfThree rest
 HasBadNumber rest Secondary = HasBadNumberOfThree rest
+HasBadNumber rest Replace = HasBadNumberOfThree rest
 HasBadNumber rest _ = ⊥
 
 -- the text of the rest has a backslash that does not begin an escape
@@ -140,8 +156,10 @@ HasBadEscape rest Source = HasNoText rest
 HasBadEscape rest Code = HasNoText rest
 HasBadEscape rest Message = HasNoText rest
 HasBadEscape rest Note = HasNoText rest
+HasBadEscape rest Suggestion = HasNoText rest
 HasBadEscape rest Primary = HasNoText (past_three_spaces rest)
 HasBadEscape rest Secondary = HasNoText (past_three_spaces rest)
+HasBadEscape rest Replace = HasNoText (past_three_spaces rest)
 HasBadEscape rest _ = ⊥
 
 -- what is wrong with a line of this word and this rest, whatever precedes it
@@ -152,6 +170,7 @@ IsWrong word rest BadNumber = IsSomeAnd word (HasBadNumber rest)
 IsWrong word rest BadEscape = IsSomeAnd word (HasBadEscape rest)
 IsWrong word rest NoCase = ⊥
 IsWrong word rest NoFile = ⊥
+IsWrong word rest NoSuggestion = ⊥
 IsWrong word rest OutOfMemory = Unit {0}
 
 -- what is wrong with a line that is neither ignored nor the first of a case

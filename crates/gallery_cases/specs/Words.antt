@@ -16,6 +16,7 @@ use Rattle.gallery_cases.specs.declared.words.Word.TheVariants.{Database, File, 
 use Rattle.gallery_cases.specs.declared.words.Word.TheVariants.{Style, Layout, Tab, Context}
 use Rattle.gallery_cases.specs.declared.words.Word.TheVariants.{Characters, Colors, Severity, Code}
 use Rattle.gallery_cases.specs.declared.words.Word.TheVariants.{Message, Primary, Secondary, Note}
+use Rattle.gallery_cases.specs.declared.words.Word.TheVariants.{Width, Suggestion, Replace}
 
 -- the word that this text is
 unfoldable pub case_word_named : List ℕ → Option Word
@@ -28,6 +29,7 @@ case_word_named text =
     else if bytes_eq text (codes "layout") then Some Layout
     else if bytes_eq text (codes "tab") then Some Tab
     else if bytes_eq text (codes "context") then Some Context
+    else if bytes_eq text (codes "width") then Some Width
     else if bytes_eq text (codes "characters") then Some Characters
     else if bytes_eq text (codes "colors") then Some Colors
     else if bytes_eq text (codes "severity") then Some Severity
@@ -36,6 +38,8 @@ case_word_named text =
     else if bytes_eq text (codes "primary") then Some Primary
     else if bytes_eq text (codes "secondary") then Some Secondary
     else if bytes_eq text (codes "note") then Some Note
+    else if bytes_eq text (codes "suggestion") then Some Suggestion
+    else if bytes_eq text (codes "replace") then Some Replace
     else None
 
 -- the kind of file database with this name

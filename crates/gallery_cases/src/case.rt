@@ -3,14 +3,19 @@
 ghost use Rattle.std.specs.Prelude.{◌≡◌, ◌⊎◌, [], ◌∷◌, ◌++◌, map, OnOk};
 ghost use Rattle.std.specs.Prelude.{IfErr, string_bytes};
 ghost use Rattle.codespan_base.specs.ConfigEquality.{IsEqualChars};
-ghost use Rattle.gallery_cases.specs.Cases.{IsNew, Applies, IsSource, ContinuesSource, file_view};
+ghost use Rattle.codespan_suggestions.specs.Views.{edit_view, suggestion_view};
+ghost use Rattle.gallery_cases.specs.Cases.{IsNew, Applies, FailsToApply, ContinuesSource};
+ghost use Rattle.gallery_cases.specs.Cases.{AddsEdit, file_view, new_suggestion};
 ghost use Rattle.gallery_cases.specs.Words.{chars_of};
-ghost use Rattle.gallery_cases.specs.declared.errors.LineError.TheVariants.{NoFile, OutOfMemory};
+ghost use Rattle.gallery_cases.specs.declared.errors.LineError.TheVariants.{NoFile, NoSuggestion};
+ghost use Rattle.gallery_cases.specs.declared.errors.LineError.TheVariants.{OutOfMemory};
 
 use crate::errors::LineError;
 use crate::statement::{ContextLines, Statement};
 use codespan_base::diagnostic::Diagnostic;
 use codespan_base::term::{Chars, Config};
+use codespan_edits::Edit;
+use codespan_suggestions::Suggestion;
 use std::alloc::Global;
 
 /// The kind of the file database of a case.
@@ -91,11 +96,13 @@ pub struct Case<'input> {
     pub colors: ColorChoice,
     /// The diagnostic.
     pub diagnostic: Diagnostic<usize>,
+    /// The suggestions, whose outputs are below that of the diagnostic.
+    pub suggestions: Vec<Suggestion<usize>>,
 }
 
 impl<'input> Case<'input> {
-    /// Returns a new case with this name: an error without message, label or note, no files, and
-    /// the default configuration, without colors.
+    /// Returns a new case with this name: an error without message, label or note, no suggestions,
+    /// no files, and the default configuration, without colors.
     pub fn new(alloc: Global, name: &'input str) -> Case<'input>
         ensures { IsNew name.now result }
     {
@@ -107,20 +114,21 @@ impl<'input> Case<'input> {
             config: Config::default(),
             colors: ColorChoice::Plain,
             diagnostic: Diagnostic::error(alloc),
+            suggestions: Vec::new(alloc),
         }
     }
 
     /// Applies a statement. It replaces an earlier one of the same kind, except that files,
-    /// sources, line numbers, labels and notes are added.
+    /// sources, line numbers, labels, notes, suggestions and edits are added.
     ///
     /// # Errors
     ///
     /// - `NoFile`: the statement continues a source, and the case has no file.
+    /// - `NoSuggestion`: the statement is an edit, and the case has no suggestion.
     /// - `OutOfMemory`: an allocation fails.
     pub fn apply(&mut self, statement: Statement) -> Result<(), LineError>
         ensures applied { OnOk result (Applies statement self.old self.new) }
-        ensures failed { IfErr result (λ line_error. (line_error ≡ OutOfMemory)
-            ⊎ ((line_error ≡ NoFile) × IsSource statement × (self.old.files.items ≡ []))) }
+        ensures failed { IfErr result (FailsToApply statement self.old) }
     {
         match statement {
             Statement::Database(kind) => self.database_kind = kind,
@@ -133,6 +141,7 @@ impl<'input> Case<'input> {
             Statement::Layout(layout) => self.config.layout = layout,
             Statement::Tab(width) => self.config.tab_width = width,
             Statement::Context(context) => self.set_context(context),
+            Statement::Width(width) => self.config.max_width = Some(width),
             Statement::Characters(set) => self.config.chars = set.chars(),
             Statement::Colors(colors) => self.colors = colors,
             Statement::Severity(severity) => self.diagnostic.severity = severity,
@@ -140,6 +149,8 @@ impl<'input> Case<'input> {
             Statement::Message(message) => self.diagnostic.message = message,
             Statement::Label(label) => self.diagnostic.labels.push(label)?,
             Statement::Note(note) => self.diagnostic.notes.push(note)?,
+            Statement::Suggestion(message) => self.add_suggestion(message)?,
+            Statement::Replace(edit) => self.add_edit(edit)?,
         }
         Ok(())
     }
@@ -169,6 +180,36 @@ impl<'input> Case<'input> {
             return Err(LineError::NoFile);
         };
         file.source.push_str(text)?;
+        Ok(())
+    }
+
+    /// Adds a suggestion without edits.
+    fn add_suggestion(&mut self, message: String) -> Result<(), LineError>
+        ensures others { self.new ≡ record self.old { suggestions = self.new.suggestions } }
+        ensures suggestions { OnOk result (map suggestion_view self.new.suggestions.items
+            ≡ map suggestion_view self.old.suggestions.items
+            ++ new_suggestion (string_bytes message) ∷ []) }
+        ensures failed { IfErr result (λ line_error. line_error ≡ OutOfMemory) }
+    {
+        let mut suggestion = Suggestion::new(*self.suggestions.allocator());
+        suggestion.message = message;
+        self.suggestions.push(suggestion)?;
+        Ok(())
+    }
+
+    /// Adds an edit to the last suggestion.
+    fn add_edit(&mut self, edit: Edit<usize>) -> Result<(), LineError>
+        ensures others { self.new ≡ record self.old { suggestions = self.new.suggestions } }
+        ensures suggestions { OnOk result
+            (AddsEdit (edit_view edit) (map suggestion_view self.old.suggestions.items)
+            (map suggestion_view self.new.suggestions.items)) }
+        ensures failed { IfErr result (λ line_error. (line_error ≡ OutOfMemory)
+            ⊎ ((line_error ≡ NoSuggestion) × (self.old.suggestions.items ≡ []))) }
+    {
+        let Some(suggestion) = self.suggestions.last_mut() else {
+            return Err(LineError::NoSuggestion);
+        };
+        suggestion.edits.push(edit)?;
         Ok(())
     }
 

@@ -1,6 +1,6 @@
 //! The file database of a case.
 
-ghost use Rattle.std.specs.Prelude.{◌≡◌, ◌∷◌, [], map, IfOk};
+ghost use Rattle.std.specs.Prelude.{◌≡◌, ◌∷◌, [], map, IfOk, OnOk};
 ghost use Rattle.codespan_base.specs.Diagnostics.{diagnostic_view, label_view};
 ghost use Rattle.codespan_base.specs.MappedFileViews.{mapped_name_of, mapped_source_of};
 ghost use Rattle.codespan_base.specs.MappedFileViews.{set_numbers_of};
@@ -31,7 +31,7 @@ pub enum Database<'case> {
 /// # Errors
 ///
 /// - `FileMissing`: the database is of one file, and the case has none or several, or a label in
-///   another file than 0.
+///   another file than 0, or a suggestion.
 /// - `LineTooLarge`: the number of a line that the source lacks is set.
 /// - `OutOfMemory`: an allocation fails.
 pub fn database_of<'case>(alloc: Global, case: &'case Case<'_>) -> Result<Database<'case>, Error>
@@ -39,7 +39,7 @@ pub fn database_of<'case>(alloc: Global, case: &'case Case<'_>) -> Result<Databa
 {
     match case.database_kind {
         DatabaseKind::One => {
-            let file = only_file(case.files.as_slice())?;
+            let file = only_file(case)?;
             let files = SimpleFile::new(alloc, file.name.as_str(), file.source.as_str())?;
             Ok(Database::One(files, with_unit_ids(alloc, &case.diagnostic)?))
         }
@@ -47,19 +47,20 @@ pub fn database_of<'case>(alloc: Global, case: &'case Case<'_>) -> Result<Databa
             Ok(Database::Several(several_files(alloc, case.files.as_slice())?))
         }
         DatabaseKind::Mapped => {
-            let file = only_file(case.files.as_slice())?;
+            let file = only_file(case)?;
             let files = mapped_file(alloc, file, case.set_numbers.as_slice())?;
             Ok(Database::Mapped(files, with_unit_ids(alloc, &case.diagnostic)?))
         }
     }
 }
 
-/// Returns the only file; fails with `FileMissing` if there is none or several.
-fn only_file(files: &[File]) -> Result<&File, Error>
-    ensures { IfOk result (λ file. files.now ≡ file.now ∷ []) }
+/// Returns the only file; fails with `FileMissing` if there is none or several, or a suggestion.
+fn only_file<'case>(case: &'case Case<'_>) -> Result<&'case File, Error>
+    ensures file { IfOk result (λ file. case.now.files.items ≡ file.now ∷ []) }
+    ensures no_suggestions { OnOk result (case.now.suggestions.items ≡ []) }
 {
-    match files {
-        [file] => Ok(file),
+    match case.files.as_slice() {
+        [file] if case.suggestions.is_empty() => Ok(file),
         _ => Err(Error::FileMissing),
     }
 }

@@ -8,9 +8,9 @@ ghost use Rattle.gallery_cases.specs.Documents.{IsDocument};
 use crate::case::Case;
 use crate::rendering::runs_of_case;
 use crate::request::Format;
-use codespan_base::files::Error;
 use codespan_base::term::Styles;
 use codespan_styled::{html_styles, to_html, to_svg, to_terminal};
+use codespan_suggestions::SuggestionError;
 use std::alloc::Global;
 
 /// Renders a case in colors, whatever colors it states, and returns the document in a format.
@@ -18,13 +18,13 @@ use std::alloc::Global;
 /// # Errors
 ///
 /// Those of [`runs_of_case`], and `OutOfMemory` if an allocation fails.
-pub fn document(alloc: Global, case: &Case<'_>, format: Format) -> Result<String, Error>
+pub fn document(alloc: Global, case: &Case<'_>, format: Format) -> Result<String, SuggestionError>
     ensures { IfOk result (λ document. IsDocument format case.now (string_bytes document)) }
 {
     let text = runs_of_case(alloc, case)?;
     match format {
-        Format::Svg => to_svg(alloc, &text, &Styles::default()),
-        Format::Html => to_html(alloc, &text),
+        Format::Svg => Ok(to_svg(alloc, &text, &Styles::default())?),
+        Format::Html => Ok(to_html(alloc, &text)?),
         Format::Terminal => Ok(to_terminal(alloc, &text, &Styles::default())?),
     }
 }
@@ -34,8 +34,8 @@ pub fn document(alloc: Global, case: &Case<'_>, format: Format) -> Result<String
 /// # Errors
 ///
 /// `OutOfMemory` if an allocation fails.
-pub fn default_style_sheet(alloc: Global) -> Result<String, Error>
+pub fn default_style_sheet(alloc: Global) -> Result<String, SuggestionError>
     ensures { IfOk result (λ css. string_bytes css ≡ style_sheet default_styles) }
 {
-    html_styles(alloc, &Styles::default())
+    Ok(html_styles(alloc, &Styles::default())?)
 }

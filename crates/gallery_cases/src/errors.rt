@@ -3,7 +3,7 @@
 ghost use Rattle.std.specs.Prelude.{◌≡◌, codes};
 ghost use Rattle.gallery_cases.specs.declared.errors.LineError.TheVariants as line_errors;
 
-use codespan_base::files::Error;
+use codespan_suggestions::SuggestionError;
 use program_io::run_error::ProgramError;
 use std::alloc::{AllocError, AllocFailed};
 use std::fmt;
@@ -23,6 +23,8 @@ pub enum LineError {
     NoCase,
     /// The line continues a source, and its case has no file yet.
     NoFile,
+    /// The line states an edit, and its case has no suggestion yet.
+    NoSuggestion,
     /// An allocation failed.
     OutOfMemory,
 }
@@ -40,7 +42,7 @@ pub enum GalleryError {
     /// No case has this name, which the arguments request.
     UnknownCase(String),
     /// Rendering the requested document or style sheet failed.
-    CannotRender(Error),
+    CannotRender(SuggestionError),
 }
 
 impl ProgramError for GalleryError {
@@ -85,6 +87,7 @@ impl fmt::Display for LineError {
             LineError::BadEscape => "bad escape",
             LineError::NoCase => "no case before it",
             LineError::NoFile => "no file before it",
+            LineError::NoSuggestion => "no suggestion before it",
             LineError::OutOfMemory => "out of memory",
         })
     }

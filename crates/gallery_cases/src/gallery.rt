@@ -11,7 +11,7 @@ use crate::case::{Case, ColorChoice};
 use crate::document::document;
 use crate::rendering::render;
 use crate::request::Format;
-use codespan_base::files::Error;
+use codespan_suggestions::SuggestionError;
 use std::alloc::{AllocError, Global};
 
 /// Returns the heading and the output of each case, one after another.
@@ -56,7 +56,11 @@ fn add_output(alloc: Global, gallery: &mut Vec<u8>, case: &Case<'_>) -> Result<(
 /// # Errors
 ///
 /// Those of [`render`] and of [`document`].
-fn render_as_stated(alloc: Global, case: &Case<'_>, output: &mut Vec<u8>) -> Result<(), Error>
+fn render_as_stated(
+    alloc: Global,
+    case: &Case<'_>,
+    output: &mut Vec<u8>,
+) -> Result<(), SuggestionError>
     ensures plain { case.now.colors ≡ Plain
         → OnOk result (AppendsOutput case.now output.old.items output.new.items) }
     ensures document { case.now.colors ≡ Svg
@@ -76,7 +80,7 @@ fn render_as_stated(alloc: Global, case: &Case<'_>, output: &mut Vec<u8>) -> Res
 fn add_error_line(
     alloc: Global,
     gallery: &mut Vec<u8>,
-    rendered: Result<(), Error>,
+    rendered: Result<(), SuggestionError>,
 ) -> Result<(), AllocError>
     ensures { OnOk result ((error_line : List ℕ)
         × (gallery.new.items ≡ gallery.old.items ++ error_line)

@@ -14,7 +14,7 @@ use crate::document::{default_style_sheet, document};
 use crate::errors::GalleryError;
 use crate::gallery::render_cases;
 use crate::request::Request;
-use codespan_base::files::Error;
+use codespan_suggestions::SuggestionError;
 use program_io::input::read_text;
 use program_io::run_error::{RunError, conclude, write_output};
 use std::alloc::Global;
@@ -95,7 +95,7 @@ fn response(
 }
 
 /// Returns the bytes of a document; fails with `CannotRender` if that could not be rendered.
-fn bytes_of(document: Result<String, Error>) -> Result<Vec<u8>, RunError<GalleryError>>
+fn bytes_of(document: Result<String, SuggestionError>) -> Result<Vec<u8>, RunError<GalleryError>>
     ensures { MatchResult result
         (λ bytes. IsOkAnd document (λ text. bytes.items ≡ string_bytes text))
         (λ run_error. IsErrAnd document (λ error.

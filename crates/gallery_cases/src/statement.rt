@@ -16,6 +16,7 @@ use crate::words::{
 };
 use codespan_base::diagnostic::{Label, LabelStyle, Severity};
 use codespan_base::term::{DisplayStyle, Layout};
+use codespan_edits::Edit;
 use program_io::fields::{is_ignored, split_field};
 use program_io::names::{parse_display_style, parse_severity};
 use std::alloc::Global;
@@ -56,6 +57,8 @@ pub enum Statement {
     /// `context START END BEFORE AFTER`: how many context lines are shown, around labels and inside
     /// multi-line labels.
     Context(ContextLines),
+    /// `width WIDTH`: the width that rows should fit, in cells.
+    Width(usize),
     /// `characters NAME`: the characters of borders, carets and lanes.
     Characters(CharacterSet),
     /// `colors NAME`: whether the output has colors, and how these are written.
@@ -70,6 +73,10 @@ pub enum Statement {
     Label(Label<usize>),
     /// `note TEXT`: one more note.
     Note(String),
+    /// `suggestion TEXT`: one more suggestion, with this message.
+    Suggestion(String),
+    /// `replace FILE START END TEXT`: one more edit of the last suggestion.
+    Replace(Edit<usize>),
 }
 
 /// How many context lines are shown: around labels, and inside multi-line labels.
@@ -123,6 +130,7 @@ fn parse_statement(alloc: Global, word: Word, rest: &str) -> Result<Statement, L
         Word::Layout => Ok(Statement::Layout(or_unknown_name(parse_layout(rest))?)),
         Word::Tab => Ok(Statement::Tab(parse_number(rest)?)),
         Word::Context => parse_context(rest),
+        Word::Width => Ok(Statement::Width(parse_number(rest)?)),
         Word::Characters => Ok(Statement::Characters(or_unknown_name(parse_characters(rest))?)),
         Word::Colors => Ok(Statement::Colors(or_unknown_name(parse_colors(rest))?)),
         Word::Severity => Ok(Statement::Severity(or_unknown_name(parse_severity(rest))?)),
@@ -131,6 +139,8 @@ fn parse_statement(alloc: Global, word: Word, rest: &str) -> Result<Statement, L
         Word::Primary => parse_label(alloc, LabelStyle::Primary, rest),
         Word::Secondary => parse_label(alloc, LabelStyle::Secondary, rest),
         Word::Note => Ok(Statement::Note(unescape(alloc, rest)?)),
+        Word::Suggestion => Ok(Statement::Suggestion(unescape(alloc, rest)?)),
+        Word::Replace => parse_edit(alloc, rest),
     }
 }
 
@@ -180,5 +190,21 @@ fn parse_label(alloc: Global, style: LabelStyle, rest: &str) -> Result<Statement
         file_id,
         range: start..end,
         message: unescape(alloc, left)?,
+    }))
+}
+
+/// Parses the rest of a `replace` line.
+fn parse_edit(alloc: Global, rest: &str) -> Result<Statement, LineError>
+    ensures parsed { IfOk result (States (Some words.Replace) rest.now) }
+    ensures wrong { IfErr result (IsWrong (Some words.Replace) rest.now) }
+{
+    let (file_id, left) = split_number(rest)?;
+    let (start, left) = split_number(left)?;
+    let (end, left) = split_number(left)?;
+    let range = start..end;
+    Ok(Statement::Replace(Edit {
+        file_id,
+        range,
+        replacement: unescape(alloc, left)?,
     }))
 }

@@ -26,6 +26,8 @@ pub enum Word {
     Tab,
     /// How many context lines are shown.
     Context,
+    /// The width that rows should fit.
+    Width,
     /// The characters of borders, carets and lanes.
     Characters,
     /// Whether the output has colors, and how these are written.
@@ -42,6 +44,10 @@ pub enum Word {
     Secondary,
     /// A note.
     Note,
+    /// A suggestion.
+    Suggestion,
+    /// An edit of a suggestion.
+    Replace,
 }
 
 /// Parses a word. Returns `None` for any other text.
@@ -58,6 +64,7 @@ pub fn parse_word(text: &str) -> Option<Word>
         "layout" => Some(Word::Layout),
         "tab" => Some(Word::Tab),
         "context" => Some(Word::Context),
+        "width" => Some(Word::Width),
         "characters" => Some(Word::Characters),
         "colors" => Some(Word::Colors),
         "severity" => Some(Word::Severity),
@@ -66,6 +73,8 @@ pub fn parse_word(text: &str) -> Option<Word>
         "primary" => Some(Word::Primary),
         "secondary" => Some(Word::Secondary),
         "note" => Some(Word::Note),
+        "suggestion" => Some(Word::Suggestion),
+        "replace" => Some(Word::Replace),
         _ => None,
     }
 }

@@ -1,5 +1,6 @@
 //! The stored cases of the gallery, rendered by this crate: each output is the stored one, byte by
-//! byte.
+//! byte. This crate renders no suggestions, so where a case has some the output is what is above
+//! them.
 //!
 //! tools/gallery has the format of cases and outputs; the readers of cases, and of files with set
 //! line numbers, are those of tools/compare.
@@ -37,7 +38,7 @@ fn outputs_are_the_stored_ones() {
     let cases = case::read(&read("crates/gallery/stdin")).unwrap();
     assert_eq!(cases.len(), stored.len());
 
-    let (mut same, mut skipped) = (0, 0);
+    let (mut same, mut skipped, mut above) = (0, 0, 0);
     for case in &cases {
         let stored = stored[case.name.as_str()];
         // The crate writes no SVG.
@@ -46,7 +47,15 @@ fn outputs_are_the_stored_ones() {
             continue;
         }
         let section = section(case);
-        if unbroken.contains(case.name.as_str()) {
+        if case.has_suggestions {
+            let below = stored.strip_prefix(section.as_str());
+            assert!(
+                below.is_some_and(|below| below.contains("help")),
+                "{}",
+                case.name
+            );
+            above += 1;
+        } else if unbroken.contains(case.name.as_str()) {
             assert_ne!(
                 section, stored,
                 "{}: the layout makes no difference",
@@ -59,8 +68,8 @@ fn outputs_are_the_stored_ones() {
     }
     if cfg!(feature = "termcolor") {
         assert_eq!(
-            (cases.len(), same, skipped, unbroken.len()),
-            (623, 600, 3, 20)
+            (cases.len(), same, above, skipped, unbroken.len()),
+            (632, 600, 8, 4, 20)
         );
     }
 }

@@ -39,6 +39,8 @@ pub struct Case {
     pub message: String,
     pub labels: Vec<CaseLabel>,
     pub notes: Vec<String>,
+    /// Whether suggestions are below the diagnostic. No other field has them.
+    pub has_suggestions: bool,
 }
 
 impl Case {
@@ -55,6 +57,7 @@ impl Case {
             message: String::new(),
             labels: Vec::new(),
             notes: Vec::new(),
+            has_suggestions: false,
         }
     }
 
@@ -86,6 +89,9 @@ impl Case {
             "primary" => self.labels.push(label(LabelStyle::Primary, rest)?),
             "secondary" => self.labels.push(label(LabelStyle::Secondary, rest)?),
             "note" => self.notes.push(unescaped(rest)?),
+            // The crate has no suggestions, and fits no row to a width.
+            "suggestion" | "replace" => self.has_suggestions = true,
+            "width" => drop(rest.parse::<usize>().ok()?),
             _ => return None,
         }
         Some(())

@@ -5,7 +5,7 @@ use Rattle.codespan_base.specs.SimpleFilesViews.{entries}
 use Rattle.codespan_styled.specs.Runs.{styled_runs}
 use Rattle.gallery_cases.specs.Documents.{AreRunsOver}
 use Rattle.gallery_cases.proofs.OneFile.{ok_follows, over_one, over_several, over_mapped}
-use Rattle.gallery_cases.proofs.Runs.{stated_in_database}
+use Rattle.gallery_cases.proofs.Runs.{named_in_database}
 use Rattle.gallery_cases.proofs.rendering.runs_of_case.Goals as goal
 
 pub returns-in-One : goal.returns-in-One
@@ -15,9 +15,10 @@ returns-in-One c =
     let are = rw c.in-One.is at c.in_ok-database.ensures in
     ok_follows c.runs_over.result
     (λ text. over_one case (name_of files).now (source_of files).now c.in-One.diagnostic are.1
-    (λ Id database diagnostic. AreRunsOver case.config database diagnostic (styled_runs text))
+    (λ Id database diagnostic suggestions.
+    AreRunsOver case.config database diagnostic suggestions (styled_runs text))
     are.0)
-    (c.runs_over.ensures (λ x contains. refl))
+    (c.runs_over.ensures (λ id. refl))
 
 pub returns-in-Several : goal.returns-in-Several
 returns-in-Several c =
@@ -26,9 +27,11 @@ returns-in-Several c =
     let are = rw c.in-Several.is at c.in_ok-database.ensures in
     ok_follows c.runs_over-in-Several.result
     (λ text. over_several case (entries files)
-    (λ Id database diagnostic. AreRunsOver case.config database diagnostic (styled_runs text))
+    (λ Id database diagnostic suggestions.
+    AreRunsOver case.config database diagnostic suggestions (styled_runs text))
     are.0 are.1)
-    (c.runs_over-in-Several.ensures (stated_in_database (entries files) case.diagnostic))
+    (rw c.deref.ensures.value at
+    (c.runs_over-in-Several.ensures (named_in_database (entries files))))
 
 pub returns : goal.returns
 returns c =
@@ -38,7 +41,8 @@ returns c =
     ok_follows c.runs_over-in-Mapped.result
     (λ text. over_mapped case (mapped_name_of files).now (mapped_source_of files).now
     c.in-Mapped.diagnostic are.1
-    (λ Id database diagnostic. AreRunsOver case.config database diagnostic (styled_runs text))
+    (λ Id database diagnostic suggestions.
+    AreRunsOver case.config database diagnostic suggestions (styled_runs text))
     are.0
     (set_numbers_of files) are.2)
-    (c.runs_over-in-Mapped.ensures (λ x contains. refl))
+    (c.runs_over-in-Mapped.ensures (λ id. refl))
