@@ -17,13 +17,13 @@ use Rattle.report.specs.declared.script.FaultKind.TheVariants.{NoSuggestion, Bad
 use Rattle.report.specs.declared.script.words.Word.{Word}
 use Rattle.report.specs.declared.script.words.Word.TheVariants.{Severity, Code, Message, Primary}
 use Rattle.report.specs.declared.script.words.Word.TheVariants.{Secondary, Note, Suggestion}
-use Rattle.report.specs.declared.script.words.Word.TheVariants.{Replace}
+use Rattle.report.specs.declared.script.words.Word.TheVariants.{Replace, Width}
 use Rattle.program_io.specs.Escapes.{unescaped}
 use Rattle.program_io.proofs.Escaping.{after_backslash}
 use Rattle.std.specs.Result.{result_err}
 use Rattle.report.specs.ScriptFaults.{escape_fault, replace_fault, fault_at, fault_from}
 use Rattle.report.specs.ScriptFaults.{line_of_word, line_fault, number_fault, or_fault, repetition}
-use Rattle.report.specs.ScriptFaults.{severity_fault, word_fault}
+use Rattle.report.specs.ScriptFaults.{severity_fault, width_fault, word_fault}
 use Rattle.report.specs.ScriptLines.{byte_before, replacement_of, ScriptLineView, is_ignored}
 use Rattle.report.specs.ScriptLines.{range_at, rest_of, word_of, word_range}
 use Rattle.report.specs.Requests.{number_of}
@@ -77,6 +77,15 @@ module _ (input : List ℕ) (utf8 : IsUtf8 input) where
       some_if (FaultLiesIn input) (is_some (severity_named (rest_of line))) None
       (Some (fault_at UnknownSeverity (range_at line (rest_of line) (rest_of line))))
       tt (one_range UnknownSeverity (range_at line (rest_of line) (rest_of line))
+      ((end_lies input utf8) line (rest_of line) ((rest_end input utf8) line is_at)))
+
+  width_lies : (line : ScriptLineView) → (IsLineAt input utf8) line
+      → IfSome (width_fault line) (FaultLiesIn input)
+  unfolding width_fault
+  width_lies line is_at =
+      some_if (FaultLiesIn input) (is_some (number_of (rest_of line))) None
+      (Some (fault_at BadNumber (range_at line (rest_of line) (rest_of line))))
+      tt (one_range BadNumber (range_at line (rest_of line) (rest_of line))
       ((end_lies input utf8) line (rest_of line) ((rest_end input utf8) line is_at)))
 
   number_lies : (line : ScriptLineView) → (IsLineAt input utf8) line
@@ -163,6 +172,9 @@ module _ (input : List ℕ) (utf8 : IsUtf8 input) where
       (repetition_lies before line all is_at) (severity_lies line is_at)
   word_fault_lies before line all is_at (Some Code) = repetition_lies before line all is_at
   word_fault_lies before line all is_at (Some Message) = repetition_lies before line all is_at
+  word_fault_lies before line all is_at (Some Width) =
+      either_fault (FaultLiesIn input) (repetition before line) (width_fault line)
+      (repetition_lies before line all is_at) (width_lies line is_at)
   word_fault_lies before line all is_at (Some Primary) = number_lies line is_at
   word_fault_lies before line all is_at (Some Secondary) = number_lies line is_at
   word_fault_lies before line all is_at (Some Note) = tt

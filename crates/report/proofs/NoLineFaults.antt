@@ -10,14 +10,16 @@ use Rattle.std.specs.declared.ops.Range.{Range}
 use Rattle.codespan_output.specs.Types.{Primary, Secondary, Severity}
 use Rattle.program_io.specs.Fields.{field_of, past_space}
 use Rattle.report.specs.declared.script.Fault.{Fault}
-use Rattle.report.specs.declared.script.FaultKind.TheVariants.{UnknownSeverity, RepeatedWord}
+use Rattle.report.specs.declared.script.FaultKind.TheVariants.{BadNumber, UnknownSeverity}
+use Rattle.report.specs.declared.script.FaultKind.TheVariants.{RepeatedWord}
 use Rattle.report.specs.Requests.{number_of}
 use Rattle.report.specs.ScriptFaults.{fault_at, fault_from, line_of_word, line_fault, number_fault}
-use Rattle.report.specs.ScriptFaults.{or_fault, repetition, severity_fault}
+use Rattle.report.specs.ScriptFaults.{or_fault, repetition, severity_fault, width_fault}
+use Rattle.report.proofs.Numbers.{number_of-decimal}
 use Rattle.report.specs.Statements.{IsStatable, Statement, label_fields, statement_line, escaped}
 use Rattle.report.specs.Statements.Statement.{SeverityLine, CodeLine, MessageLine, LabelLine}
 use Rattle.report.specs.Statements.Statement.{NoteLine, CommentLine, EmptyLine, SuggestionLine}
-use Rattle.report.specs.Statements.Statement.{EditLine}
+use Rattle.report.specs.Statements.Statement.{EditLine, WidthLine}
 use Rattle.report.specs.Scripts.{rest_of_word}
 use Rattle.report.proofs.ReadSuggestions.{Belong, after_suggestion, belong_more, no_replace_fault}
 use Rattle.report.specs.ScriptLines.{ScriptLineView, range_at, rest_of, word_of, word_range}
@@ -85,11 +87,12 @@ none_before word before line lines once is =
     ∙ ap (λ rests. length (filter_map (rest_by word) before) + length rests) here in
     no_line_of_word word before (omega arith)
 
--- severity, code and message are stated once at most
+-- severity, code, message and width are stated once at most
 pub record AreOnce (lines : List ScriptLineView) : Type 0 where
   pub severity : IsOnce (codes "severity") lines
   pub code : IsOnce (codes "code") lines
   pub message : IsOnce (codes "message") lines
+  pub width : IsOnce (codes "width") lines
 
 -- a word that no earlier line has is not repeated
 not_repeated : (before : List ScriptLineView) (line : ScriptLineView)
@@ -117,6 +120,20 @@ severity_right before start severity lines once =
     (λ named. if is_some named then None
     else Some (fault_at UnknownSeverity (range_at line (rest_of line) (rest_of line))))
     (name_read severity)
+
+width_right : (before : List ScriptLineView) (start : ℕ) (width : ℕ)
+    (lines : List ScriptLineView)
+    → width < 2 ^ 64 → AreOnce (before ++ line_at start (WidthLine width) ∷ lines)
+    → line_fault before (line_at start (WidthLine width)) ≡ None
+unfolding width_fault script_word_named
+width_right before start width lines fits once =
+    let line : ScriptLineView = line_at start (WidthLine width) in
+    ap (λ fault. or_fault fault (width_fault line))
+    (not_repeated before line (none_before (codes "width") before line lines once.width refl))
+    ∙ ap
+    (λ number. if is_some number then None
+    else Some (fault_at BadNumber (range_at line (rest_of line) (rest_of line))))
+    (number_of-decimal width fits)
 
 -- where both fields are numbers there is no error
 both_numbers : (first last : Option ℕ) (start end : Option Fault) (m n : ℕ) → first ≡ Some m
@@ -151,6 +168,8 @@ line_right before start (MessageLine text) ss lines can once belong =
     not_repeated before (line_at start (MessageLine text))
     (none_before (codes "message") before (line_at start (MessageLine text)) lines once.message
     refl)
+line_right before start (WidthLine width) ss lines can once belong =
+    width_right before start width lines can once
 line_right before start (LabelLine Primary range message) ss lines can once belong =
     label_correct start (LabelLine Primary range message) range message can.0 can.1 refl
 line_right before start (LabelLine Secondary range message) ss lines can once belong =

@@ -4,7 +4,7 @@ use Rattle.codespan_core.proofs.Std.{◌≡◌, ℕ, suc, ◌≤◌, List, [], �
 use Rattle.codespan_core.proofs.Std.{map, Option, Some, None, Ok, inr, codes, refl, ap, ◌∙◌}
 use Rattle.codespan_core.proofs.Std.{arith, unwrap_or, All, option_map, slice_get, filter_map}
 use Rattle.codespan_core.proofs.Std.{AllByRecursion, cons_option, slice_split, length-map}
-use Rattle.codespan_core.proofs.Std.{slice_get-map}
+use Rattle.codespan_core.proofs.Std.{slice_get-map, decimal}
 use Rattle.std.proofs.Common.{option_and_then}
 use Rattle.codespan_core.specs.declared.diagnostic.Severity.TheVariants.{Error}
 use Rattle.codespan_output.specs.Types.{Severity}
@@ -17,13 +17,20 @@ use Rattle.report.specs.Statements.{severity_stated, written_script, CanBeMade, 
 use Rattle.codespan_core.specs.Diagnostics.{severity_name}
 use Rattle.report.specs.Scripts.{parsed_statements, script_diagnostic, parsed_label, parsed_note}
 use Rattle.report.specs.Scripts.{parsed_lines, parsed_script, rest_of_word, parsed_severity}
+use Rattle.report.specs.Scripts.{parsed_width}
+use Rattle.report.specs.Requests.{number_of}
+use Rattle.report.specs.Statements.Statement.{SeverityLine, CodeLine, MessageLine, LabelLine}
+use Rattle.report.specs.Statements.Statement.{NoteLine, SuggestionLine, EditLine, CommentLine}
+use Rattle.report.specs.Statements.Statement.{EmptyLine, WidthLine}
+use Rattle.report.specs.Statements.{width_stated}
+use Rattle.report.proofs.Numbers.{number_of-decimal}
 use Rattle.report.specs.Suggestions.{parsed_suggestions}
 use Rattle.report.proofs.ReadSuggestions.{no_suggestions_fault, suggestions_read}
 use Rattle.report.specs.ScriptLines.{ScriptLineView, is_newline, script_lines_from, script_lines}
 use Rattle.report.specs.ScriptLines.{script_source}
 use Rattle.report.proofs.WrittenScripts.{statement_lines, body_written, source_written}
 use Rattle.report.proofs.ReadLines.{rest_by, severity_read, code_read, message_read, note_read}
-use Rattle.report.proofs.ReadLines.{name_read, label_read, all_read}
+use Rattle.report.proofs.ReadLines.{name_read, label_read, all_read, width_read}
 use Rattle.report.proofs.NoLineFaults.{rest_of_word_first, AreOnce, lines_right}
 
 -- ---- what is read of all lines
@@ -48,6 +55,39 @@ named_again : (severity : Option Severity)
     → option_and_then severity_named (option_map severity_name severity) ≡ severity
 named_again None = refl
 named_again (Some severity) = name_read severity
+
+-- the first width by its digits
+first_width : (ss : List Statement) → AllByRecursion IsStatable ss
+    → option_and_then number_of
+    (slice_get (filter_map (λ s. option_map decimal (width_stated s)) ss) 0)
+    ≡ first_stated width_stated ss
+first_width [] can = refl
+first_width (SeverityLine severity ∷ ss) can = first_width ss can.1
+first_width (CodeLine text ∷ ss) can = first_width ss can.1
+first_width (MessageLine text ∷ ss) can = first_width ss can.1
+first_width (WidthLine width ∷ ss) can = number_of-decimal width can.0
+first_width (LabelLine style range message ∷ ss) can = first_width ss can.1
+first_width (NoteLine text ∷ ss) can = first_width ss can.1
+first_width (SuggestionLine text ∷ ss) can = first_width ss can.1
+first_width (EditLine range replacement ∷ ss) can = first_width ss can.1
+first_width (CommentLine text ∷ ss) can = first_width ss can.1
+first_width (EmptyLine ∷ ss) can = first_width ss can.1
+
+-- as many lines have a width as statements do
+count_widths : (ss : List Statement)
+    → length (filter_map (λ s. option_map decimal (width_stated s)) ss)
+    ≡ length (filter_map width_stated ss)
+count_widths [] = refl
+count_widths (SeverityLine severity ∷ ss) = count_widths ss
+count_widths (CodeLine text ∷ ss) = count_widths ss
+count_widths (MessageLine text ∷ ss) = count_widths ss
+count_widths (WidthLine width ∷ ss) = ap suc (count_widths ss)
+count_widths (LabelLine style range message ∷ ss) = count_widths ss
+count_widths (NoteLine text ∷ ss) = count_widths ss
+count_widths (SuggestionLine text ∷ ss) = count_widths ss
+count_widths (EditLine range replacement ∷ ss) = count_widths ss
+count_widths (CommentLine text ∷ ss) = count_widths ss
+count_widths (EmptyLine ∷ ss) = count_widths ss
 
 module _ (ss : List Statement) (can : AllByRecursion IsStatable ss) where
   -- the names of the severities
@@ -81,6 +121,19 @@ module _ (ss : List Statement) (can : AllByRecursion IsStatable ss) where
       ∙ ap (λ rests. slice_get rests 0)
       (all_read (rest_by (codes "message")) message_stated message_read 0 ss can)
 
+  widths_read : filter_map (rest_by (codes "width")) (statement_lines 0 ss)
+      ≡ filter_map (λ s. option_map decimal (width_stated s)) ss
+  widths_read =
+      all_read (rest_by (codes "width")) (λ s. option_map decimal (width_stated s)) width_read 0
+      ss can
+
+  width_same : parsed_width (statement_lines 0 ss) ≡ first_stated width_stated ss
+  width_same =
+      ap (λ rest. option_and_then number_of rest)
+      (rest_of_word_first (codes "width") (statement_lines 0 ss)
+      ∙ ap (λ rests. slice_get rests 0) widths_read)
+      ∙ first_width ss can
+
   -- the lines state what the statements do
   diagnostic_same : script_diagnostic (statement_lines 0 ss) ≡ stated_diagnostic ss
   diagnostic_same = λ i. record {
@@ -94,12 +147,14 @@ module _ (ss : List Statement) (can : AllByRecursion IsStatable ss) where
   -- and no word that may occur once is repeated
   all_once : length (filter_map severity_stated ss) ≤ 1
       → length (filter_map code_stated ss) ≤ 1
-      → length (filter_map message_stated ss) ≤ 1 → AreOnce (statement_lines 0 ss)
-  all_once severity code message = record {
+      → length (filter_map message_stated ss) ≤ 1 → length (filter_map width_stated ss) ≤ 1
+      → AreOnce (statement_lines 0 ss)
+  all_once severity code message width = record {
     severity = rw (names_read, length-map) severity;
     code = rw (all_read (rest_by (codes "code")) code_stated code_read 0 ss can) code;
     message =
         rw (all_read (rest_by (codes "message")) message_stated message_read 0 ss can) message;
+    width = rw (widths_read, count_widths ss) width;
   }
 
 -- what holds by the indices of elements holds of each
@@ -121,7 +176,7 @@ reads_back ss source script made =
     let found : script_source input lines ≡ Some source =
     source_written input 0 ss source can refl in
     let right : fault_from [] (statement_lines 0 ss) ≡ None = lines_right [] 0 ss can
-    (all_once ss can script.one_severity script.one_code script.one_message)
+    (all_once ss can script.one_severity script.one_code script.one_message script.one_width)
     (inr script.edits_belong) in
     ap (λ ls. parsed_lines input ls (fault_from [] ls) (script_source input lines))
     (body_written 0 ss source can)
@@ -133,13 +188,23 @@ reads_back ss source script made =
     ∙ ap
     (λ diagnostic. Ok (record {
       diagnostic = diagnostic;
+      max_width = parsed_width (statement_lines 0 ss);
       suggestions = parsed_suggestions (statement_lines 0 ss);
       source = source;
     }))
     (diagnostic_same ss can)
     ∙ ap
+    (λ width. Ok (record {
+      diagnostic = stated_diagnostic ss;
+      max_width = width;
+      suggestions = parsed_suggestions (statement_lines 0 ss);
+      source = source;
+    }))
+    (width_same ss can)
+    ∙ ap
     (λ suggestions. Ok (record {
       diagnostic = stated_diagnostic ss;
+      max_width = first_stated width_stated ss;
       suggestions = suggestions;
       source = source;
     }))

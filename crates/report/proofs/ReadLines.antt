@@ -14,11 +14,11 @@ use Rattle.program_io.specs.Names.{severity_named}
 use Rattle.report.specs.Requests.{number_of}
 use Rattle.report.specs.Statements.{IsStatable, Statement, code_stated, joined_fields, label_fields}
 use Rattle.report.specs.Statements.{label_stated, message_stated, note_stated, severity_stated}
-use Rattle.report.specs.Statements.{statement_line}
+use Rattle.report.specs.Statements.{statement_line, width_stated}
 use Rattle.codespan_core.specs.Diagnostics.{severity_name}
 use Rattle.report.specs.Statements.Statement.{SeverityLine, CodeLine, MessageLine, LabelLine}
 use Rattle.report.specs.Statements.Statement.{NoteLine, CommentLine, EmptyLine, SuggestionLine}
-use Rattle.report.specs.Statements.Statement.{EditLine}
+use Rattle.report.specs.Statements.Statement.{EditLine, WidthLine}
 use Rattle.report.specs.ScriptLines.{ScriptLineView, rest_of, word_of}
 use Rattle.report.specs.ScriptWords.{script_word_named}
 use Rattle.report.specs.Scripts.{label_by_word, label_with_ends, parsed_label, label_of_rest}
@@ -37,13 +37,14 @@ comment_word text = ap (λ n. take n (35 ∷ text)) (one-add (position_or_len is
 abbrev pub rest_by : List ℕ → ScriptLineView → Option (List ℕ)
 rest_by word line = if bytes_eq (word_of line) word then Some (rest_of line) else None
 
--- the severity, the code, the message and the note of a line are those of its statement
+-- the severity, the code, the message, the width and the note of a line are those of its statement
 pub severity_read : (start : ℕ) (s : Statement) → IsStatable s
     → rest_by (codes "severity") (line_at start s)
     ≡ option_map severity_name (severity_stated s)
 severity_read start (SeverityLine severity) can = refl
 severity_read start (CodeLine text) can = refl
 severity_read start (MessageLine text) can = refl
+severity_read start (WidthLine width) can = refl
 severity_read start (LabelLine Primary range message) can = refl
 severity_read start (LabelLine Secondary range message) can = refl
 severity_read start (NoteLine text) can = refl
@@ -59,6 +60,7 @@ pub code_read : (start : ℕ) (s : Statement) → IsStatable s
 code_read start (SeverityLine severity) can = refl
 code_read start (CodeLine text) can = refl
 code_read start (MessageLine text) can = refl
+code_read start (WidthLine width) can = refl
 code_read start (LabelLine Primary range message) can = refl
 code_read start (LabelLine Secondary range message) can = refl
 code_read start (NoteLine text) can = refl
@@ -74,6 +76,7 @@ pub message_read : (start : ℕ) (s : Statement) → IsStatable s
 message_read start (SeverityLine severity) can = refl
 message_read start (CodeLine text) can = refl
 message_read start (MessageLine text) can = refl
+message_read start (WidthLine width) can = refl
 message_read start (LabelLine Primary range message) can = refl
 message_read start (LabelLine Secondary range message) can = refl
 message_read start (NoteLine text) can = refl
@@ -84,11 +87,28 @@ message_read start (CommentLine text) can =
     (comment_word text)
 message_read start EmptyLine can = refl
 
+pub width_read : (start : ℕ) (s : Statement) → IsStatable s
+    → rest_by (codes "width") (line_at start s) ≡ option_map decimal (width_stated s)
+width_read start (SeverityLine severity) can = refl
+width_read start (CodeLine text) can = refl
+width_read start (MessageLine text) can = refl
+width_read start (WidthLine width) can = refl
+width_read start (LabelLine Primary range message) can = refl
+width_read start (LabelLine Secondary range message) can = refl
+width_read start (NoteLine text) can = refl
+width_read start (SuggestionLine text) can = refl
+width_read start (EditLine range replacement) can = refl
+width_read start (CommentLine text) can =
+    ap (λ word. if bytes_eq word (codes "width") then Some (past_space (35 ∷ text)) else None)
+    (comment_word text)
+width_read start EmptyLine can = refl
+
 pub note_read : (start : ℕ) (s : Statement) → IsStatable s
     → parsed_note (line_at start s) ≡ note_stated s
 note_read start (SeverityLine severity) can = refl
 note_read start (CodeLine text) can = refl
 note_read start (MessageLine text) can = refl
+note_read start (WidthLine width) can = refl
 note_read start (LabelLine Primary range message) can = refl
 note_read start (LabelLine Secondary range message) can = refl
 note_read start (NoteLine text) can = refl
@@ -173,6 +193,7 @@ unfolding parsed_label script_word_named
 label_read start (SeverityLine severity) can = refl
 label_read start (CodeLine text) can = refl
 label_read start (MessageLine text) can = refl
+label_read start (WidthLine width) can = refl
 label_read start (LabelLine Primary range message) can =
     label_fields_read Primary range message can.0 can.1
 label_read start (LabelLine Secondary range message) can =

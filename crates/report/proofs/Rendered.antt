@@ -1,7 +1,7 @@
--- For the clauses of `rendering::render_over` and `rendering::config_in`: the output of a
+-- For the clauses of `rendering::render_over` and `rendering::config_with`: the output of a
 -- diagnostic.
-use Rattle.codespan_core.proofs.Std.{◌≡◌, ℕ, true, List, Result, Ok, Err, IfOk, refl, sym}
-use Rattle.codespan_core.proofs.Std.{subst, ap, ◌∙◌}
+use Rattle.codespan_core.proofs.Std.{◌≡◌, ℕ, true, List, Option, Result, Ok, Err}
+use Rattle.codespan_core.proofs.Std.{IfOk, refl, subst, sym, ap, ◌∙◌}
 use Rattle.codespan_core.specs.Defaults.{default_config}
 use Rattle.codespan_core.specs.Diagnostics.{diagnostic_view}
 use Rattle.codespan_core.specs.FileModel.{FileDatabase}
@@ -15,14 +15,17 @@ use Rattle.codespan_output.proofs.Outputs.StatedNames.{output_stated}
 use Rattle.codespan_output.proofs.Outputs.ViewPictures.{picture-of_view}
 use Rattle.report.specs.RenderedTexts.{report_config, only_file, output_text}
 
--- a configuration equal to the default one, in a style
-pub restyled : (config : Config) (style : DisplayStyle) → IsEqualConfig default_config config
-    → IsEqualConfig (report_config style) (record config { display_style = style })
-restyled config style equal =
+-- a configuration equal to the default one, in a style and a width
+pub restyled : (config : Config) (style : DisplayStyle) (width : Option ℕ)
+    → IsEqualConfig default_config config
+    → IsEqualConfig (report_config style width)
+    (record config { display_style = style; max_width = width })
+restyled config style width equal =
     record {
       chars =
           equal.chars;
-      others = ap (λ (c : Config). record c { display_style = style }) equal.others;
+      others =
+          ap (λ (c : Config). record c { display_style = style; max_width = width }) equal.others;
     }
 
 module _ (d : Diagnostic (Unit {0})) where
@@ -35,13 +38,14 @@ module _ (d : Diagnostic (Unit {0})) where
   -- default one in its style, is that of its output
   rendered_text : (name source : List ℕ) (config : Config) (failure : Failures (Unit {0}))
       (text : List ℕ)
-      → IsEqualConfig (report_config config.display_style) config
+      → IsEqualConfig (report_config config.display_style config.max_width) config
       → IsRendered config (table_at name source failure) d text
       → (named contents : List ℕ) → name ≡ named → source ≡ contents
-      → text ≡ output_text config.display_style named contents (diagnostic_view d)
+      → text
+      ≡ output_text config.display_style config.max_width named contents (diagnostic_view d)
   unfolding output_text
   rendered_text name source config failure text equal is_rendered named contents n s =
-      let plain = report_config config.display_style in
+      let plain = report_config config.display_style config.max_width in
       is_rendered.text_is
       ∙ ap text_of
       (is_rendered.is_output.stream_is
@@ -57,20 +61,27 @@ module _ (d : Diagnostic (Unit {0})) where
       (diagnostic_view d))) s
 
   -- the same of a call that returns a text, by a configuration equal to the default one in a style
-  pub rendered_result : {T : Type 0} (style : DisplayStyle) (text : T → List ℕ)
+  pub rendered_result : {T : Type 0} (style : DisplayStyle) (width : Option ℕ)
+      (text : T → List ℕ)
       (name source : List ℕ) (config : Config) (failure : Failures (Unit {0}))
       (r : Result T Error)
-      → IsEqualConfig (report_config style) config
+      → IsEqualConfig (report_config style width) config
       → IfOk r (λ t. IsRendered config (table_at name source failure) d (text t))
       → (named contents : List ℕ) → name ≡ named → source ≡ contents
-      → IfOk r (λ t. text t ≡ output_text style named contents (diagnostic_view d))
-  rendered_result style text name source config failure (Ok
+      → IfOk r (λ t. text t ≡ output_text style width named contents (diagnostic_view d))
+  rendered_result style width text name source config failure (Ok
       t) equal is_rendered named contents n s =
       let styled : config.display_style ≡ style =
       ap (λ (c : Config). c.display_style) equal.others in
-      let same = subst (λ other. IsEqualConfig (report_config other) config) (sym styled) equal in
-      subst (λ other. text t ≡ output_text other named contents (diagnostic_view d)) styled
-      (rendered_text name source config failure (text t) same is_rendered named contents n s)
-  rendered_result style text name source config failure (Err
+      let wide : config.max_width ≡ width = ap (λ (c : Config). c.max_width) equal.others in
+      let same = subst
+      (λ other. IsEqualConfig (report_config other config.max_width) config) (sym styled)
+      (subst (λ other. IsEqualConfig (report_config style other) config) (sym wide) equal) in
+      subst (λ other. text t ≡ output_text other width named contents (diagnostic_view d)) styled
+      (subst
+      (λ other. text t
+      ≡ output_text config.display_style other named contents (diagnostic_view d)) wide
+      (rendered_text name source config failure (text t) same is_rendered named contents n s))
+  rendered_result style width text name source config failure (Err
       e) equal is_rendered named contents n s =
       tt

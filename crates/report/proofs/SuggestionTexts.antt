@@ -1,6 +1,6 @@
 -- For the clauses of `rendering::render_suggestion` and `rendering::rendered_script`: the output of
 -- a suggestion of one file.
-use Rattle.codespan_core.proofs.Std.{◌≡◌, ℕ, List, [], ◌∷◌, ◌++◌, map, filter}
+use Rattle.codespan_core.proofs.Std.{Option, ◌≡◌, ℕ, List, [], ◌∷◌, ◌++◌, map, filter}
 use Rattle.codespan_core.proofs.Std.{refl, sym, ap, subst, ◌∙◌, AllByRecursion, string_bytes}
 use Rattle.std.specs.Prelude.{IsSome}
 use Rattle.codespan_core.specs.ConfigEquality.{IsEqualConfig}
@@ -88,13 +88,14 @@ module _ (name source : List ℕ) (failure : Failures (Unit {0})) where
       (drawn context (only_file name source tt) es ∷ [])) (all_edits 0 (edit ∷ edits))
 
   -- what is emitted of a suggestion, by a configuration equal to the default one in a style
-  pub emitted_text : (style : DisplayStyle) (config : Config) (s : Suggestion (Unit {0}))
-      (text : List ℕ) → IsEqualConfig (report_config style) config
+  pub emitted_text : (style : DisplayStyle) (width : Option ℕ) (config : Config)
+      (s : Suggestion (Unit {0})) (text : List ℕ)
+      → IsEqualConfig (report_config style width) config
       → text ≡ text_of (suggestion_stream config database s)
-      → text ≡ suggestion_text style name source (suggestion_view s)
+      → text ≡ suggestion_text style width name source (suggestion_view s)
   unfolding suggestion_text
-  emitted_text style config s text equal is =
-      let plain = report_config style in
+  emitted_text style width config s text equal is =
+      let plain = report_config style width in
       let context = context_of plain in
       let message = string_bytes s.message in
       let files = drawn_files context database s.edits.items in

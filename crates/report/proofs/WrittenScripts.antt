@@ -5,6 +5,7 @@ use Rattle.codespan_core.proofs.Std.{◌^◌, ◌<◌, ◌==◌, Bool, true, fal
 use Rattle.codespan_core.proofs.Std.{List, [], ◌∷◌, ◌++◌, length, get_or, take, drop}
 use Rattle.codespan_core.proofs.Std.{Option, Some, None, IfSome, codes, bytes_eq, ltb, refl, sym}
 use Rattle.codespan_core.proofs.Std.{ap, ◌∙◌, arith, if◌then◌else◌, append_assoc}
+use Rattle.codespan_core.proofs.Std.{subst}
 use Rattle.codespan_core.proofs.Std.{append-nil, eq-eqb, ne_eqb, length-append, take_all, All}
 use Rattle.codespan_core.proofs.Std.{decimal, AllByRecursion, position_or_len, slice_split}
 use Rattle.codespan_core.proofs.Std.{and_parts, ltb-true, drop_all}
@@ -23,7 +24,7 @@ use Rattle.report.specs.Statements.{label_fields, statement_line, written_script
 use Rattle.codespan_core.specs.Diagnostics.{severity_name}
 use Rattle.report.specs.Statements.Statement.{SeverityLine, CodeLine, MessageLine, LabelLine}
 use Rattle.report.specs.Statements.Statement.{NoteLine, CommentLine, EmptyLine, SuggestionLine}
-use Rattle.report.specs.Statements.Statement.{EditLine}
+use Rattle.report.specs.Statements.Statement.{EditLine, WidthLine}
 use Rattle.report.specs.ScriptLines.{ScriptLineView, body, is_newline, script_lines_from}
 use Rattle.report.specs.ScriptLines.{script_source}
 use Rattle.report.proofs.Numbers.{digits_of_decimal}
@@ -180,6 +181,9 @@ line_ends (SeverityLine severity) can =
 line_ends (CodeLine text) can = end_after (codes "code ") text (above (codes "code ") refl) can
 line_ends (MessageLine text) can =
     end_after (codes "message ") text (above (codes "message ") refl) can
+line_ends (WidthLine width) can =
+    end_after (codes "width ") (decimal width) (above (codes "width ") refl)
+    (subst IsLineSuffix (append-nil (decimal width)) (end_decimal width [] can end_nothing))
 line_ends (LabelLine Primary range message) can =
     end_after (codes "primary ") (label_fields range message) (above (codes "primary ") refl)
     (end_label range message can)
@@ -209,6 +213,7 @@ line_goes_on : (s : Statement) → bytes_eq (statement_line s) (codes "---") ≡
 line_goes_on (SeverityLine severity) = refl
 line_goes_on (CodeLine text) = refl
 line_goes_on (MessageLine text) = refl
+line_goes_on (WidthLine width) = refl
 line_goes_on (LabelLine Primary range message) = refl
 line_goes_on (LabelLine Secondary range message) = refl
 line_goes_on (NoteLine text) = refl

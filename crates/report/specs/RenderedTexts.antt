@@ -1,6 +1,6 @@
 -- The output of a diagnostic over one file, and what a run renders.
 use Rattle.std.specs.Prelude.{◌≡◌, ℕ, true, List, [], ◌∷◌, ◌++◌, map, flat_map}
-use Rattle.std.specs.Prelude.{filter, Some}
+use Rattle.std.specs.Prelude.{filter, Option, Some, None}
 use Rattle.std.specs.Prelude.{Result, Ok, Err, codes}
 use Rattle.std.specs.Prelude.{string_bytes}
 use Rattle.codespan_core.specs.declared.term.config.Config.{Config}
@@ -30,21 +30,23 @@ use Rattle.report.specs.Scripts.{ScriptView, parsed_script}
 
 -- ---- the output of a diagnostic
 
--- the configuration: the default one, in this display style
-abbrev pub report_config : DisplayStyle → Config
-report_config style = record default_config { display_style = style }
+-- the configuration: the default one, in this display style, with rows that should fit this width
+abbrev pub report_config : DisplayStyle → Option ℕ → Config
+report_config style max_width =
+    record default_config { display_style = style; max_width = max_width }
 
 -- the only file of a database: it has this name and this source, whatever the id
 abbrev pub only_file : List ℕ → List ℕ → Unit {0} → FileModel
 only_file name source id = simple_file (Some name) source
 
--- the text of the diagnostic's output, in a style, over the file of a name and a source
-unfoldable pub output_text : DisplayStyle → List ℕ → List ℕ → DiagnosticView (Unit {0})
+-- the text of the diagnostic's output, in a style and a width, over the file of a name and a source
+unfoldable pub output_text : DisplayStyle → Option ℕ → List ℕ → List ℕ
+    → DiagnosticView (Unit {0})
     → List ℕ
-output_text style name source diagnostic =
+output_text style max_width name source diagnostic =
     text_of
-    (picture_of_diagnostic_view (report_config style) (λ i j. true) (only_file name source)
-    diagnostic)
+    (picture_of_diagnostic_view (report_config style max_width) (λ i j. true)
+    (only_file name source) diagnostic)
 
 -- ---- the output of a suggestion
 
@@ -55,23 +57,23 @@ shown_files context file [] = []
 shown_files context file (edit ∷ edits) =
     filter has_hunk (drawn context file (edit ∷ edits) ∷ [])
 
--- the text of a suggestion's output, in a style, over the file of a name and a source
-unfoldable pub suggestion_text : DisplayStyle → List ℕ → List ℕ
+-- the text of a suggestion's output, in a style and a width, over the file of a name and a source
+unfoldable pub suggestion_text : DisplayStyle → Option ℕ → List ℕ → List ℕ
     → SuggestionView (Unit {0})
     → List ℕ
-suggestion_text style name source suggestion =
-    let config = report_config style in
+suggestion_text style max_width name source suggestion =
+    let config = report_config style max_width in
     text_of (output_of config suggestion.message
     (shown_files (context_of config) (only_file name source tt)
     (map (λ edit. edit.edit) suggestion.edits)))
 
 -- ---- what a run renders
 
--- the diagnostic of a script in a style, and below it each suggestion
+-- the diagnostic of a script in a style, and below it each suggestion, all in the script's width
 abbrev pub rendered_script : DisplayStyle → List ℕ → ScriptView → List ℕ
 rendered_script style name script =
-    output_text style name script.source script.diagnostic
-    ++ flat_map (suggestion_text style name script.source) script.suggestions
+    output_text style script.max_width name script.source script.diagnostic
+    ++ flat_map (suggestion_text style script.max_width name script.source) script.suggestions
 
 -- the source of a script after the edits of its first suggestion, or the source without one
 abbrev pub source_after : List ℕ → List (SuggestionView (Unit {0})) → List ℕ
@@ -115,14 +117,14 @@ abbrev pub rendering_of_script : ScriptOutput → List ℕ → List ℕ → Resu
     → Result (List ℕ) (List ℕ)
 rendering_of_script output name input (Ok script) = Ok (script_output output name script)
 rendering_of_script output name input (Err fault) =
-    Err (output_text (error_style output) (codes "script") input (fault_diagnostic fault))
+    Err (output_text (error_style output) None (codes "script") input (fault_diagnostic fault))
 
 -- what is written of an input: `Ok` what goes to the output, `Err` the diagnostic of a script's
 -- error
 abbrev pub rendering_of : RequestView → List ℕ → Result (List ℕ) (List ℕ)
 rendering_of (OneLabel label_request) input =
     Ok
-    (output_text label_request.style label_request.name input
+    (output_text label_request.style None label_request.name input
     (label_request_diagnostic label_request))
 rendering_of (OfScript output name) input =
     rendering_of_script output name input (parsed_script input)

@@ -64,7 +64,7 @@ bad_edit_message Overlap = codes "overlaps another edit"
 -- the message of its primary label
 abbrev pub fault_label_message : FaultKind → List ℕ
 fault_label_message UnknownWord =
-    codes "expected severity, code, message, primary, secondary, note, suggestion or replace"
+    codes "expected severity, code, message, width, primary, secondary, note, suggestion or replace"
 fault_label_message UnknownSeverity = codes "expected bug, error, warning, note or help"
 fault_label_message BadNumber = codes "expected a decimal number"
 fault_label_message RepeatedWord = codes "given again"

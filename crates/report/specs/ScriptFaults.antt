@@ -18,7 +18,7 @@ use Rattle.report.specs.declared.script.ScriptError.TheVariants as errors
 use Rattle.report.specs.declared.script.words.Word.{Word}
 use Rattle.report.specs.declared.script.words.Word.TheVariants.{Severity, Code, Message, Primary}
 use Rattle.report.specs.declared.script.words.Word.TheVariants.{Secondary, Note, Suggestion}
-use Rattle.report.specs.declared.script.words.Word.TheVariants.{Replace}
+use Rattle.report.specs.declared.script.words.Word.TheVariants.{Replace, Width}
 use Rattle.report.specs.Requests.{number_of}
 use Rattle.report.specs.ScriptLines.{ScriptLineView, is_ignored, word_of, rest_of, range_at}
 use Rattle.report.specs.ScriptLines.{word_range, replacement_of, byte_before}
@@ -58,6 +58,13 @@ severity_fault line =
     then None
     else Some (fault_at UnknownSeverity (range_at line (rest_of line) (rest_of line)))
 
+-- the error of a `width` line whose rest is not a number
+unfoldable pub width_fault : ScriptLineView → Option Fault
+width_fault line =
+    if is_some (number_of (rest_of line))
+    then None
+    else Some (fault_at BadNumber (range_at line (rest_of line) (rest_of line)))
+
 -- the error of a label's line whose start or end is not a number
 unfoldable pub number_fault : ScriptLineView → Option Fault
 number_fault line =
@@ -91,6 +98,7 @@ word_fault before line None = Some (fault_at UnknownWord (word_range line))
 word_fault before line (Some Severity) = or_fault (repetition before line) (severity_fault line)
 word_fault before line (Some Code) = repetition before line
 word_fault before line (Some Message) = repetition before line
+word_fault before line (Some Width) = or_fault (repetition before line) (width_fault line)
 word_fault before line (Some Primary) = number_fault line
 word_fault before line (Some Secondary) = number_fault line
 word_fault before line (Some Note) = None

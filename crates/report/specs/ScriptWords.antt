@@ -2,7 +2,7 @@
 use Rattle.std.specs.Prelude.{ℕ, List, Option, Some, None, codes, if◌then◌else◌}
 use Rattle.std.specs.Str.{bytes_eq}
 use Rattle.report.specs.declared.script.words.Word.{Word}
-use Rattle.report.specs.declared.script.words.Word.TheVariants.{Severity, Code, Message}
+use Rattle.report.specs.declared.script.words.Word.TheVariants.{Severity, Code, Message, Width}
 use Rattle.report.specs.declared.script.words.Word.TheVariants.{Primary, Secondary, Note}
 use Rattle.report.specs.declared.script.words.Word.TheVariants.{Suggestion, Replace}
 
@@ -12,6 +12,7 @@ script_word_named text =
     if bytes_eq text (codes "severity") then Some Severity
     else if bytes_eq text (codes "code") then Some Code
     else if bytes_eq text (codes "message") then Some Message
+    else if bytes_eq text (codes "width") then Some Width
     else if bytes_eq text (codes "primary") then Some Primary
     else if bytes_eq text (codes "secondary") then Some Secondary
     else if bytes_eq text (codes "note") then Some Note

@@ -25,9 +25,11 @@ use Rattle.report.specs.ScriptLines.{word_of, rest_of}
 use Rattle.report.specs.ScriptWords.{script_word_named}
 use Rattle.report.specs.Suggestions.{parsed_suggestions, suggestions_fault}
 
--- what a script states: a diagnostic and suggestions of one file, and that file's source
+-- what a script states: a diagnostic and suggestions of one file, the width that rows should fit,
+-- and that file's source
 pub record ScriptView : Type 0 where
   pub diagnostic : DiagnosticView (Unit {0})
+  pub max_width : Option ℕ
   pub suggestions : List (SuggestionView (Unit {0}))
   pub source : List ℕ
 
@@ -46,6 +48,7 @@ script_view script = record {
     labels = map script_label_view script.labels.items;
     notes = map (λ note. note.now) script.notes.items;
   };
+  max_width = script.max_width;
   suggestions = map suggestion_view script.suggestions.items;
   source = script.source.now;
 }
@@ -59,6 +62,10 @@ unfoldable pub parsed_severity : List ScriptLineView → Severity
 parsed_severity lines =
     unwrap_or (option_and_then severity_named (rest_of_word (codes "severity") lines))
     severities.Error
+
+-- the width that the lines state, if they state one
+abbrev pub parsed_width : List ScriptLineView → Option ℕ
+parsed_width lines = option_and_then number_of (rest_of_word (codes "width") lines)
 
 -- a label from the numbers of its start and its end
 abbrev pub label_with_ends : LabelStyle → List ℕ → Option ℕ → Option ℕ
@@ -118,6 +125,7 @@ parsed_statements lines source (Some fault) = Err fault
 parsed_statements lines source None =
     Ok (record {
       diagnostic = script_diagnostic lines;
+      max_width = parsed_width lines;
       suggestions = parsed_suggestions lines;
       source = source;
     })

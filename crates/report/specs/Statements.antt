@@ -25,6 +25,7 @@ pub data Statement : Type 0 where
   SeverityLine : Severity → Statement
   CodeLine : List ℕ → Statement
   MessageLine : List ℕ → Statement
+  WidthLine : ℕ → Statement
   LabelLine : LabelStyle → Range ℕ → Option (List ℕ) → Statement
   NoteLine : List ℕ → Statement
   SuggestionLine : List ℕ → Statement
@@ -37,12 +38,13 @@ pub record IsLineSuffix (text : List ℕ) : Type 0 where
   pub no_newline : All (λ b. b ≢ 10) text
   pub no_carriage_return : slice_index text (length text - 1) ≢ 13
 
--- a line can state it: its text can be a suffix of a line, and the numbers of a label or of an edit
--- fit a usize; a replacement can be any text
+-- a line can state it: its text can be a suffix of a line, and a width and the numbers of a label
+-- or of an edit fit a usize; a replacement can be any text
 abbrev pub IsStatable : Statement → Type 0
 IsStatable (SeverityLine severity) = Unit {0}
 IsStatable (CodeLine text) = IsLineSuffix text
 IsStatable (MessageLine text) = IsLineSuffix text
+IsStatable (WidthLine width) = width < 2 ^ 64
 IsStatable (LabelLine style range message) =
     (range.start < 2 ^ 64) × (range.end < 2 ^ 64) × IfSome message IsLineSuffix
 IsStatable (NoteLine text) = IsLineSuffix text
@@ -68,6 +70,11 @@ abbrev pub message_stated : Statement → Option (List ℕ)
 message_stated (MessageLine text) = Some text
 message_stated _ = None
 
+-- the width of a statement
+abbrev pub width_stated : Statement → Option ℕ
+width_stated (WidthLine width) = Some width
+width_stated _ = None
+
 -- the label of a statement
 abbrev pub label_stated : Statement → Option (LabelView (Unit {0}))
 label_stated (LabelLine style range message) =
@@ -79,7 +86,7 @@ abbrev pub note_stated : Statement → Option (List ℕ)
 note_stated (NoteLine text) = Some text
 note_stated _ = None
 
--- the first severity, code or message that statements state, if they state one
+-- the first severity, code, message or width that statements state, if they state one
 abbrev pub first_stated : {T : Type 0} → (Statement → Option T) → List Statement → Option T
 first_stated stated statements = slice_get (filter_map stated statements) 0
 
@@ -117,17 +124,19 @@ stated_suggestions (_ ∷ statements) = stated_suggestions statements
 abbrev pub stated_script : List Statement → List ℕ → ScriptView
 stated_script statements source = record {
   diagnostic = stated_diagnostic statements;
+  max_width = first_stated width_stated statements;
   suggestions = stated_suggestions statements;
   source = source;
 }
 
--- statements that make a script: lines can state them, there is at most one severity, one code and
--- one message, and no edit comes before the first suggestion
+-- statements that make a script: lines can state them, there is at most one severity, one code, one
+-- message and one width, and no edit comes before the first suggestion
 pub record AreScript (statements : List Statement) : Type 0 where
   pub statable : All IsStatable statements
   pub one_severity : length (filter_map severity_stated statements) ≤ 1
   pub one_code : length (filter_map code_stated statements) ≤ 1
   pub one_message : length (filter_map message_stated statements) ≤ 1
+  pub one_width : length (filter_map width_stated statements) ≤ 1
   pub edits_belong : stated_edits statements ≡ []
 
 -- the edits of a suggestion can be made in the source
@@ -170,6 +179,7 @@ abbrev pub statement_line : Statement → List ℕ
 statement_line (SeverityLine severity) = joined_fields (codes "severity") (severity_name severity)
 statement_line (CodeLine text) = joined_fields (codes "code") text
 statement_line (MessageLine text) = joined_fields (codes "message") text
+statement_line (WidthLine width) = joined_fields (codes "width") (decimal width)
 statement_line (LabelLine style range message) =
     joined_fields (label_word style) (label_fields range message)
 statement_line (NoteLine text) = joined_fields (codes "note") text

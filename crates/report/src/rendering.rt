@@ -26,6 +26,15 @@ use codespan_suggestions::{
 use codespan_views::emitting::emit_into_string;
 use std::alloc::Global;
 
+/// How an output is rendered.
+#[derive(Clone, Copy)]
+struct Settings {
+    /// The display style.
+    style: DisplayStyle,
+    /// The width that rows should fit, in cells.
+    max_width: Option<usize>,
+}
+
 /// Returns the requested output.
 ///
 /// # Errors
@@ -58,13 +67,11 @@ fn render_label_request(
         (rendering_of (request_view (Request.OneLabel label_request.now)) input.now)) }
 {
     let diagnostic = diagnostic_of_label_request(alloc, label_request)?;
-    Ok(render_over(
-        alloc,
-        label_request.style,
-        label_request.name,
-        input,
-        &diagnostic,
-    )?)
+    let settings = Settings {
+        style: label_request.style,
+        max_width: None,
+    };
+    Ok(render_over(alloc, settings, label_request.name, input, &diagnostic)?)
 }
 
 /// Returns the output of a script, or renders its first error over the whole input.
@@ -84,7 +91,11 @@ fn render_script(
         Ok(script) => Ok(script_output(alloc, output, name, &script)?),
         Err(ScriptError::Fault(fault)) => {
             let diagnostic = diagnostic_of_fault(alloc, fault)?;
-            let text = render_over(alloc, error_style(output), "script", input, &diagnostic)?;
+            let settings = Settings {
+                style: error_style(output),
+                max_width: None,
+            };
+            let text = render_over(alloc, settings, "script", input, &diagnostic)?;
             Err(ReportError::BadScript(text))
         }
         Err(ScriptError::OutOfMemory) => Err(ReportError::CannotRender(Error::OutOfMemory)),
@@ -130,9 +141,13 @@ fn rendered_script(
         ≡ rendered_script style name.now (script_view script.now)) }
 {
     let diagnostic = diagnostic_of_script(alloc, script)?;
-    let mut text = render_over(alloc, style, name, script.source, &diagnostic)?;
+    let settings = Settings {
+        style,
+        max_width: script.max_width,
+    };
+    let mut text = render_over(alloc, settings, name, script.source, &diagnostic)?;
     for suggestion in &script.suggestions {
-        let below = render_suggestion(alloc, style, name, script.source, suggestion)?;
+        let below = render_suggestion(alloc, settings, name, script.source, suggestion)?;
         text.push_str(below.as_str())?;
     }
     Ok(text)
@@ -141,16 +156,17 @@ fn rendered_script(
 /// Renders a suggestion of a script over the file of a name and a source.
 fn render_suggestion(
     alloc: Global,
-    style: DisplayStyle,
+    settings: Settings,
     name: &str,
     source: &str,
     suggestion: &Suggestion<()>,
 ) -> Result<String, Error>
     ensures { IfOk result (λ text. string_bytes text
-        ≡ suggestion_text style name.now source.now (suggestion_view suggestion.now)) }
+        ≡ suggestion_text settings.style settings.max_width name.now source.now
+        (suggestion_view suggestion.now)) }
 {
     let file = SimpleFile::new(alloc, name, source)?;
-    match emit_suggestion_into_string(&config_in(style), &file, suggestion) {
+    match emit_suggestion_into_string(&config_with(settings), &file, suggestion) {
         Ok(text) => Ok(text),
         Err(error) => Err(lookup_error(error)),
     }
@@ -200,24 +216,26 @@ fn script_diff(alloc: Global, name: &str, script: &Script<'_>) -> Result<String,
 /// Renders a diagnostic over the file of a name and a source.
 fn render_over(
     alloc: Global,
-    style: DisplayStyle,
+    settings: Settings,
     name: &str,
     source: &str,
     diagnostic: &Diagnostic<()>,
 ) -> Result<String, Error>
     ensures { IfOk result (λ text. string_bytes text
-        ≡ output_text style name.now source.now (diagnostic_view diagnostic.now)) }
+        ≡ output_text settings.style settings.max_width name.now source.now
+        (diagnostic_view diagnostic.now)) }
 {
     let file = SimpleFile::new(alloc, name, source)?;
-    emit_into_string(&config_in(style), &file, diagnostic)
+    emit_into_string(&config_with(settings), &file, diagnostic)
 }
 
-/// Returns the default configuration, with this display style.
-fn config_in(style: DisplayStyle) -> Config<'static>
-    ensures { IsEqualConfig (report_config style) result }
+/// Returns the default configuration, with these settings.
+fn config_with(settings: Settings) -> Config<'static>
+    ensures { IsEqualConfig (report_config settings.style settings.max_width) result }
 {
     Config {
-        display_style: style,
+        display_style: settings.style,
+        max_width: settings.max_width,
         ..Config::default()
     }
 }

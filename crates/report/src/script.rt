@@ -21,7 +21,7 @@ use codespan_core::diagnostic::{LabelStyle, Severity};
 use codespan_suggestions::Suggestion;
 use faults::{first_fault, missing_end};
 use lines::split_script;
-use parsed::{parsed_labels, parsed_notes, parsed_severity, rest_of_word};
+use parsed::{parsed_labels, parsed_notes, parsed_severity, parsed_width, rest_of_word};
 use std::alloc::{AllocError, AllocFailed, Global};
 use std::fmt;
 use std::ops::Range;
@@ -40,6 +40,8 @@ pub struct Script<'input> {
     pub code: Option<&'input str>,
     /// The message; empty if the script states none.
     pub message: &'input str,
+    /// The width that rows should fit, in cells, if the script states one.
+    pub max_width: Option<usize>,
     /// The labels in the order of their lines.
     pub labels: Vec<ScriptLabel<'input>>,
     /// The notes in the order of their lines.
@@ -57,9 +59,10 @@ pub enum FaultKind {
     UnknownWord,
     /// The rest of a `severity` line is not the name of a severity.
     UnknownSeverity,
-    /// The start or the end of a label or of an edit is not a number, or does not fit a `usize`.
+    /// The start or the end of a label or of an edit, or a width, is not a number, or does not fit
+    /// a `usize`.
     BadNumber,
-    /// `severity`, `code` or `message` is repeated.
+    /// `severity`, `code`, `message` or `width` is repeated.
     RepeatedWord,
     /// No line is `---`. Reported only if no line has an error.
     MissingEnd,
@@ -148,7 +151,8 @@ impl fmt::Display for FaultKind {
     fn fmt<W: fmt::Write>(&self, f: &mut fmt::Formatter<W>) -> fmt::Result {
         match self {
             FaultKind::UnknownWord => f.write_str(
-                "expected severity, code, message, primary, secondary, note, suggestion or replace",
+                "expected severity, code, message, width, primary, secondary, note, suggestion or \
+                 replace",
             ),
             FaultKind::UnknownSeverity => {
                 f.write_str("expected bug, error, warning, note or help")
@@ -244,6 +248,7 @@ pub fn parse_script(alloc: Global, input: &str) -> Result<Script<'_>, ScriptErro
         severity: parsed_severity(lines.as_slice()),
         code: rest_of_word("code", lines.as_slice()),
         message: rest_of_word("message", lines.as_slice()).unwrap_or(""),
+        max_width: parsed_width(lines.as_slice()),
         labels: parsed_labels(alloc, lines.as_slice())?,
         notes: parsed_notes(alloc, lines.as_slice())?,
         suggestions: parsed_suggestions(alloc, source, lines.as_slice())?,

@@ -4,7 +4,7 @@ ghost use Rattle.std.specs.Prelude.{◌≡◌, [], map};
 ghost use Rattle.report.specs.ScriptLines.{script_line_view};
 ghost use Rattle.report.specs.ScriptFaults.{fault_from, line_fault, missing_end};
 ghost use Rattle.report.specs.ScriptFaults.{severity_fault, number_fault, repetition};
-ghost use Rattle.report.specs.ScriptFaults.{replace_fault, escape_fault};
+ghost use Rattle.report.specs.ScriptFaults.{replace_fault, escape_fault, width_fault};
 
 use super::line::Line;
 use super::parsed::line_of_word;
@@ -45,6 +45,10 @@ fn line_fault(before: &[Line<'_>], line: &Line<'_>) -> Option<Fault>
             None => severity_fault(line),
         },
         Some(Word::Code | Word::Message) => repetition(before, line),
+        Some(Word::Width) => match repetition(before, line) {
+            Some(fault) => Some(fault),
+            None => width_fault(line),
+        },
         Some(Word::Primary | Word::Secondary) => number_fault(line),
         Some(Word::Note | Word::Suggestion) => None,
         Some(Word::Replace) => replace_fault(before, line),
@@ -91,6 +95,20 @@ fn severity_fault(line: &Line<'_>) -> Option<Fault>
         Some(_) => None,
         None => Some(fault(
             FaultKind::UnknownSeverity,
+            line.range_at(line.rest(), line.rest()),
+        )),
+    }
+}
+
+/// Returns the error of a `width` line whose rest is not a number.
+#[tactic(auto, unfolding(crate::specs::ScriptFaults::width_fault))]
+fn width_fault(line: &Line<'_>) -> Option<Fault>
+    ensures { result ≡ width_fault (script_line_view line.now) }
+{
+    match parse_number(line.rest()) {
+        Some(_) => None,
+        None => Some(fault(
+            FaultKind::BadNumber,
             line.range_at(line.rest(), line.rest()),
         )),
     }

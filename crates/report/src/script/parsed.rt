@@ -6,7 +6,7 @@ ghost use Rattle.report.specs.ScriptLines.{script_line_view};
 ghost use Rattle.report.specs.ScriptFaults.{line_of_word};
 ghost use Rattle.report.specs.Scripts.{rest_of_word, parsed_severity, parsed_labels};
 ghost use Rattle.report.specs.Scripts.{parsed_label, parsed_notes, script_label_view};
-ghost use Rattle.report.specs.Scripts.{label_of_rest};
+ghost use Rattle.report.specs.Scripts.{label_of_rest, parsed_width};
 
 use super::ScriptLabel;
 use super::line::Line;
@@ -43,6 +43,13 @@ pub(super) fn parsed_severity(lines: &[Line<'_>]) -> Severity
         Some(rest) => parse_severity(rest).unwrap_or(Severity::Error),
         None => Severity::Error,
     }
+}
+
+/// Returns the width that the lines state, if they state one.
+pub(super) fn parsed_width(lines: &[Line<'_>]) -> Option<usize>
+    ensures { result ≡ parsed_width (map script_line_view lines.now) }
+{
+    parse_number(rest_of_word("width", lines)?)
 }
 
 /// Returns the label that a line states, if it states one.

@@ -12,6 +12,8 @@ pub enum Word {
     Code,
     /// The rest is the message.
     Message,
+    /// The rest is the width that rows should fit.
+    Width,
     /// The rest is a primary label.
     Primary,
     /// The rest is a secondary label.
@@ -33,6 +35,7 @@ pub(super) fn parse_word(text: &str) -> Option<Word>
         "severity" => Some(Word::Severity),
         "code" => Some(Word::Code),
         "message" => Some(Word::Message),
+        "width" => Some(Word::Width),
         "primary" => Some(Word::Primary),
         "secondary" => Some(Word::Secondary),
         "note" => Some(Word::Note),

@@ -36,8 +36,8 @@ const SCRIPT_UNKNOWN_WORD: [ScriptRun<'static>; 1] = [(
         \x20 ┌─ script:2:1\n\
         \x20 │\n\
         2 │ colour red\n\
-        \x20 │ ^^^^^^ expected severity, code, message, primary, secondary, note, suggestion \
-        or replace\n\n",
+        \x20 │ ^^^^^^ expected severity, code, message, width, primary, secondary, note, \
+        suggestion or replace\n\n",
         3,
     ),
 )];

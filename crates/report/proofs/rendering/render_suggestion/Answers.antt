@@ -10,15 +10,16 @@ pub returns-in-Ok : goal.returns-in-Ok
 returns-in-Ok c =
     let file = c.in_ok-file.file in
     let suggestion = c.args.suggestion.now in
-    let style = c.args.style in
+    let style = c.args.settings.style in
+    let width = c.args.settings.max_width in
     let failure = λ (id : Unit {0}). simple_failure (source_of file).now in
-    emitted_text (name_of file).now (source_of file).now failure style c.config_in.result
+    emitted_text (name_of file).now (source_of file).now failure style width c.config_with.result
     suggestion _
-    c.config_in.ensures
+    c.config_with.ensures
     (c.in-Ok.ensures.text
     (names_are_stated (name_of file).now (source_of file).now failure
     suggestion.edits.items))
-    ∙ ap (λ (name : Bor (List ℕ)). suggestion_text style name.now (source_of file).now
+    ∙ ap (λ (name : Bor (List ℕ)). suggestion_text style width name.now (source_of file).now
     (suggestion_view suggestion)) c.in_ok-file.ensures.name
-    ∙ ap (λ (source : Bor (List ℕ)). suggestion_text style c.args.name.now source.now
+    ∙ ap (λ (source : Bor (List ℕ)). suggestion_text style width c.args.name.now source.now
     (suggestion_view suggestion)) c.in_ok-file.ensures.source

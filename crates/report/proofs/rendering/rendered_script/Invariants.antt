@@ -9,6 +9,6 @@ abbrev pub invariant-loop-suggestion : goal.invariant-loop-suggestion
 invariant-loop-suggestion l =
     let script = script_view l.script in
     string_bytes l.text
-    ≡ output_text l.style l.name script.source script.diagnostic
-    ++ flat_map (suggestion_text l.style l.name script.source)
+    ≡ output_text l.settings.style l.settings.max_width l.name script.source script.diagnostic
+    ++ flat_map (suggestion_text l.settings.style l.settings.max_width l.name script.source)
     (map suggestion_view (take l.suggestion-index l.suggestion-items))

@@ -37,4 +37,4 @@ returns-in_err-parsed_suggestions c =
     (subst (λ ls. IsFaultOrMemory
     (suggestions_fault c.in-Some-source.source.now (map script_line_view ls))
     c.in_err-parsed_suggestions.field-0.0)
-    c.as_slice-7.ensures.value c.in_err-parsed_suggestions.ensures.failed))
+    c.as_slice-8.ensures.value c.in_err-parsed_suggestions.ensures.failed))

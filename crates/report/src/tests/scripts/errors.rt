@@ -15,8 +15,8 @@ const SCRIPTS_WITH_UNKNOWN_WORDS: [ScriptWithError<'static>; 5] = [
         \x20 ┌─ script:1:1\n\
         \x20 │\n\
         1 │ ---\n\
-        \x20 │ ^^^^ expected severity, code, message, primary, secondary, note, suggestion \
-        or replace\n\n",
+        \x20 │ ^^^^ expected severity, code, message, width, primary, secondary, note, \
+        suggestion or replace\n\n",
     ),
     (
         "--- \n",
@@ -24,8 +24,8 @@ const SCRIPTS_WITH_UNKNOWN_WORDS: [ScriptWithError<'static>; 5] = [
         \x20 ┌─ script:1:1\n\
         \x20 │\n\
         1 │ --- \n\
-        \x20 │ ^^^ expected severity, code, message, primary, secondary, note, suggestion \
-        or replace\n\n",
+        \x20 │ ^^^ expected severity, code, message, width, primary, secondary, note, \
+        suggestion or replace\n\n",
     ),
     (
         " code a\n---\n",
@@ -33,8 +33,8 @@ const SCRIPTS_WITH_UNKNOWN_WORDS: [ScriptWithError<'static>; 5] = [
         \x20 ┌─ script:1:1\n\
         \x20 │\n\
         1 │  code a\n\
-        \x20 │ ^ expected severity, code, message, primary, secondary, note, suggestion \
-        or replace\n\n",
+        \x20 │ ^ expected severity, code, message, width, primary, secondary, note, \
+        suggestion or replace\n\n",
     ),
     (
         "primary\t0 1\n---\n",
@@ -42,8 +42,8 @@ const SCRIPTS_WITH_UNKNOWN_WORDS: [ScriptWithError<'static>; 5] = [
         \x20 ┌─ script:1:1\n\
         \x20 │\n\
         1 │ primary 0 1\n\
-        \x20 │ ^^^^^^^^^ expected severity, code, message, primary, secondary, note, suggestion \
-        or replace\n\n",
+        \x20 │ ^^^^^^^^^ expected severity, code, message, width, primary, secondary, note, \
+        suggestion or replace\n\n",
     ),
     (
         "bad",
@@ -51,8 +51,8 @@ const SCRIPTS_WITH_UNKNOWN_WORDS: [ScriptWithError<'static>; 5] = [
         \x20 ┌─ script:1:1\n\
         \x20 │\n\
         1 │ bad\n\
-        \x20 │ ^^^ expected severity, code, message, primary, secondary, note, suggestion \
-        or replace\n\n",
+        \x20 │ ^^^ expected severity, code, message, width, primary, secondary, note, \
+        suggestion or replace\n\n",
     ),
 ];
 
@@ -93,7 +93,7 @@ const SCRIPTS_WITH_UNKNOWN_SEVERITIES: [ScriptWithError<'static>; 4] = [
 ];
 
 /// The scripts of `scripts_with_bad_numbers`.
-const SCRIPTS_WITH_BAD_NUMBERS: [ScriptWithError<'static>; 5] = [
+const SCRIPTS_WITH_BAD_NUMBERS: [ScriptWithError<'static>; 7] = [
     (
         "primary\n---\n",
         "error[S3]: bad number\n\
@@ -133,6 +133,22 @@ const SCRIPTS_WITH_BAD_NUMBERS: [ScriptWithError<'static>; 5] = [
         \x20 │\n\
         1 │ primary +1 2\n\
         \x20 │         ^^ expected a decimal number\n\n",
+    ),
+    (
+        "width\n---\n",
+        "error[S3]: bad number\n\
+        \x20 ┌─ script:1:6\n\
+        \x20 │\n\
+        1 │ width\n\
+        \x20 │      ^ expected a decimal number\n\n",
+    ),
+    (
+        "width 80 8x\n---\n",
+        "error[S3]: bad number\n\
+        \x20 ┌─ script:1:7\n\
+        \x20 │\n\
+        1 │ width 80 8x\n\
+        \x20 │       ^^^^^ expected a decimal number\n\n",
     ),
 ];
 
