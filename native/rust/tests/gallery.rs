@@ -29,12 +29,16 @@ use mapped::MappedFile;
 /// the classic one.
 const UNBROKEN: &str = "difference There is a second layout, `Layout::Unbroken`";
 
+/// The cases with a width that a line does not fit. Only the calls of `extra` take a width.
+const FITTED: &str = "difference With `Config::max_width` a line that does not fit is shortened";
+
 #[test]
 fn outputs_are_the_stored_ones() {
     let stored = read("crates/gallery/stdout");
     let stored = sections(&stored);
     let differences = read("tools/compare/differences");
     let unbroken: BTreeSet<&str> = paragraph(&differences, UNBROKEN);
+    let fitted: BTreeSet<&str> = paragraph(&differences, FITTED);
     let cases = case::read(&read("crates/gallery/stdin")).unwrap();
     assert_eq!(cases.len(), stored.len());
 
@@ -55,22 +59,16 @@ fn outputs_are_the_stored_ones() {
                 case.name
             );
             above += 1;
-        } else if unbroken.contains(case.name.as_str()) {
-            assert_ne!(
-                section, stored,
-                "{}: the layout makes no difference",
-                case.name
-            );
+        } else if unbroken.contains(case.name.as_str()) || fitted.contains(case.name.as_str()) {
+            assert_ne!(section, stored, "{}: it makes no difference", case.name);
         } else {
             assert_eq!(section, stored, "{}", case.name);
             same += 1;
         }
     }
     if cfg!(feature = "termcolor") {
-        assert_eq!(
-            (cases.len(), same, above, skipped, unbroken.len()),
-            (632, 600, 8, 4, 20)
-        );
+        assert_eq!((cases.len(), same, above, skipped), (644, 601, 8, 4));
+        assert_eq!((unbroken.len(), fitted.len()), (20, 11));
     }
 }
 

@@ -89,7 +89,7 @@ impl Case {
             "primary" => self.labels.push(label(LabelStyle::Primary, rest)?),
             "secondary" => self.labels.push(label(LabelStyle::Secondary, rest)?),
             "note" => self.notes.push(unescaped(rest)?),
-            // The crate has no suggestions, and fits no row to a width.
+            // The crate has no suggestions, and fits no line to a width.
             "suggestion" | "replace" => self.has_suggestions = true,
             "width" => drop(rest.parse::<usize>().ok()?),
             _ => return None,
