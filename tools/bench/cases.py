@@ -93,6 +93,31 @@ def long_line_one_label(size):
     return one('x' * size, [('secondary', 0, size // 2, size // 2 + 3, 'm')])
 
 
+def fitted(labels, size):
+    """A line of so many characters, with these labels, that has to fit 100 cells."""
+    return one('x' * size, labels, width=100)
+
+
+def fitted_start(size):
+    """{:,} characters, one label at their start."""
+    return fitted([('secondary', 0, 0, 3, 'm')], size)
+
+
+def fitted_middle(size):
+    """{:,} characters, one label in their middle."""
+    return fitted([('secondary', 0, size // 2, size // 2 + 3, 'm')], size)
+
+
+def fitted_end(size):
+    """{:,} characters, one label at their end."""
+    return fitted([('secondary', 0, size - 3, size, 'm')], size)
+
+
+def fitted_labels(size):
+    """{:,} characters, 1,000 labels."""
+    return fitted(spaced(1000, size // 1000, 3), size)
+
+
 def tall_label(size):
     """One label over {:,} lines."""
     return one('abc\n' * size, [('primary', 0, 0, size * 4 - 2, 'm')])

@@ -13,7 +13,7 @@ use crate::rendering::{RenderCall, judge_rendering};
 use crate::suggestions::{SuggestionCall, judge_suggestion};
 use crate::without_alloc::{Stage, judge_without_alloc};
 use crate::worked_outputs::{
-    COLOURED_HEADER, MAPPED_NUMBERS, MEDIUM, MISMATCHED_TYPES, MUTABLE_BORROWS, SHORT,
+    COLOURED_HEADER, LONG_LINES, MAPPED_NUMBERS, MEDIUM, MISMATCHED_TYPES, MUTABLE_BORROWS, SHORT,
     SURROUNDING_LINES, TWO_FILES, WorkedOutput,
 };
 use std::alloc::Global;
@@ -195,7 +195,7 @@ static RENDER_CALLS: [(&str, RenderCall); 6] = [
 ];
 
 /// The second words of the subjects named by two words, with what they name.
-static WORKED_OUTPUTS: [(&str, &WorkedOutput<'static>); 8] = [
+static WORKED_OUTPUTS: [(&str, &WorkedOutput<'static>); 9] = [
     ("mutable_borrows", &MUTABLE_BORROWS),
     ("mismatched_types", &MISMATCHED_TYPES),
     ("coloured_header", &COLOURED_HEADER),
@@ -204,6 +204,7 @@ static WORKED_OUTPUTS: [(&str, &WorkedOutput<'static>); 8] = [
     ("short", &SHORT),
     ("mapped_numbers", &MAPPED_NUMBERS),
     ("surrounding_lines", &SURROUNDING_LINES),
+    ("long_lines", &LONG_LINES),
 ];
 
 /// Returns the subjects named by one word.

@@ -31,6 +31,8 @@ pub struct WorkedOutput<'text> {
     pub before_label_lines: usize,
     /// How many lines are shown after a label.
     pub after_label_lines: usize,
+    /// The width that lines have to fit.
+    pub max_width: Option<usize>,
     /// The name and the text of each file.
     pub files: &'text [(&'text str, &'text str)],
     /// The code of the error.
@@ -54,6 +56,7 @@ const EMPTY: WorkedOutput<'static> = WorkedOutput {
     start_context_lines: 3,
     before_label_lines: 0,
     after_label_lines: 0,
+    max_width: None,
     files: &[],
     code: None,
     message: "",
@@ -71,6 +74,7 @@ impl WorkedOutput<'_> {
             start_context_lines: self.start_context_lines,
             before_label_lines: self.before_label_lines,
             after_label_lines: self.after_label_lines,
+            max_width: self.max_width,
             ..Config::default()
         }
     }
@@ -241,5 +245,27 @@ pub const SURROUNDING_LINES: WorkedOutput<'static> = WorkedOutput {
               8 │ \n\
               9 │ struct Foo\n\
               \x20 │           ^ Missing a semicolon\n\n",
+    ..EMPTY
+};
+
+/// A label over three lines, each of which is shortened.
+pub const LONG_LINES: WorkedOutput<'static> = WorkedOutput {
+    max_width: Some(44),
+    files: &[(
+        "f",
+        "head(1); if (check(first, second, third) == 0) { // a long comment that goes on\n\
+         \x20   body(1, 2, 3, 4, 5, 6, 7, 8, 9, 10, 11, 12, 13, 14, 15);\n\
+         \x20   done(1); } else { other(2); } // and another one that is long\n",
+    )],
+    message: "m",
+    labels: &[(Primary, 0, 47..155, "this block")],
+    output: "error: m\n\
+              \x20 ┌─ f:1:48\n\
+              \x20 │  \n\
+              1 │   ..., third) == 0) { // a long comm...\n\
+              \x20 │ ╭───────────────────^\n\
+              2 │ │     body(1, 2, 3, 4, 5, 6, 7, 8, 9,...\n\
+              3 │ │     done(1); } else { other(2); } /...\n\
+              \x20 │ ╰──────────────^ this block\n\n",
     ..EMPTY
 };

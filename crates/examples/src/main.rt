@@ -1,15 +1,17 @@
-//! `examples` runs six examples of how the libraries are used, one after another, each under a
+//! `examples` runs seven examples of how the libraries are used, one after another, each under a
 //! line with its name.
 //!
 //! Each module is one example, which starts in its `run`: [`preview`] has styles and colors,
 //! [`errors`] a custom error type, [`several`] a list of diagnostics, [`files`] a custom file
-//! database, [`config`] the front end of a language of settings, and [`linter`] edits of a text.
+//! database, [`config`] the front end of a language of settings, [`linter`] edits of a text, and
+//! [`minified`] a long line.
 #![tactic(auto)]
 
 mod config;
 mod errors;
 mod files;
 mod linter;
+mod minified;
 mod preview;
 mod several;
 
@@ -27,5 +29,7 @@ fn main(rt: HostRuntime) -> Result<(), Error> {
     println!(rt; "# config")?;
     config::run(&rt)?;
     println!(rt; "# linter")?;
-    linter::run(&rt)
+    linter::run(&rt)?;
+    println!(rt; "# minified")?;
+    minified::run(&rt)
 }
