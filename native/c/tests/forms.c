@@ -115,6 +115,34 @@ static void test_html_styles(void) {
     CHECK(again == 0 && is_unwritten(css, sizeof css));
 }
 
+/* A line of 52 letters that has to fit 55 cells, of which the gutter takes four. */
+static void test_max_width(void) {
+    codespan_config config = codespan_default_config();
+    codespan_file file = codespan_new_file(
+        codespan_text_from("f"),
+        codespan_text_from("abcdefghijklmnopqrstuvwxyzabcdefghijklmnopqrstuvwxyz"));
+    codespan_label label =
+        codespan_new_label(CODESPAN_PRIMARY, 0, 3, 5, codespan_text_from("here"));
+    codespan_diagnostic diagnostic =
+        codespan_new_diagnostic(CODESPAN_ERROR, codespan_text_from("m"));
+    diagnostic.labels = &label;
+    diagnostic.labels_length = 1;
+    struct call call = {&file, 1, &diagnostic, &config};
+    uint8_t out[OUT_CAPACITY];
+    config.max_width = 55;
+    struct outcome outcome = emit(&call, out, sizeof out);
+    static const char shortened[] = "error: m\n"
+                                    "  ┌─ f:1:4\n"
+                                    "  │\n"
+                                    "1 │ abcdefghijklmnopqrstuvwxyzabcdefghijklmnopqrstuv...\n"
+                                    "  │    ^^ here\n\n";
+    CHECK(outcome.status == CODESPAN_OK && outcome.written == sizeof shortened - 1);
+    CHECK(memcmp(out, shortened, sizeof shortened - 1) == 0);
+    config.max_width = SIZE_MAX;
+    struct outcome whole = emit(&call, out, sizeof out);
+    CHECK(whole.status == CODESPAN_OK && whole.written == outcome.written + 1);
+}
+
 int main(void) {
     struct sample sample;
     set_sample(&sample);
@@ -130,6 +158,7 @@ int main(void) {
     test_zero();
     test_safe_by_default();
     test_html_styles();
+    test_max_width();
     printf("forms: each in each room up to the length of the output\n");
     return 0;
 }

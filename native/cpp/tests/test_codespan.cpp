@@ -57,6 +57,14 @@ void test_texts() {
     check(codespan::detail::c_config(config).max_width == 0, "lines of any width");
     config.max_width = 7;
     check(codespan::detail::c_config(config).max_width == 7, "lines of a greatest width");
+    codespan::Diagnostic labeled{codespan::Severity::Error, "m"};
+    labeled.labels = {codespan::primary(0, 3, 5, "here")};
+    codespan::Config narrow;
+    narrow.max_width = 30;
+    const codespan::File letters{"f", "abcdefghijklmnopqrstuvwxyz1234"};
+    check(codespan::try_emit({letters}, labeled, narrow).text ==
+              "error: m\n  ┌─ f:1:4\n  │\n1 │ abcdefghijklmnopqrstuvw...\n  │    ^^ here\n\n",
+          "a line that does not fit");
     const codespan::Diagnostic bare{codespan::Severity::Bug, ""};
     check(text_of(bare) == "bug: \n\n", "a diagnostic without labels");
 }

@@ -123,6 +123,13 @@ class Output(unittest.TestCase):
         with self.assertRaises(ValueError):
             codespan.emit([LINES], odd_value(), Config(max_width=-1))
 
+    def test_long_line(self):
+        source = 2 * 'abcdefghijklmnopqrstuvwxyz'
+        diagnostic = Diagnostic('m', labels=[Label(3, 5, 'here')])
+        for width, row in [(None, source), (56, source), (55, source[:-4] + '...')]:
+            output = codespan.emit([File('f', source)], diagnostic, Config(max_width=width))
+            self.assertEqual(output, f'error: m\n  ┌─ f:1:4\n  │\n1 │ {row}\n  │    ^^ here\n\n')
+
     def test_short(self):
         labels = [Label(5, 6, 'x'), Label(9, 10, 'y'), Label(1, 2, 'z', LabelStyle.SECONDARY)]
         diagnostic = Diagnostic('m', Severity.BUG, labels=labels, notes=['n'])

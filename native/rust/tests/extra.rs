@@ -1,9 +1,11 @@
 //! What the original does not have: each form of a message that is not safe to print. The expected
 //! outputs are written by hand.
 
+use std::num::NonZeroUsize;
+
 use codespan_reporting::diagnostic::{Diagnostic, Label};
 use codespan_reporting::extra::{html_styles, html_styles_of};
-use codespan_reporting::extra::{safe, safe_in_color, to_html, to_svg};
+use codespan_reporting::extra::{safe, safe_in_color, to_html, to_svg, Settings};
 use codespan_reporting::files::{Error, SimpleFile, SimpleFiles};
 use codespan_reporting::term::termcolor::{Color, ColorSpec};
 use codespan_reporting::term::{Config, Styles};
@@ -44,6 +46,28 @@ fn a_source_that_is_not_safe() -> Result<(), Error> {
         safe(&Config::default(), &file, &diagnostic)?,
         "note: m\n  ┌─ f:1:3\n  │\n1 │ ab\n  │  ^\n\n"
     );
+    Ok(())
+}
+
+#[test]
+fn a_line_that_does_not_fit() -> Result<(), Error> {
+    let letters = "abcdefghijklmnopqrstuvwxyz".repeat(2);
+    let file = SimpleFile::new("f", &letters);
+    let diagnostic = Diagnostic::error()
+        .with_message("m")
+        .with_label(Label::primary((), 3..5).with_message("here"));
+    let config = Config::default();
+    let shortened = letters[..48].to_owned() + "...";
+    for (max_width, row) in [(None, &letters), (Some(56), &letters), (Some(55), &shortened)] {
+        let settings = Settings {
+            max_width: max_width.and_then(NonZeroUsize::new),
+            ..Settings::from(&config)
+        };
+        assert_eq!(
+            safe(settings, &file, &diagnostic)?,
+            format!("error: m\n  ┌─ f:1:4\n  │\n1 │ {row}\n  │    ^^ here\n\n")
+        );
+    }
     Ok(())
 }
 
