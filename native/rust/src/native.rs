@@ -264,9 +264,6 @@ mod tests {
                 code: "",
                 message: "m",
                 notes: &[],
-                files: &[],
-                labels: &[],
-                expected_length: 0,
             };
             assert_eq!(request.config().max_width, passed);
         }

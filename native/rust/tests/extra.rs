@@ -58,7 +58,11 @@ fn a_line_that_does_not_fit() -> Result<(), Error> {
         .with_label(Label::primary((), 3..5).with_message("here"));
     let config = Config::default();
     let shortened = letters[..48].to_owned() + "...";
-    for (max_width, row) in [(None, &letters), (Some(56), &letters), (Some(55), &shortened)] {
+    for (max_width, row) in [
+        (None, &letters),
+        (Some(56), &letters),
+        (Some(55), &shortened),
+    ] {
         let settings = Settings {
             max_width: max_width.and_then(NonZeroUsize::new),
             ..Settings::from(&config)
