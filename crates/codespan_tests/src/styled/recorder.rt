@@ -1,4 +1,4 @@
-//! The writer of runs: a suggestion as an HTML element, several outputs, and what it refuses.
+//! The writer of runs: a suggestion as an HTML element, several outputs, and its errors.
 
 use crate::suggestions::{files_of, suggestion_of};
 use codespan_base::term::{Config, WriteStyle};
